@@ -50,12 +50,11 @@ first_or-append (place ∷ list) others other = refl
 
 -- the first instruction of some items stands at the first of their addresses
 pub first_of-places : (items : Items) (path : Address) (k : ℕ) (after : Address) → first_of items path k after ≡ first_or (places_of items path k) after
-first_of-places End path k after = refl
-first_of-places (Do action others) path k after = refl
 first_of-places (Use handed block others) path k after =
     first_of-places block (path ++ k ∷ []) 0 (first_of others path (suc k) after)
     ∙ ap (first_or (places_of block (path ++ k ∷ []) 0)) (first_of-places others path (suc k) after)
     ∙ sym (first_or-append (places_of block (path ++ k ∷ []) 0) (places_of others path (suc k)) after)
+first_of-places it path k after = refl
 
 module _ (P : Address → Type 0) where
   -- a fact holds of the addresses of some items

@@ -29,12 +29,9 @@ IsRangedPlaced None = Unit {0}
 IsRangedPlaced (Some at) = IsInRange (bare_instruction at.action)
 
 placed_from-ranged : (address : Address) (body : Items) (frame : Frame) (k : ℕ) (items : Items) → AreRanged items → IsRangedPlaced (placed_from address body frame k items)
-placed_from-ranged [] body frame k End ranged = tt
 placed_from-ranged [] body frame k (Do action others) ranged = ranged.0
-placed_from-ranged [] body frame k (Use handed block others) ranged = tt
-placed_from-ranged (j ∷ address) body frame k End ranged = tt
-placed_from-ranged (j ∷ address) body frame k (Do action others) ranged = tt
 placed_from-ranged (j ∷ address) body frame k (Use handed block others) ranged = placed_from-ranged address block (inner body frame k handed) j (from_place j block) (ranged-from j block ranged.0)
+placed_from-ranged it body frame k that ranged = tt
 
 placed_at-ranged : (main : Items) (address : Address) → AreRanged main → IsRangedPlaced (placed_at main address)
 placed_at-ranged main [] ranged = tt

@@ -1,6 +1,8 @@
 -- What is emitted is the assembled program.
-use Rattle.std.proofs.Common.{◌≡◌, inl, ℕ, zero, suc, ◌+◌, ◌≤◌, false, List, [], ◌∷◌, ◌++◌, length, map, Option, Some, refl, sym, ap, ap₂, ◌∙◌, subst, arith}
-use Rattle.std.proofs.lemmas.List.{length-map}
+use Rattle.std.proofs.Common.{◌≡◌, inl, ℕ, zero, suc, ◌+◌, ◌≤◌, false, List, [], ◌∷◌, ◌++◌, length, map, Option, Some, refl, sym, ap, ap₂, ◌∙◌, subst, arith, append_assoc, option_map}
+use Rattle.std.proofs.lemmas.List.{length-append, length-map, map-append}
+use Rattle.std.proofs.lemmas.Option.{slice_get-map}
+use Rattle.std.proofs.Math.ListN.{get_or-map}
 use Rattle.std.specs.Prelude.{slice_get, slice_index_or, if◌then◌else◌, ◌==◌}
 use Rattle.std.proofs.Math.Path.{fun_ext}
 use Rattle.std.proofs.lemmas.Bool.{cond-false, eqb-true, false_from_ne_true}
@@ -31,10 +33,6 @@ AreNumberedFrom-at main (place ∷ list) n zero address all at = let same : plac
 AreNumberedFrom-at main (place ∷ list) n (suc i) address all at = AreNumberedFrom-at main list (n + 1) i address all.1 at ∙ (let e : n + 1 + i ≡ n + suc i = omega arith in e)
 
 -- as many addresses as instructions
-length-append : (list others : List Address) → length (list ++ others) ≡ length list + length others
-length-append [] others = let e : length others ≡ 0 + length others = omega arith in e
-length-append (place ∷ list) others = let e : length (list ++ others) ≡ length list + length others = length-append list others in let f : suc (length (list ++ others)) ≡ suc (length list) + length others = omega arith in f
-
 pub places_of-size : (items : Items) (path : Address) (k : ℕ) → length (places_of items path k) ≡ size_of items
 places_of-size End path k = refl
 places_of-size (Do action others) path k = ap suc (places_of-size others path (suc k))
@@ -47,20 +45,15 @@ suc-some n = false_from_ne_true (suc n == 0) (λ same. let e : suc n ≡ 0 = eqb
 
 -- one item more
 pub from_place-next : (k : ℕ) (items : Items) → from_place (suc k) items ≡ from_place 1 (from_place k items)
-from_place-next zero items = refl
-from_place-next (suc k) End = refl
 from_place-next (suc k) (Do action others) = from_place-next k others
 from_place-next (suc k) (Use handed block others) = from_place-next k others
+from_place-next it items = refl
 
 pub offset-next : (k : ℕ) (items : Items) → offset (suc k) items ≡ offset k items + offset 1 (from_place k items)
 offset-next zero items = let e : offset 1 items ≡ 0 + offset 1 items = omega arith in e
 offset-next (suc k) End = refl
 offset-next (suc k) (Do action others) = let e : offset (suc k) others ≡ offset k others + offset 1 (from_place k others) = offset-next k others in let f : suc (offset (suc k) others) ≡ suc (offset k others) + offset 1 (from_place k others) = omega arith in f
 offset-next (suc k) (Use handed block others) = let e : offset (suc k) others ≡ offset k others + offset 1 (from_place k others) = offset-next k others in let f : size_of block + offset (suc k) others ≡ size_of block + offset k others + offset 1 (from_place k others) = omega arith in f
-
-append-assoc : (path : Address) (k : ℕ) (rest : Address) → (path ++ k ∷ []) ++ rest ≡ path ++ k ∷ rest
-append-assoc [] k rest = refl
-append-assoc (step ∷ path) k rest = ap (λ (a : Address). step ∷ a) (append-assoc path k rest)
 
 module _ (main : Items) where
   abbrev number : Address → ℕ
@@ -78,8 +71,8 @@ module _ (main : Items) where
       Stands body frame numbers → from_place k body ≡ Use handed block others →
       Stands block (inner body frame k handed) (inner_numbers body numbers k handed)
   Stands-inner body frame numbers k handed block others stands is = record {
-    walks = λ j rest. ap (placed_at main) (append-assoc frame.path k (j ∷ rest)) ∙ stands.walks k (j ∷ rest) ∙ ap (placed_from (j ∷ rest) body frame k) is;
-    counts = λ j rest. ap (number_of main) (append-assoc frame.path k (j ∷ rest)) ∙ stands.counts k (j ∷ rest) ∙ ap (number_walk (j ∷ rest) (numbers.base + offset k body)) is;
+    walks = λ j rest. ap (placed_at main) (append_assoc frame.path (k ∷ []) (j ∷ rest)) ∙ stands.walks k (j ∷ rest) ∙ ap (placed_from (j ∷ rest) body frame k) is;
+    counts = λ j rest. ap (number_of main) (append_assoc frame.path (k ∷ []) (j ∷ rest)) ∙ stands.counts k (j ∷ rest) ∙ ap (number_walk (j ∷ rest) (numbers.base + offset k body)) is;
   }
 
   -- the addresses of a body's items have their numbers
@@ -135,12 +128,6 @@ module _ (main : Items) where
   first_or-number (place ∷ list) other base after size many among numbered same =
       number-is place (among place (inl refl)) ∙ numbered.0 ∙ sym (cond-false (suc (length list) == 0) after base (suc-some (length list))) ∙ ap (λ (n : ℕ). if n == 0 then after else base) many
 
-  -- the number of one of some addresses
-  get_or-map : (list : List Address) (i : ℕ) (other : Address) → number (slice_index_or list i other) ≡ slice_index_or (map number list) i (number other)
-  get_or-map [] i other = refl
-  get_or-map (place ∷ list) zero other = refl
-  get_or-map (place ∷ list) (suc i) other = get_or-map list i other
-
   pub number_first-is : (body : Items) (frame : Frame) (numbers : Numbers) (k : ℕ) → IsNumbered body frame numbers → number (first_at body frame k) ≡ number_first body numbers k
   number_first-is body frame numbers k is =
       let items : Items = from_place k body in
@@ -153,7 +140,7 @@ module _ (main : Items) where
   number_target-is body frame numbers k Next is = number_first-is body frame numbers (suc k) is
   number_target-is body frame numbers k (Place j) is = number_first-is body frame numbers j is
   number_target-is body frame numbers k (Parameter i) is =
-      get_or-map frame.given i frame.after ∙ ap₂ (λ (list : List ℕ) (other : ℕ). slice_index_or list i other) is.given is.after
+      sym (get_or-map number frame.given i frame.after) ∙ ap₂ (λ (list : List ℕ) (other : ℕ). slice_index_or list i other) is.given is.after
 
   map-both : (body : Items) (frame : Frame) (numbers : Numbers) (k : ℕ) (labels : List Label) → IsNumbered body frame numbers → map number (map (target body frame k) labels) ≡ map (number_target body numbers k) labels
   map-both body frame numbers k [] is = refl
@@ -168,10 +155,6 @@ module _ (main : Items) where
     after = number_first-is body frame numbers (suc k) is;
     given = map-both body frame numbers k handed is;
   }
-
-  map-append : (list others : List Address) → map assembled (list ++ others) ≡ map assembled list ++ map assembled others
-  map-append [] others = refl
-  map-append (place ∷ list) others = ap (λ (l : List Instr). assembled place ∷ l) (map-append list others)
 
   -- what is emitted of some items
   emitted-is : (items : Items) (body : Items) (frame : Frame) (numbers : Numbers) (k : ℕ) → IsNumbered body frame numbers → from_place k body ≡ items →
@@ -189,7 +172,7 @@ module _ (main : Items) where
       (emitted-is block block (inner body frame k handed) (inner_numbers body numbers k handed) 0
       (IsNumbered-inner body frame numbers k handed block others is at) refl)
       (emitted-is others body frame numbers (suc k) is (from_place-next k body ∙ ap (from_place 1) at))
-      ∙ sym (map-append (places_of block (frame.path ++ k ∷ []) 0) (places_of others frame.path (suc k)))
+      ∙ sym (map-append assembled (places_of block (frame.path ++ k ∷ []) 0) (places_of others frame.path (suc k)))
 
   module _ (some : 1 ≤ length (places main)) where
     main_first : number (beginning main) ≡ 0
@@ -203,11 +186,6 @@ module _ (main : Items) where
       given = refl;
     }
 
-    slice_get-map : (list : List Address) (i : ℕ) (address : Address) → slice_get list i ≡ Some address → slice_get (map assembled list) i ≡ Some (assembled address)
-    slice_get-map [] i address at = absurd (cc)
-    slice_get-map (place ∷ list) zero address at = let same : place ≡ address = cc in ap (λ (a : Address). Some (assembled a)) same
-    slice_get-map (place ∷ list) (suc i) address at = slice_get-map list i address at
-
     -- main is assembled so
     pub emitted-assembled : IsAssembled main (emitted main main main_numbers 0) (places main)
     unfolding placed
@@ -218,5 +196,5 @@ module _ (main : Items) where
           once = λ i j address first second. place-once i j address first second;
           some = some;
           as_many = ap length all ∙ length-map (places main) assembled;
-          each = λ i address at. ap (λ (l : List Instr). slice_get l i) all ∙ slice_get-map (places main) i address at;
+          each = λ i address at. ap (λ (l : List Instr). slice_get l i) all ∙ (slice_get-map assembled (places main) i ∙ ap (option_map assembled) at);
         }

@@ -5,11 +5,11 @@ use Rattle.brain_read.specs.Soundness.{IsBrain}
 use Rattle.ant_asm.proofs.FlatLemmas.{the_body}
 use Rattle.ant_asm.specs.declared.body.Body.{Body}
 use Rattle.ant_asm.specs.declared.fault.AsmFault.{AsmFault}
-use Rattle.ant_asm.specs.declared.fault.AsmFault.TheVariants.{BadByte, UnknownWord, MissingToken, BadNumber, ExtraToken, BadName, Misplaced, Twice, NoBlock, WrongCount, TooMany, EmptyBlock, Empty, NoLabel, OutOfMemory}
+use Rattle.ant_asm.specs.declared.fault.AsmFault.TheVariants.{OutOfMemory}
 use Rattle.ant_asm.specs.Program.{Items, size_of}
 use Rattle.ant_asm.specs.Places.{Address, places}
 use Rattle.ant_asm.specs.Assembled.{IsAssembled}
-use Rattle.ant_asm.specs.Answers.{IsAssembledText, IsFaultOf}
+use Rattle.ant_asm.specs.Answers.{IsAssembledText}
 use Rattle.ant_asm.specs.Text.{IsAsmFault, IsAsmText}
 use Rattle.ant_asm.specs.Inner.Emission.{emitted, main_numbers}
 use Rattle.ant_asm.specs.Inner.Flat.{most, tree_at}
@@ -55,28 +55,7 @@ program-assembled text brain list made items is = subst (λ (m : Items). IsAssem
 pub no-fault : (text : List ℕ) (brain : List Instr) (list : List Address) → IsAssembledText text brain list → (fault : AsmFault) → IsAsmFault text fault → ⊥
 no-fault text brain list made fault wrong = never_both lines_decide text made.main fault made.is wrong
 
--- a fault that was answered
-pub fault-of : (text : List ℕ) (fault : AsmFault) → IsAsmFault text fault ⊎ (fault ≡ OutOfMemory) → IsFaultOf text fault
-fault-of text fault (inl is) = of_text fault is
-  where
-    of_text : (f : AsmFault) → IsAsmFault text f → IsFaultOf text f
-    of_text (BadByte line) wrong = wrong
-    of_text (UnknownWord line) wrong = wrong
-    of_text (MissingToken line) wrong = wrong
-    of_text (BadNumber line) wrong = wrong
-    of_text (ExtraToken line) wrong = wrong
-    of_text (BadName line) wrong = wrong
-    of_text (Misplaced line) wrong = wrong
-    of_text (Twice line) wrong = wrong
-    of_text (NoBlock line) wrong = wrong
-    of_text (WrongCount line) wrong = wrong
-    of_text (TooMany line) wrong = wrong
-    of_text (EmptyBlock line) wrong = wrong
-    of_text Empty wrong = wrong
-    of_text (NoLabel line) wrong = wrong
-    of_text OutOfMemory wrong = tt
-fault-of text fault (inr want) = subst (IsFaultOf text) (sym want) tt
-
+-- a fault that was answered, of a program's text and of one with a fault
 pub want-only : (text : List ℕ) (fault : AsmFault) → IsAsmFault text fault ⊎ (fault ≡ OutOfMemory) → (items : Items) → IsAsmText text items → fault ≡ OutOfMemory
 want-only text fault (inl is) items program = absurd (never_both lines_decide text items fault program is)
 want-only text fault (inr want) items program = want

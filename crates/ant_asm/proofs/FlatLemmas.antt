@@ -1,5 +1,5 @@
 -- Bodies and their items.
-use Rattle.std.proofs.Common.{◌≡◌, ℕ, zero, suc, ◌+◌, ◌<◌, ◌≤◌, List, [], ◌∷◌, ◌++◌, length, Some, refl, sym, ap, ap₂, ◌∙◌, subst, arith}
+use Rattle.std.proofs.Common.{◌≡◌, ℕ, zero, suc, ◌+◌, ◌<◌, ◌≤◌, List, [], ◌∷◌, ◌++◌, length, Some, refl, sym, ap, ap₂, ◌∙◌, subst, append_assoc, append-nil, arith}
 use Rattle.std.proofs.lemmas.List.{length_push}
 use Rattle.std.specs.Prelude.{slice_get, slice_index_or, ◌==◌, Vec}
 use Rattle.std.specs.List.{AllByRecursion}
@@ -22,10 +22,9 @@ use Rattle.ant_asm.specs.Inner.Flat.{AreGood, HasGiven, IsGood, IsGoodItem, IsLa
 
 -- what stands before a place, and what stands from it on, is all
 pub offset-rest : (k : ℕ) (items : Items) → offset k items + size_of (from_place k items) ≡ size_of items
-offset-rest zero items = omega arith
-offset-rest (suc k) End = omega arith
 offset-rest (suc k) (Do action others) = let e : offset k others + size_of (from_place k others) ≡ size_of others = offset-rest k others in omega arith
 offset-rest (suc k) (Use handed block others) = let e : offset k others + size_of (from_place k others) ≡ size_of others = offset-rest k others in omega arith
+offset-rest it items = omega arith
 
 -- how many items there are
 abbrev pub count_of : Items → ℕ
@@ -183,14 +182,6 @@ from_place-end trees [] = refl
 from_place-end trees (Item.Do action ∷ items) = from_place-end trees items
 from_place-end trees (Item.Use block handed ∷ items) = from_place-end trees items
 
-append_assoc : {A : Type 0} (front middle back : List A) → (front ++ middle) ++ back ≡ front ++ (middle ++ back)
-append_assoc [] middle back = refl
-append_assoc (x ∷ front) middle back = ap (λ (l : List _). x ∷ l) (append_assoc front middle back)
-
-append_nothing : {A : Type 0} (list : List A) → list ++ [] ≡ list
-append_nothing [] = refl
-append_nothing (x ∷ list) = ap (λ (l : List _). x ∷ l) (append_nothing list)
-
 -- what was emitted of a body's first k items, before what the others give, is all
 pub record IsUnderway (tree : Items) (numbers : Numbers) (path : List ℕ) (k : ℕ) (list start : List Instr) (addresses first : List (List ℕ)) : Type 0 where
   pub on : list ++ emitted (from_place k tree) tree numbers k ≡ start ++ emitted tree tree numbers 0
@@ -226,8 +217,8 @@ module _ (tree : Items) (numbers : Numbers) (path : List ℕ) (k : ℕ) (list st
   -- the end
   pub underway_end : from_place k tree ≡ End → IsUnderway tree numbers path k list start addresses first → (list ≡ start ++ emitted tree tree numbers 0) × (addresses ≡ first ++ places_of tree path 0)
   underway_end at underway = (
-    sym (append_nothing list) ∙ ap (λ (i : Items). list ++ emitted i tree numbers k) (sym at) ∙ underway.on,
-    sym (append_nothing addresses) ∙ ap (λ (i : Items). addresses ++ places_of i path k) (sym at) ∙ underway.along,
+    sym (append-nil list) ∙ ap (λ (i : Items). list ++ emitted i tree numbers k) (sym at) ∙ underway.on,
+    sym (append-nil addresses) ∙ ap (λ (i : Items). addresses ++ places_of i path k) (sym at) ∙ underway.along,
   )
 
 pub all_at : {A : Type 0} (P : A → Type 0) (list : List A) (i : ℕ) (x : A) → AllByRecursion P list → slice_get list i ≡ Some x → P x

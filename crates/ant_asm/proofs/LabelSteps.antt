@@ -16,9 +16,8 @@ use Rattle.ant_asm.proofs.OutlineLemmas.{IsNamedAt, line_before-size, named-at, 
 
 -- the labels of the block that a line puts in place, if it does
 abbrev pub used_states : List Outline → NamedLine → ℕ → ℕ → List WayStep → List LabelState
-used_states blocks (NamedLine.Label name) at follows way = []
-used_states blocks NamedLine.Instruction at follows way = []
 used_states blocks (NamedLine.Use line name block) at follows way = all_states (slice_index_or blocks block Closed) at follows (further way name.items line)
+used_states blocks it at follows way = []
 
 -- a line, and the lines after it
 own-split : (blocks : List Outline) (line : NamedLine) (rest : Outline) (at after : ℕ) (way : List WayStep) (size : ℕ) → size ≡ outline_size (line_before blocks line Closed) →
@@ -46,14 +45,13 @@ the_named (body ∷ bodies) (suc number) known = the_named bodies number (omega 
 -- a line tells its size, where that is at most so much
 line-size : (bodies : List NamedBody) (line : NamedLine) → AreGoodNamed [] bodies → IsUseBelow (length bodies) line → outline_size (line_before (outlines_of bodies) line Closed) ≤ most_size →
     line_size bodies line ≡ outline_size (line_before (outlines_of bodies) line Closed)
-line-size bodies (NamedLine.Label name) good below few = refl
-line-size bodies NamedLine.Instruction good below few = refl
 line-size bodies (NamedLine.Use line name block) good below few =
     let there = the_named bodies block below in
     let named = named-at bodies block there.0 there.1 good in
     let same : there.0.size ≡ outline_size (outline_at bodies block) = named.size (omega (arith, few)) in
     let all : outline_size (outline_at bodies block) ≡ outline_size (outline_at bodies block) + 0 = omega arith in
     ap size_in there.1 ∙ same ∙ all
+line-size bodies it good below few = refl
 
 -- a body that was read
 pub record AtBody (bodies : List NamedBody) (number : ℕ) (body : NamedBody) : Type 0 where

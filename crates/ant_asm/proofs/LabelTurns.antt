@@ -33,13 +33,7 @@ wiped side own state = if same_colour side own then 0 else state
 -- the instruction with states for labels, wiped
 pub redirected-bare : (state : Label → ℕ) (instruction : Action Label) → redirected (λ n. 0) (instruction_by state instruction) ≡ bare_instruction instruction
 redirected-bare state (Sense sight met unmet condition) = refl
-redirected-bare state (Mark i on) = refl
-redirected-bare state (Unmark i on) = refl
-redirected-bare state (PickUp met unmet) = refl
-redirected-bare state (Drop on) = refl
-redirected-bare state (Turn side on) = refl
-redirected-bare state (Move met unmet) = refl
-redirected-bare state (Flip bound met unmet) = refl
+redirected-bare state it = refl
 
 -- the state of a choice of labels is the choice of their states
 pub state-choice : (state : Label → ℕ) (b : Bool) (x y : Label) → (if b then state x else state y) ≡ state (if b then x else y)
@@ -50,13 +44,10 @@ state-choice state false x y = refl
 pub state_taken-by : (state : Label → ℕ) (seed : ℕ) (cells : Cells) (place : ℕ) (p : Pos) (ant : Ant) (instruction : Action Label) →
     state_taken seed cells place p ant (instruction_by state instruction) ≡ state (label_taken seed cells place p ant instruction)
 state_taken-by state seed cells place p ant (Sense sight met unmet condition) = state-choice state (meets (cells (sensed_pos p ant.facing sight)) condition ant.colour) met unmet
-state_taken-by state seed cells place p ant (Mark i on) = refl
-state_taken-by state seed cells place p ant (Unmark i on) = refl
 state_taken-by state seed cells place p ant (PickUp met unmet) = state-choice state (ant.laden || (cells p).food == 0) unmet met
-state_taken-by state seed cells place p ant (Drop on) = refl
-state_taken-by state seed cells place p ant (Turn side on) = refl
 state_taken-by state seed cells place p ant (Move met unmet) = state-choice state (is_blocked (cells (adjacent_pos p ant.facing))) unmet met
 state_taken-by state seed cells place p ant (Flip bound met unmet) = state-choice state (drawn seed place bound == 0) met unmet
+state_taken-by state seed cells place p ant it = refl
 
 -- the addresses with one of another id
 pub with_address-same : (addresses : ℕ → Address) (t : ℕ) (u : ℕ) → with_address addresses t (addresses t) u ≡ addresses u
@@ -124,10 +115,9 @@ with_address-has P addresses t address all new u = cond_both (t == u) address (a
 -- the instruction that the ant executes is that of its address
 pub agrees_side : (minds : Minds) (brain : List Instr) (bare : Instr) (side own : Colour) (state : ℕ) → (own ≡ side → redirected (λ n. 0) (instruction_at brain state) ≡ bare) →
     instruction_at (mind_of (with_mind minds side (bare ∷ [])) own) (wiped side own state) ≡ redirected (wiped side own) (instruction_at (mind_of (with_mind minds side brain) own) state)
-agrees_side minds brain bare Red Red state same = sym (same refl)
 agrees_side minds brain bare Red Black state same = sym (redirected-self (instruction_at minds.black state))
 agrees_side minds brain bare Black Red state same = sym (redirected-self (instruction_at minds.red state))
-agrees_side minds brain bare Black Black state same = sym (same refl)
+agrees_side minds brain bare it that state same = sym (same refl)
 
 -- a turn of minds with another brain of a side
 pub turn-side : (minds : Minds) (brain other : List Instr) (side : Colour) (seed : ℕ) (w : World) (place t : ℕ) →
@@ -139,16 +129,14 @@ turn-side minds brain other side seed w place t agree =
 
 -- the brain of the side
 pub mind_of-side : (minds : Minds) (brain : List Instr) (side own : Colour) → own ≡ side → mind_of (with_mind minds side brain) own ≡ brain
-mind_of-side minds brain Red Red same = refl
 mind_of-side minds brain Red Black same = absurd (cc)
 mind_of-side minds brain Black Red same = absurd (cc)
-mind_of-side minds brain Black Black same = refl
+mind_of-side minds brain it that same = refl
 
 pub same_colour-side : (side own : Colour) → own ≡ side → same_colour side own ≡ true
-same_colour-side Red Red same = refl
 same_colour-side Red Black same = absurd (cc)
 same_colour-side Black Red same = absurd (cc)
-same_colour-side Black Black same = refl
+same_colour-side it that same = refl
 
 -- both of a choice are one
 pub cond-one : {A : Type 0} (b : Bool) (x : A) → (if b then x else x) ≡ x

@@ -137,27 +137,23 @@ form_said Form.Flip first rest line same s =
 -- names and labels that were read, one by one
 names_said : (tokens names : List (List ℕ)) → AreTokensOf name_of tokens names → SpellsAll (map NameField names) tokens
 names_said [] [] are = tt
-names_said [] (name ∷ names) are = absurd are
-names_said (token ∷ tokens) [] are = absurd are
 names_said (token ∷ tokens) (name ∷ names) are = (name_spells token name are.0, names_said tokens names are.1)
+names_said it that are = absurd are
 
 labels_said : (tokens : List (List ℕ)) (labels : List Named) → AreTokensOf label_of tokens labels → SpellsAll (map LabelField labels) tokens
 labels_said [] [] are = tt
-labels_said [] (label ∷ labels) are = absurd are
-labels_said (token ∷ tokens) [] are = absurd are
 labels_said (token ∷ tokens) (label ∷ labels) are = (label_spells token label are.0, labels_said tokens labels are.1)
+labels_said it that are = absurd are
 
 names_again : (tokens names : List (List ℕ)) → SpellsAll (map NameField names) tokens → AreTokensOf name_of tokens names
 names_again [] [] h = tt
-names_again [] (name ∷ names) h = absurd h
-names_again (token ∷ tokens) [] h = absurd h
 names_again (token ∷ tokens) (name ∷ names) h = (name_again token name h.0, names_again tokens names h.1)
+names_again it that h = absurd h
 
 labels_again : (tokens : List (List ℕ)) (labels : List Named) → SpellsAll (map LabelField labels) tokens → AreTokensOf label_of tokens labels
 labels_again [] [] h = tt
-labels_again [] (label ∷ labels) h = absurd h
-labels_again (token ∷ tokens) [] h = absurd h
 labels_again (token ∷ tokens) (label ∷ labels) h = (label_again token label h.0, labels_again tokens labels h.1)
+labels_again it that h = absurd h
 
 keyword_said : (word : Keyword) (first : List ℕ) (rest : List (List ℕ)) (line : Line) → IsSameWord (word_of_keyword word) first → SpelledKeyword word rest line → Says (first ∷ rest) line
 keyword_said BlockWord first rest line same s =
@@ -220,8 +216,7 @@ form_step p word first rest line stands same s =
 keyword_no_form : (word : Keyword) → word_place form_words (word_of_keyword word) ≡ None
 unfolding form_words
 keyword_no_form BlockWord = refl
-keyword_no_form EndWord = refl
-keyword_no_form UseWord = refl
+keyword_no_form it = refl
 
 keyword_step : (p : ℕ) (word : Keyword) (first : List ℕ) (rest : List (List ℕ)) (line : Line) → slice_get keyword_words p ≡ Some (word_of_keyword word) → keyword_at p ≡ word → IsSameWord (word_of_keyword word) first → SpelledKeyword word rest line →
     read_line (first ∷ rest) ≡ Ok line
@@ -233,18 +228,11 @@ keyword_step p word first rest line stands at same s =
 -- a token with a colon is no word of a table
 form_no_colon : (form : Form) → has_colon (word_of_form form) ≡ false
 form_no_colon Form.Sense = refl
-form_no_colon Form.Mark = refl
-form_no_colon Form.Unmark = refl
-form_no_colon Form.PickUp = refl
-form_no_colon Form.Drop = refl
-form_no_colon Form.Turn = refl
-form_no_colon Form.Move = refl
-form_no_colon Form.Flip = refl
+form_no_colon it = refl
 
 keyword_no_colon : (word : Keyword) → has_colon (word_of_keyword word) ≡ false
 keyword_no_colon BlockWord = refl
-keyword_no_colon EndWord = refl
-keyword_no_colon UseWord = refl
+keyword_no_colon it = refl
 
 colon_no_word : {words : List (List ℕ)} {n : ℕ} {word : ℕ → List ℕ} → Names words n word → ((i : ℕ) → has_colon (word i) ≡ false) → (token : List ℕ) → has_colon token ≡ true → word_place words token ≡ None
 colon_no_word {words} {n} {word} names plain token colon = go (word_place words token) refl

@@ -138,9 +138,8 @@ end_decides is = record { said = said; again = again; faulted = faulted }
 -- the tokens are these, one by one
 abbrev pub AreTokensOf : {A : Type 0} → (List ℕ → Option A) → List (List ℕ) → List A → Type 0
 AreTokensOf of [] [] = Unit {0}
-AreTokensOf of [] (x ∷ xs) = ⊥
-AreTokensOf of (token ∷ tokens) [] = ⊥
 AreTokensOf of (token ∷ tokens) (x ∷ xs) = (of token ≡ Some x) × AreTokensOf of tokens xs
+AreTokensOf of it that = ⊥
 
 -- the tokens are at most n of these, and the line is made of them
 pub record SpelledAllBy {A : Type 0} (of : List ℕ → Option A) (n : ℕ) (make : List A → Line) (tokens : List (List ℕ)) (line : Line) : Type 0 where

@@ -77,13 +77,7 @@ tree_of-flat trees (code_item.Item.Use block handed ∷ items) = ap (λ (i : Ite
 
 mapped-both : {A B C : Type 0} (f : A → B) (g : B → C) (action : Action A) → mapped (λ x. g (f x)) action ≡ mapped g (mapped f action)
 mapped-both f g (Sense sight met unmet condition) = refl
-mapped-both f g (Mark i on) = refl
-mapped-both f g (Unmark i on) = refl
-mapped-both f g (PickUp met unmet) = refl
-mapped-both f g (Drop on) = refl
-mapped-both f g (Turn side on) = refl
-mapped-both f g (Move met unmet) = refl
-mapped-both f g (Flip bound met unmet) = refl
+mapped-both f g it = refl
 
 map-both : {A B C : Type 0} (f : A → B) (g : B → C) (list : List A) → map (λ x. g (f x)) list ≡ map g (map f list)
 map-both f g [] = refl
@@ -167,13 +161,11 @@ module _ (bodies : List Body) (way : Named → Label) where
 -- markers and bounds in their ranges
 range-mapped : {A B C : Type 0} (f : A → B) (g : A → C) (action : Action A) → IsInRange (instruction_by (λ x. 0) (mapped f action)) → IsInRange (instruction_by (λ x. 0) (mapped g action))
 range-mapped f g (Sense sight met unmet condition) range = range
-range-mapped f g (Mark i on) range = range
-range-mapped f g (Unmark i on) range = range
 range-mapped f g (PickUp met unmet) range = tt
 range-mapped f g (Drop on) range = tt
 range-mapped f g (Turn side on) range = tt
 range-mapped f g (Move met unmet) range = tt
-range-mapped f g (Flip bound met unmet) range = range
+range-mapped f g it range = range
 
 module _ (bodies : List Body) (way : Named → Label) (blocks : (n : ℕ) → n < length bodies → AreRanged (tree_at bodies n)) where
   one-ranged : (size : ℕ) (kind : OpenKind) (others : Items) → IsGoodKind bodies size kind → AreRanged others → AreRanged (tree_one (trees_of bodies) (flat_kind way kind) others)

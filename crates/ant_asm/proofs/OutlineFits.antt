@@ -22,27 +22,17 @@ use Rattle.ant_asm.proofs.LineLemmas.{line_again, lines_decide}
 -- an outline is that of items
 abbrev pub Fits : Outline → Items → Type 0
 Fits Closed End = Unit {0}
-Fits Closed (Do action others) = ⊥
-Fits Closed (Use handed block others) = ⊥
 Fits (Labelled name outline) items = Fits outline items
-Fits (Instructed outline) End = ⊥
 Fits (Instructed outline) (Do action others) = Fits outline others
-Fits (Instructed outline) (Use handed block others) = ⊥
-Fits (Used line name inside outline) End = ⊥
-Fits (Used line name inside outline) (Do action others) = ⊥
 Fits (Used line name inside outline) (Use handed block others) = Fits inside block × Fits outline others
+Fits it items = ⊥
 
 pub fits-size : (outline : Outline) (items : Items) → Fits outline items → outline_size outline ≡ size_of items
 fits-size Closed End fits = refl
-fits-size Closed (Do action others) fits = absurd fits
-fits-size Closed (Use handed block others) fits = absurd fits
 fits-size (Labelled name outline) items fits = fits-size outline items fits
-fits-size (Instructed outline) End fits = absurd fits
 fits-size (Instructed outline) (Do action others) fits = ap suc (fits-size outline others fits)
-fits-size (Instructed outline) (Use handed block others) fits = absurd fits
-fits-size (Used line name inside outline) End fits = absurd fits
-fits-size (Used line name inside outline) (Do action others) fits = absurd fits
 fits-size (Used line name inside outline) (Use handed block others) fits = ap₂ ◌+◌ (fits-size inside block fits.0) (fits-size outline others fits.1)
+fits-size it items fits = absurd fits
 
 -- that of a block's items, where there is the block
 abbrev FitsBlock : Option Outline → Option Block → Type 0
@@ -75,12 +65,11 @@ are-said (line ∷ lines) standing last leads =
 -- a line says one thing
 pub one-said : (lines : List TokenLine) (a b : List NumberedLine) → AreSaid lines a → AreSaid lines b → a ≡ b
 one-said [] [] [] first second = refl
-one-said [] [] (said ∷ b) first second = absurd second
 one-said [] (said ∷ a) b first second = absurd first
 one-said (line ∷ lines) [] b first second = absurd first
-one-said (line ∷ lines) (At number said ∷ a) [] first second = absurd second
 one-said (line ∷ lines) (At number said ∷ a) (At other says ∷ b) first second =
     ap₂ (λ (l : NumberedLine) (ls : List NumberedLine). l ∷ ls) (ap₂ At (first.0 ∙ sym second.0) (lines_decide.one line.tokens said says first.1 second.1)) (one-said lines a b first.2 second.2)
+one-said it that b first second = absurd second
 
 -- what main's items become
 record HasMore (draft last : Draft) (outline : Outline) : Type 0 where

@@ -18,8 +18,7 @@ lines_before-append blocks (line ∷ front) back others = ap (line_before blocks
 -- how many instructions they expand to
 pub line_before-size : (blocks : List Outline) (line : NamedLine) (others : Outline) → outline_size (line_before blocks line others) ≡ outline_size (line_before blocks line Closed) + outline_size others
 line_before-size blocks (NamedLine.Label name) others = omega arith
-line_before-size blocks NamedLine.Instruction others = omega arith
-line_before-size blocks (NamedLine.Use line name block) others = omega arith
+line_before-size blocks it others = omega arith
 
 pub lines_before-size : (blocks : List Outline) (lines : List NamedLine) (others : Outline) → outline_size (lines_before blocks lines others) ≡ outline_size (lines_before blocks lines Closed) + outline_size others
 lines_before-size blocks [] others = omega arith
@@ -55,9 +54,8 @@ lines_before-agree blocks more (NamedLine.Use line name block ∷ lines) others 
     ap₂ (λ (b o : Outline). Used line name.items b o) (get_or_append_left blocks more Closed block uses.0) (lines_before-agree blocks more lines others uses.1)
 
 pub use_below-more : (n m : ℕ) → n ≤ m → (line : NamedLine) → IsUseBelow n line → IsUseBelow m line
-use_below-more n m more (NamedLine.Label name) is = tt
-use_below-more n m more NamedLine.Instruction is = tt
 use_below-more n m more (NamedLine.Use line name block) is = omega (arith, more, is)
+use_below-more n m more it is = tt
 
 pub good-more : (blocks more : List Outline) (body : NamedBody) → IsGoodNamed blocks body → IsGoodNamed (blocks ++ more) body
 good-more blocks more body good = record {

@@ -18,6 +18,9 @@ use Rattle.ant_asm.specs.Assembled.{number_in}
 use Rattle.ant_asm.specs.Standing.{Standing, below, items_of, nothing_yet, place_fault}
 use Rattle.ant_asm.specs.Text.{HasLineFault, last_fault}
 use Rattle.ant_asm.specs.Text.IsLineFault.{OfPlace}
+use Rattle.std.specs.Fmt.{digits}
+use Rattle.ant_asm.specs.FaultText.{asm_fault_text}
+use Rattle.ant_asm.specs.declared.fault.AsmFault.TheVariants as fault
 
 -- what stands below some lines, the first of which has this number
 abbrev below_all : Standing → ℕ → List Line → Standing
@@ -148,3 +151,16 @@ worked_many = refl
 worked_long : spelling_fault 1 (codes "a23456789012345678901234567890123:" ∷ []) ≡ Some (UnknownWord 1)
 unfolding spelling_fault is_name is_next
 worked_long = refl
+
+-- what each fault says
+worked_faults : map asm_fault_text (fault.BadByte 1 ∷ fault.UnknownWord 2 ∷ fault.MissingToken 3 ∷ fault.BadNumber 4 ∷ fault.ExtraToken 5 ∷ fault.BadName 6 ∷ fault.Misplaced 7 ∷ fault.Twice 8 ∷ [])
+    ≡ codes "line 1: bad byte" ∷ codes "line 2: unknown word" ∷ codes "line 3: missing token" ∷ codes "line 4: bad number" ∷ codes "line 5: extra token" ∷ codes "line 6: bad name"
+    ∷ codes "line 7: misplaced" ∷ codes "line 8: name taken" ∷ []
+unfolding digits
+worked_faults = refl
+
+worked_more_faults : map asm_fault_text (fault.NoBlock 1 ∷ fault.WrongCount 2 ∷ fault.TooMany 3 ∷ fault.EmptyBlock 4 ∷ fault.Empty ∷ fault.NoLabel 5 ∷ fault.OutOfMemory ∷ [])
+    ≡ codes "line 1: no such block" ∷ codes "line 2: wrong number of labels" ∷ codes "line 3: too many" ∷ codes "line 4: empty block" ∷ codes "no instruction" ∷ codes "line 5: no such label"
+    ∷ codes "out of memory" ∷ []
+unfolding digits
+worked_more_faults = refl

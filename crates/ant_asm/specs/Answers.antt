@@ -1,5 +1,5 @@
 -- What the assembling of a text may answer (this project's own).
-use Rattle.std.specs.Prelude.{◌≡◌, ◌⊎◌, ℕ, List, Result, Ok, Err}
+use Rattle.std.specs.Prelude.{◌≡◌, ℕ, List, Result, Ok, Err}
 use Rattle.cell_world.specs.declared.ant.Colour.{Colour}
 use Rattle.cell_world.specs.declared.kind.Kind.{Kind}
 use Rattle.cell_world.specs.Grid.{world_of}
@@ -15,9 +15,8 @@ use Rattle.ant_asm.specs.declared.fault.AsmFault.TheVariants.{OutOfMemory}
 use Rattle.ant_asm.specs.Program.{Items}
 use Rattle.ant_asm.specs.Places.{Address}
 use Rattle.ant_asm.specs.Assembled.{IsAssembled}
-use Rattle.ant_asm.specs.Labels.{LabelState}
 use Rattle.ant_asm.specs.Match.{label_game, numbered_moment}
-use Rattle.ant_asm.specs.Text.{IsAsmFault, IsAsmText}
+use Rattle.ant_asm.specs.Text.{IsAsmText}
 
 -- a text is a program that is assembled to this brain with these places
 pub record IsAssembledText (text : List ℕ) (brain : List Instr) (places : List Address) : Type 0 where
@@ -25,25 +24,10 @@ pub record IsAssembledText (text : List ℕ) (brain : List Instr) (places : List
   pub is : IsAsmText text main
   pub assembled : IsAssembled main brain places
 
--- a fault that is answered is the text's; out of memory says nothing of the text
-abbrev pub IsFaultOf : List ℕ → AsmFault → Type 0
-IsFaultOf text OutOfMemory = Unit {0}
-IsFaultOf text fault = IsAsmFault text fault
-
 -- the answer is the program assembled, or out of memory
 abbrev pub AnswersProgram : Result code.Assembled AsmFault → Items → Type 0
 AnswersProgram (Ok made) main = IsAssembled main made.brain made.places
 AnswersProgram (Err fault) main = fault ≡ OutOfMemory
-
--- the answer is this fault, or out of memory
-abbrev pub AnswersFault : {A : Type 0} → Result A AsmFault → AsmFault → Type 0
-AnswersFault (Ok made) fault = ⊥
-AnswersFault (Err answered) fault = (answered ≡ fault) ⊎ (answered ≡ OutOfMemory)
-
--- the answer is these labels, or out of memory
-abbrev pub AnswersLabels : Result (List LabelState) AsmFault → List LabelState → Type 0
-AnswersLabels (Ok answered) labels = answered ≡ labels
-AnswersLabels (Err fault) labels = fault ≡ OutOfMemory
 
 -- whatever the opening world, the other brain, the numbers of the rules, the seed, the side and the number of rounds: the game with the brain that
 -- is answered on that side is the labelled game of the text's program with each address replaced by its number, at an equal place of the stream

@@ -1,12 +1,14 @@
 // A text assembled: its brain, and where the brain's instructions stand.
 ghost use Rattle.std.specs.Prelude.{◌≡◌, ◌≤◌, ℕ, List, length, IfOk, IfErr, [], ◌<◌};
 ghost use Rattle.brain_read.specs.Soundness.{IsBrain};
+ghost use Rattle.ant_base.specs.Answers.{AnswersFault, IsFaultOr};
 ghost use Rattle.ant_base.specs.Shelf.{longest};
 ghost use Rattle.ant_asm.specs.declared.body.Body.{Body};
 ghost use Rattle.ant_asm.specs.declared.fault.AsmFault.{AsmFault};
+ghost use Rattle.ant_asm.specs.declared.fault.AsmFault.TheVariants as fault_kinds;
 ghost use Rattle.ant_asm.specs.Program.{Items};
 ghost use Rattle.ant_asm.specs.Text.{IsAsmFault, IsAsmText};
-ghost use Rattle.ant_asm.specs.Answers.{AnswersFault, AnswersProgram, IsAssembledText, IsFaultOf, PlaysText};
+ghost use Rattle.ant_asm.specs.Answers.{AnswersProgram, IsAssembledText, PlaysText};
 ghost use Rattle.ant_asm.specs.Places.{places};
 ghost use Rattle.ant_asm.specs.Inner.Emission.{emitted, main_numbers};
 ghost use Rattle.ant_asm.specs.Inner.Flat.{tree_at};
@@ -38,9 +40,9 @@ pub struct Assembled {
 pub fn assemble(alloc: Global, text: &[u8]) -> Result<Assembled, AsmFault>
     requires { length text.now ≤ longest }
     ensures program { IfOk result (λ made. IsAssembledText text.now made.brain made.places) }
-    ensures fault { IfErr result (λ fault. IsFaultOf text.now fault) }
+    ensures fault { IfErr result (IsFaultOr fault_kinds.OutOfMemory (IsAsmFault text.now)) }
     ensures every_program { (main : Items) → IsAsmText text.now main → AnswersProgram result main }
-    ensures every_fault { (fault : AsmFault) → IsAsmFault text.now fault → AnswersFault result fault }
+    ensures every_fault { (fault : AsmFault) → IsAsmFault text.now fault → AnswersFault fault_kinds.OutOfMemory result fault }
     ensures plays { PlaysText text.now result }
 {
     let bodies = read_bodies(alloc, text)?;

@@ -1,10 +1,11 @@
 // The labels of a program, and the states that they became.
 ghost use Rattle.std.specs.Prelude.{◌≡◌, ◌==◌, ◌+◌, ◌≤◌, ◌<◌, List, [], length, IfOk, IfErr, if◌then◌else◌};
+ghost use Rattle.ant_base.specs.Answers.{AnswersFault, AnswersValue, IsFaultOr};
 ghost use Rattle.ant_base.specs.Shelf.{longest};
 ghost use Rattle.ant_base.specs.Sink.{Pushed};
-ghost use Rattle.ant_asm.specs.Answers.{AnswersFault, AnswersLabels, IsFaultOf};
 ghost use Rattle.ant_asm.specs.Labels.{AreLabelsOf, LabelState, labels_text};
 ghost use Rattle.ant_asm.specs.Text.{IsAsmFault};
+ghost use Rattle.ant_asm.specs.declared.fault.AsmFault.TheVariants.{OutOfMemory};
 ghost use Rattle.ant_asm.specs.Inner.Flat.{most};
 ghost use Rattle.ant_asm.specs.Inner.Outlines.{AreGoodNamed, all_states, label_of, outline_at, outline_size, own_states};
 ghost use Rattle.ant_asm.specs.Inner.Ways.{steps_of};
@@ -43,9 +44,9 @@ impl Model for Labels {
 pub fn read_labels(alloc: Global, text: &[u8]) -> Result<Labels, AsmFault>
     requires { length text.now ≤ longest }
     ensures labels { IfOk result (AreLabelsOf text.now) }
-    ensures fault { IfErr result (λ fault. IsFaultOf text.now fault) }
-    ensures every_labels { (labels : List LabelState) → AreLabelsOf text.now labels → AnswersLabels result labels }
-    ensures every_fault { (fault : AsmFault) → IsAsmFault text.now fault → AnswersFault result fault }
+    ensures fault { IfErr result (IsFaultOr OutOfMemory (IsAsmFault text.now)) }
+    ensures every_labels { (labels : List LabelState) → AreLabelsOf text.now labels → AnswersValue OutOfMemory result labels }
+    ensures every_fault { (fault : AsmFault) → IsAsmFault text.now fault → AnswersFault OutOfMemory result fault }
 {
     let _program = read_bodies(alloc, text)?;
     let bodies = read_outlines(alloc, text)?;

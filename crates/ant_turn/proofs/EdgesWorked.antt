@@ -16,7 +16,7 @@ use Rattle.cell_world.specs.Cell.{rock}
 use Rattle.cell_world.specs.Grid.{cell_in, world_of}
 use Rattle.cell_world.specs.Marks.{no_marks, with_mark}
 use Rattle.cell_world.specs.Opening.{floor, hill_cell, opening}
-use Rattle.cell_world.specs.World.{Cells, World, place_in, put_cell}
+use Rattle.cell_world.specs.World.{Cells, World, place_in, put, put_cell}
 use Rattle.brain_read.specs.declared.instr.Cond.TheVariants.{Food, Rock as RockCondition, Home, FoeHome}
 use Rattle.brain_read.specs.declared.instr.Instr.{Instr}
 use Rattle.brain_read.specs.declared.instr.Instr.TheVariants.{Sense, Mark, Unmark, PickUp, Drop, Turn, Move, Flip}
@@ -125,7 +125,7 @@ surrounded = put_cell (beset 5) middle (holding floor (red_ant false))
 stays_kill_nobody : ((execute contest 12345 surrounded 0 middle (red_ant false) (Turn Left 7)).cells middle ≡ holding floor (record (red_ant false) { state = 7; facing = turned_by East Left }))
     × ((execute contest 12345 surrounded 0 middle (red_ant false) (Move 7 8)).cells middle ≡ holding floor (record (red_ant false) { state = 8 }))
     × ((execute contest 12345 surrounded 0 middle (red_ant false) (Move 7 8)).killed ≡ [])
-unfolding with_foes put_cell same_pos neighbours_of adjacent_pos directions floor
+unfolding is_surrounded check_at killed_at places_around with_foes put_cell same_pos neighbours_of adjacent_pos directions floor
 stays_kill_nobody = (refl, refl, refl)
 
 -- a red ant behind the one that goes has five foes; it is beside the old cell and not beside the new one, so it isn't checked
@@ -149,6 +149,14 @@ state_of (Some ant) = ant.state
 turns_by_id : map (λ p. state_of ((after_round (contest_minds (Flip 7193 1 2 ∷ Drop 1 ∷ Drop 2 ∷ []) (Flip 2932 1 2 ∷ Drop 1 ∷ Drop 2 ∷ [])) 12345 (start_of row)).world.cells p).ant) (at 1 1 ∷ at 2 1 ∷ at 3 1 ∷ []) ≡ 1 ∷ 1 ∷ 2 ∷ []
 unfolding after_round after_turn turn place_in cell_in opening floor rock put_cell same_pos drawn random_at state_at
 turns_by_id = refl
+
+-- the same ants, but that the ids of the red ones are exchanged: still ant 0 is first, which stands last
+abbrev other_row : World
+other_row = put (put row (at 1 1) (hill_cell Red 2)) (at 3 1) (hill_cell Red 0)
+
+turns_not_by_place : map (λ p. state_of ((after_round (contest_minds (Flip 7193 1 2 ∷ Drop 1 ∷ Drop 2 ∷ []) (Flip 2932 1 2 ∷ Drop 1 ∷ Drop 2 ∷ [])) 12345 (start_of other_row)).world.cells p).ant) (at 1 1 ∷ at 2 1 ∷ at 3 1 ∷ []) ≡ 2 ∷ 1 ∷ 1 ∷ []
+unfolding after_round after_turn turn place_in cell_in opening floor rock put_cell same_pos drawn random_at state_at
+turns_not_by_place = refl
 
 -- an id without a place takes no turn and uses up no number
 dead_take_no_turn : turn flipping 12345 row 0 7 ≡ record { cells = row.cells; drew = false; killed = [] }

@@ -5,7 +5,7 @@ use Rattle.std.proofs.lemmas.List.Sums.{sum_by-cons}
 use Rattle.hex_geometry.specs.declared.position.Pos.{Pos}
 use Rattle.cell_world.specs.declared.cell.Cell.{Cell}
 use Rattle.cell_world.specs.declared.kind.Kind.{Kind}
-use Rattle.cell_world.specs.declared.kind.Kind.TheVariants.{Rock, Clear, RedHill, BlackHill, Food}
+use Rattle.cell_world.specs.declared.kind.Kind.TheVariants.{Rock}
 use Rattle.cell_world.specs.Cell.{one_if, rock}
 use Rattle.cell_world.specs.Grid.{Grid, world_of}
 use Rattle.cell_world.specs.Opening.{IsPlan, floor, hill_count, is_hill, opening, opening_cell, opening_cells}
@@ -53,10 +53,7 @@ hill_cells_of-list g full = total-list g hill_cell_in full ∙ hill_cells-sum g.
 hill-opening_cell : (t : ℕ) (kind : Kind) → is_some (opening_cell t kind).hill ≡ is_hill kind
 unfolding floor rock
 hill-opening_cell t Rock = refl
-hill-opening_cell t Clear = refl
-hill-opening_cell t RedHill = refl
-hill-opening_cell t BlackHill = refl
-hill-opening_cell t (Food n) = refl
+hill-opening_cell t it = refl
 
 -- the hill cells at the start
 pub hill_cells-opening_cells : (t : ℕ) (kinds : List Kind) → hill_cells (opening_cells t kinds) ≡ hill_count kinds

@@ -8,6 +8,7 @@ pub mod OwnCells
 pub mod TurnParts
 pub mod Turns
 pub mod FoundAnts
+pub mod FoundTurns
 -- What checks, turns and rounds keep.
 pub mod KeepsLemmas
 pub mod KeptByChecks

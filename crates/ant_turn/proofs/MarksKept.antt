@@ -21,10 +21,9 @@ use Rattle.ant_turn.proofs.Turns.{turn-acts}
 
 -- the other colour is the foe's
 other_colour : (own colour : Colour) → (colour ≡ own → ⊥) → colour ≡ foe_of own
-other_colour Red Red other = absurd (other refl)
 other_colour Red Black other = refl
 other_colour Black Red other = refl
-other_colour Black Black other = absurd (other refl)
+other_colour it that other = absurd (other refl)
 
 -- a step changes no marker
 stepped-marks : (sheet : Sheet) (w : World) (p : Pos) (ant : Ant) (ahead : Pos) (next : ℕ) (colour : Colour) (q : Pos) → marks_of colour (stepped sheet w.cells p ant ahead next q) ≡ marks_of colour (w.cells q)

@@ -123,13 +123,7 @@ module _ (P : Colour → ℕ → Type 0) (minds : Minds) (onward : (colour : Col
 -- what stays is no other instruction
 pub redirected-self : (instruction : Instr) → redirected (λ state. state) instruction ≡ instruction
 redirected-self (Sense sight met unmet condition) = refl
-redirected-self (Mark i next) = refl
-redirected-self (Unmark i next) = refl
-redirected-self (PickUp met unmet) = refl
-redirected-self (Drop next) = refl
-redirected-self (Turn side next) = refl
-redirected-self (Move met unmet) = refl
-redirected-self (Flip bound met unmet) = refl
+redirected-self it = refl
 
 -- a state of this side has a number
 abbrev HasNumber : Numbers → Colour → Colour → ℕ → Type 0

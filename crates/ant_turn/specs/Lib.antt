@@ -13,6 +13,7 @@ pub mod Renumber
 pub mod RenumberLaws
 pub mod Rounds
 pub mod Sheet
+pub mod TakesTurn
 pub mod Turn
 pub mod TurnLaws
 pub use Rattle.brain_read.specs.Soundness

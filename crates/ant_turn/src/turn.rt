@@ -1,5 +1,5 @@
 // One turn of an ant.
-ghost use Rattle.std.specs.Prelude.{◌≡◌, ◌+◌, ◌<◌, ◌≤◌, ◌^◌, ℕ, [], false};
+ghost use Rattle.std.specs.Prelude.{◌≡◌, ◌+◌, ◌<◌, ◌≤◌, ◌^◌, ℕ, [], false, Some};
 ghost use Rattle.cell_world.specs.Cell.{HasMarksOfSix, one_if};
 ghost use Rattle.cell_world.specs.Valid.{Valid, CanThink};
 ghost use Rattle.cell_world.specs.Inner.Replaces.{Replaces};
@@ -9,6 +9,7 @@ ghost use Rattle.ant_turn.specs.Listed.{IsUp};
 ghost use Rattle.ant_turn.specs.Minds.{Fits, minds_of};
 ghost use Rattle.ant_turn.specs.Sheet.{sheet_of};
 ghost use Rattle.ant_turn.specs.Inner.Stands.{StandsAt};
+ghost use Rattle.ant_turn.specs.TakesTurn.{TakesTurn};
 ghost use Rattle.ant_turn.specs.Turn as turn;
 
 use crate::brains::Brains;
@@ -138,24 +139,24 @@ fn execute<G: Ground>(
     sheet: Sheet,
     stream: &mut Stream,
     standing: PlacedAnt,
-    instruction: Instr,
+    instruction: &Instr,
 ) -> Deed
     requires stands { StandsAt (G.world ground.old) standing.place ((G.world ground.old).cells standing.place) standing.ant }
-    requires sound { (states : ℕ) × IsSound states instruction }
+    requires sound { (states : ℕ) × IsSound states instruction.now }
     requires place { stream.old.place + 1 < 2 ^ 63 }
     requires room { 9 ≤ G.room ground.old }
     ensures world { G.world ground.new ≡ with_cells (G.world ground.old)
-        (turn.execute (sheet_of sheet) stream.old.seed (G.world ground.old).cells stream.old.place standing.place standing.ant instruction).cells }
+        (turn.execute (sheet_of sheet) stream.old.seed (G.world ground.old).cells stream.old.place standing.place standing.ant instruction.now).cells }
     ensures stream { stream.new ≡ record stream.old {
-      place = stream.old.place + one_if (turn.execute (sheet_of sheet) stream.old.seed (G.world ground.old).cells stream.old.place standing.place standing.ant instruction).drew;
+      place = stream.old.place + one_if (turn.execute (sheet_of sheet) stream.old.seed (G.world ground.old).cells stream.old.place standing.place standing.ant instruction.now).drew;
     } }
-    ensures drew { result.drew ≡ (turn.execute (sheet_of sheet) stream.old.seed (G.world ground.old).cells stream.old.place standing.place standing.ant instruction).drew }
-    ensures killed { result.killed.items ≡ (turn.execute (sheet_of sheet) stream.old.seed (G.world ground.old).cells stream.old.place standing.place standing.ant instruction).killed }
+    ensures drew { result.drew ≡ (turn.execute (sheet_of sheet) stream.old.seed (G.world ground.old).cells stream.old.place standing.place standing.ant instruction.now).drew }
+    ensures killed { result.killed.items ≡ (turn.execute (sheet_of sheet) stream.old.seed (G.world ground.old).cells stream.old.place standing.place standing.ant instruction.now).killed }
     ensures room { G.room ground.old ≤ G.room ground.new + 9 }
     ensures valid { Valid (G.world ground.new) }
 {
     let (p, ant) = (standing.place, standing.ant);
-    match instruction {
+    match *instruction {
         Instr::Sense {
             sight,
             yes,
@@ -194,6 +195,27 @@ fn execute<G: Ground>(
     }
 }
 
+// Takes the turn of an ant that doesn't rest: executes the instruction of its state.
+#[inline(always)]
+fn act<G: Ground>(
+    ground: &mut G,
+    brains: Brains<'_>,
+    stream: &mut Stream,
+    standing: PlacedAnt,
+) -> Deed
+    requires valid { Valid (G.world ground.old) }
+    requires fit { Fits (G.world ground.old) (minds_of brains) }
+    requires here { ((G.world ground.old).cells standing.place).ant ≡ Some standing.ant }
+    requires up { standing.ant.resting ≡ 0 }
+    requires place { stream.old.place + 1 < 2 ^ 63 }
+    requires room { 9 ≤ G.room ground.old }
+    ensures { TakesTurn (minds_of brains.entry) standing.ant.id (G.world ground.old) (G.world ground.new) (G.room ground.old) (G.room ground.new) stream.old stream.new result }
+{
+    let ant = standing.ant;
+    let instruction = brains.of(ant.colour).instruction(ant.state);
+    execute(ground, brains.sheet, stream, standing, instruction)
+}
+
 /// Takes the turn of the ant of this id: nothing where it is dead; one turn less to rest where it rests; else the instruction at its
 /// state in its colour's brain, by the rules with the numbers of the brains' sheet (the task's kinetics).
 ///
@@ -210,26 +232,15 @@ pub fn take_turn<G: Ground>(
     requires id { id < (G.world ground.old).ids }
     requires place { stream.old.place + 1 < 2 ^ 63 }
     requires room { 9 ≤ G.room ground.old }
-    ensures world { G.world ground.new ≡ with_cells (G.world ground.old)
-        (turn.turn (minds_of brains.entry) stream.old.seed (G.world ground.old) stream.old.place id).cells }
-    ensures stream { stream.new ≡ record stream.old {
-      place = stream.old.place + one_if (turn.turn (minds_of brains.entry) stream.old.seed (G.world ground.old) stream.old.place id).drew;
-    } }
-    ensures drew { result.drew ≡ (turn.turn (minds_of brains.entry) stream.old.seed (G.world ground.old) stream.old.place id).drew }
-    ensures killed { result.killed.items ≡ (turn.turn (minds_of brains.entry) stream.old.seed (G.world ground.old) stream.old.place id).killed }
-    ensures room { G.room ground.old ≤ G.room ground.new + 9 }
-    ensures valid { Valid (G.world ground.new) }
-    ensures fit { Fits (G.world ground.new) (minds_of brains.entry) }
+    ensures { TakesTurn (minds_of brains.entry) id (G.world ground.old) (G.world ground.new) (G.room ground.old) (G.room ground.new) stream.old stream.new result }
 {
     let Some(standing) = ground.ant_of(id) else {
         return idle();
     };
-    let (p, ant) = (standing.place, standing.ant);
-    if ant.resting > 0 {
-        return think(ground, p, ant_after_rest(ant));
+    if standing.ant.resting > 0 {
+        return think(ground, standing.place, ant_after_rest(standing.ant));
     }
-    let instruction = brains.of(ant.colour).at(ant.state);
-    execute(ground, brains.sheet, stream, standing, instruction)
+    act(ground, brains, stream, standing)
 }
 
 /// Takes the turn of the ant of this id, which doesn't rest, if it is alive: what `take_turn` does, without asking whether it rests (the
@@ -246,21 +257,10 @@ pub fn take_acting_turn<G: Ground>(
     requires up { IsUp (G.world ground.old) id }
     requires place { stream.old.place + 1 < 2 ^ 63 }
     requires room { 9 ≤ G.room ground.old }
-    ensures world { G.world ground.new ≡ with_cells (G.world ground.old)
-        (turn.turn (minds_of brains.entry) stream.old.seed (G.world ground.old) stream.old.place id).cells }
-    ensures stream { stream.new ≡ record stream.old {
-      place = stream.old.place + one_if (turn.turn (minds_of brains.entry) stream.old.seed (G.world ground.old) stream.old.place id).drew;
-    } }
-    ensures drew { result.drew ≡ (turn.turn (minds_of brains.entry) stream.old.seed (G.world ground.old) stream.old.place id).drew }
-    ensures killed { result.killed.items ≡ (turn.turn (minds_of brains.entry) stream.old.seed (G.world ground.old) stream.old.place id).killed }
-    ensures room { G.room ground.old ≤ G.room ground.new + 9 }
-    ensures valid { Valid (G.world ground.new) }
-    ensures fit { Fits (G.world ground.new) (minds_of brains.entry) }
+    ensures { TakesTurn (minds_of brains.entry) id (G.world ground.old) (G.world ground.new) (G.room ground.old) (G.room ground.new) stream.old stream.new result }
 {
-    let Some(standing) = ground.ant_of(id) else {
-        return idle();
-    };
-    let (p, ant) = (standing.place, standing.ant);
-    let instruction = brains.of(ant.colour).at(ant.state);
-    execute(ground, brains.sheet, stream, standing, instruction)
+    match ground.ant_of(id) {
+        Some(standing) => act(ground, brains, stream, standing),
+        None => idle(),
+    }
 }

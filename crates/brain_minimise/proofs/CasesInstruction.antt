@@ -42,15 +42,7 @@ condition_of ConditionWord.FoeHome i = FoeHome
 
 condition_of-numbers : (c : Cond) → condition_of (condition_word_at (numbers_of_condition c).0) (numbers_of_condition c).1 ≡ c
 condition_of-numbers Friend = refl
-condition_of-numbers Foe = refl
-condition_of-numbers FriendWithFood = refl
-condition_of-numbers FoeWithFood = refl
-condition_of-numbers Food = refl
-condition_of-numbers Rock = refl
-condition_of-numbers (Marker i) = refl
-condition_of-numbers FoeMarker = refl
-condition_of-numbers Home = refl
-condition_of-numbers FoeHome = refl
+condition_of-numbers it = refl
 
 -- the numbers of an instruction: the place of its word, its parameters and its states
 abbrev numbers_of : Instr → List ℕ
@@ -79,13 +71,8 @@ instruction_of ns = instruction_as (form_at (slice_index ns 0)) ns
 
 instruction_of-numbers : (x : Instr) → instruction_of (numbers_of x) ≡ x
 instruction_of-numbers (Sense sight met unmet c) = ap₂ (λ (s : Sight) (k : Cond). Sense s met unmet k) (sight_at-place_of_sight sight) (condition_of-numbers c)
-instruction_of-numbers (Mark i next) = refl
-instruction_of-numbers (Unmark i next) = refl
-instruction_of-numbers (PickUp met unmet) = refl
-instruction_of-numbers (Drop next) = refl
 instruction_of-numbers (Turn side next) = ap (λ (s : Side). Turn s next) (side_at-place_of_side side)
-instruction_of-numbers (Move met unmet) = refl
-instruction_of-numbers (Flip bound met unmet) = refl
+instruction_of-numbers it = refl
 
 -- two instructions are one, or not
 pub cases_instruction : (a b : Instr) → (a ≡ b) ⊎ (a ≡ b → ⊥)

@@ -15,9 +15,8 @@ use Rattle.brain_minimise.proofs.RedirectedLemmas.{redirected-same, shape-from, 
 -- a test that is kept under a map keeps related lists
 pub map-related : (related : Relation) (f : ℕ → ℕ) → ((a b : ℕ) → related a b ≡ true → f a ≡ f b) → (states others : List ℕ) → AreRelated related states others → map f states ≡ map f others
 map-related related f keeps [] [] all = refl
-map-related related f keeps [] (b ∷ others) all = absurd all
-map-related related f keeps (a ∷ states) [] all = absurd all
 map-related related f keeps (a ∷ states) (b ∷ others) all = ap₂ ◌∷◌ (keeps a b all.0) (map-related related f keeps states others all.1)
+map-related related f keeps it that all = absurd all
 
 -- states that a bisimulation relates do alike under any classes that it keeps
 pub alike_by : (brain : List Instr) (classes : List ℕ) (related : Relation) → IsBisimulation brain brain related → ((a b : ℕ) → related a b ≡ true → slice_index classes a ≡ slice_index classes b) → (a b : ℕ) → related a b ≡ true → DoAlike brain classes a b
@@ -51,10 +50,9 @@ same_name-says n m f g a b holds =
 pub names-related : (n m : ℕ) (f g : ℕ → ℕ) (states others : List ℕ) → map f states ≡ map g others → AllByRecursion (λ state. state < n) states → AllByRecursion (λ state. state < m) others →
     AreRelated (same_name n m f g) states others
 names-related n m f g [] [] same low high = tt
-names-related n m f g [] (b ∷ others) same low high = absurd (cc)
-names-related n m f g (a ∷ states) [] same low high = absurd (cc)
 names-related n m f g (a ∷ states) (b ∷ others) same low high =
     (same_name-true n m f g a b low.0 high.0 (cc), names-related n m f g states others (cc) low.1 high.1)
+names-related n m f g it that same low high = absurd (cc)
 
 -- whether two states of a brain are of one class
 abbrev same_class : List Instr → List ℕ → Relation

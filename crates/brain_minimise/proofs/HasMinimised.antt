@@ -81,9 +81,8 @@ record Round (brain : List Instr) (classes : List ℕ) (i : ℕ) : Type 0 where
   refining : IsRefining brain classes heirs finer parted i
 
 none_there : (n least : ℕ) → slice_index_or (replicate {A = Option ℕ} n None) least None ≡ None
-none_there zero least = refl
-none_there (suc n) zero = refl
 none_there (suc n) (suc least) = none_there n least
+none_there it least = refl
 
 round_none : (brain : List Instr) (classes : List ℕ) → Round brain classes 0
 round_none brain classes = record {

@@ -102,10 +102,9 @@ score-minimised minds side brain numbers seed width height kinds r minimised =
 
 -- the other side's states stay
 pub others-stay : (numbers : Numbers) (side own : Colour) (state : ℕ) → own ≢ side → side_states numbers side own state ≡ state
-others-stay numbers Red Red state other = absurd (other refl)
 others-stay numbers Red Black state other = refl
 others-stay numbers Black Red state other = refl
-others-stay numbers Black Black state other = absurd (other refl)
+others-stay numbers it that state other = absurd (other refl)
 
 -- an ant is the same but for its state
 IsMatchingAnt-renumbered : (numbers : Numbers) (side : Colour) (o : Option Ant) → IsMatchingAnt side o (option_map (renumbered_ant (side_states numbers side)) o)

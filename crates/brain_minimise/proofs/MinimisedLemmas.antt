@@ -1,5 +1,5 @@
 -- A brain that was minimised: what the classes, the seen states, the numbers and the kept instructions come to.
-use Rattle.std.proofs.Common.{◌≡◌, ℕ, zero, suc, ◌<◌, Bool, true, false, List, [], ◌∷◌, map, length, slice_index, slice_get, Option, Some, None, IsSome, unwrap_or, refl, sym, ap, ap₂, ◌∙◌, subst, arith}
+use Rattle.std.proofs.Common.{◌≡◌, ℕ, zero, suc, ◌<◌, Bool, true, false, List, [], ◌∷◌, map, length, slice_index, slice_get, Option, Some, IsSome, unwrap_or, refl, sym, ap, ap₂, ◌∙◌, subst, arith}
 use Rattle.std.specs.List.{AllByRecursion, Contains}
 use Rattle.std.proofs.lemmas.Option.{same_Some, get_or_from_slice_get, slice_get_within}
 use Rattle.list_lemmas.proofs.AllElements.{AllByRecursion-each, AllByRecursion-weaker}
@@ -27,9 +27,8 @@ successors-reached brain state reached = AllByRecursion-each (IsReachable brain)
 
 -- a test of two numbers, where there are two
 both : Relation → Option ℕ → Option ℕ → Bool
-both related None o = false
-both related (Some a) None = false
 both related (Some a) (Some b) = related a b
+both related it o = false
 
 -- what the test says
 record Both (related : Relation) (o p : Option ℕ) : Type 0 where
@@ -41,9 +40,8 @@ record Both (related : Relation) (o p : Option ℕ) : Type 0 where
 
 both-says : (related : Relation) (o p : Option ℕ) → both related o p ≡ true → Both related o p
 unfolding both
-both-says related None o holds = absurd (cc)
-both-says related (Some a) None holds = absurd (cc)
 both-says related (Some a) (Some b) holds = record { a = a; b = b; first = refl; second = refl; holds = holds }
+both-says related it o holds = absurd (cc)
 
 both-true : (related : Relation) (o p : Option ℕ) (a b : ℕ) → o ≡ Some a → p ≡ Some b → related a b ≡ true → both related o p ≡ true
 unfolding both
@@ -53,13 +51,12 @@ both-true related o p a b first second holds = ap₂ (both related) first second
 pulled : (related : Relation) (numbers : List (Option ℕ)) (states others : List ℕ) → AllByRecursion (λ state. IsSome (new_number numbers state)) states → AllByRecursion (λ state. IsSome (new_number numbers state)) others →
     AreRelated related (map (state_number (new_number numbers)) states) (map (state_number (new_number numbers)) others) → AreRelated (λ a b. both related (new_number numbers a) (new_number numbers b)) states others
 pulled related numbers [] [] first second all = tt
-pulled related numbers [] (b ∷ others) first second all = absurd all
-pulled related numbers (a ∷ states) [] first second all = absurd all
 pulled related numbers (a ∷ states) (b ∷ others) first second all =
     let j = the_number (new_number numbers a) first.0 in
     let k = the_number (new_number numbers b) second.0 in
     let here : related j.0 k.0 ≡ true = ap₂ related (sym (ap (λ o. unwrap_or o a) j.1)) (sym (ap (λ o. unwrap_or o b) k.1)) ∙ all.0 in
     (both-true related (new_number numbers a) (new_number numbers b) j.0 k.0 j.1 k.1 here, pulled related numbers states others first.1 second.1 all.1)
+pulled related numbers it that first second all = absurd all
 
 module _ (old new : List Instr) (seen : List Bool) (classes : List ℕ) (numbers : List (Option ℕ)) (is_brain : IsBrain old) (seen_are : AreSeen old seen) (are : AreClasses old classes) (stable : AreStable old classes) (numbered : AreNumbers classes seen numbers) (kept : AreKept old numbers new) where
   -- the new number of a state
@@ -83,14 +80,13 @@ module _ (old new : List Instr) (seen : List Bool) (classes : List ℕ) (numbers
   -- states of the same classes that can be reached have the same numbers
   same-numbers : (states others : List ℕ) → map (slice_index classes) states ≡ map (slice_index classes) others → AllByRecursion (IsReachable old) states → AllByRecursion (IsReachable old) others → map f states ≡ map f others
   same-numbers [] [] same first second = refl
-  same-numbers [] (b ∷ others) same first second = absurd (cc)
-  same-numbers (a ∷ states) [] same first second = absurd (cc)
   same-numbers (a ∷ states) (b ∷ others) same first second =
       let j = the_number (new_number numbers a) (reached-has a first.0) in
       let one : slice_index classes a ≡ slice_index classes b = cc in
       let too : new_number numbers a ≡ new_number numbers b = numbered.same_number a b (seen_are.all a first.0) (seen_are.all b second.0) one in
       let here : f a ≡ f b = ap (λ o. unwrap_or o a) j.1 ∙ sym (ap (λ o. unwrap_or o b) (sym too ∙ j.1)) in
       ap₂ ◌∷◌ here (same-numbers states others (cc) first.1 second.1)
+  same-numbers it that same first second = absurd (cc)
 
   -- the instructions of two states of one class come out as one
   same-instruction : (a b : ℕ) → IsReachable old a → IsReachable old b → slice_index classes a ≡ slice_index classes b → redirected f (instruction_at old a) ≡ redirected f (instruction_at old b)

@@ -15,24 +15,12 @@ use Rattle.brain_minimise.specs.Equivalence.{shape_of}
 -- mapping twice
 pub redirected-redirected : (f g : ℕ → ℕ) (x : Instr) → redirected g (redirected f x) ≡ redirected (λ state. g (f state)) x
 redirected-redirected f g (Sense sight met unmet condition) = refl
-redirected-redirected f g (Mark i next) = refl
-redirected-redirected f g (Unmark i next) = refl
-redirected-redirected f g (PickUp met unmet) = refl
-redirected-redirected f g (Drop next) = refl
-redirected-redirected f g (Turn side next) = refl
-redirected-redirected f g (Move met unmet) = refl
-redirected-redirected f g (Flip bound met unmet) = refl
+redirected-redirected f g it = refl
 
 -- the states that it names then
 pub states_of-redirected : (f : ℕ → ℕ) (x : Instr) → states_of (redirected f x) ≡ map f (states_of x)
 states_of-redirected f (Sense sight met unmet condition) = refl
-states_of-redirected f (Mark i next) = refl
-states_of-redirected f (Unmark i next) = refl
-states_of-redirected f (PickUp met unmet) = refl
-states_of-redirected f (Drop next) = refl
-states_of-redirected f (Turn side next) = refl
-states_of-redirected f (Move met unmet) = refl
-states_of-redirected f (Flip bound met unmet) = refl
+states_of-redirected f it = refl
 
 -- a shape with these states
 abbrev filled : Instr → List ℕ → Instr
@@ -48,13 +36,7 @@ filled (Flip bound met unmet) states = Flip bound (slice_index_or states 0 0) (s
 -- an instruction is its shape with its states
 redirected-filled : (f : ℕ → ℕ) (x : Instr) → redirected f x ≡ filled (shape_of x) (map f (states_of x))
 redirected-filled f (Sense sight met unmet condition) = refl
-redirected-filled f (Mark i next) = refl
-redirected-filled f (Unmark i next) = refl
-redirected-filled f (PickUp met unmet) = refl
-redirected-filled f (Drop next) = refl
-redirected-filled f (Turn side next) = refl
-redirected-filled f (Move met unmet) = refl
-redirected-filled f (Flip bound met unmet) = refl
+redirected-filled f it = refl
 
 -- two of one shape, with the same states after mapping, are one after mapping
 pub redirected-same : (f g : ℕ → ℕ) (x y : Instr) → shape_of x ≡ shape_of y → map f (states_of x) ≡ map g (states_of y) → redirected f x ≡ redirected g y
@@ -91,13 +73,12 @@ Contains-map f (m ∷ list) n (suc k, below, is) =
 -- with its states mapped below another number it is sound for that number
 pub IsSound-redirected : (n m : ℕ) (f : ℕ → ℕ) (x : Instr) → IsSound n x → AllByRecursion (λ state. f state < m) (states_of x) → IsSound m (redirected f x)
 IsSound-redirected n m f (Sense sight met unmet condition) sound below = (below.0, below.1.0, sound.2)
-IsSound-redirected n m f (Mark i next) sound below = (sound.0, below.0)
-IsSound-redirected n m f (Unmark i next) sound below = (sound.0, below.0)
 IsSound-redirected n m f (PickUp met unmet) sound below = (below.0, below.1.0)
 IsSound-redirected n m f (Drop next) sound below = below.0
 IsSound-redirected n m f (Turn side next) sound below = below.0
 IsSound-redirected n m f (Move met unmet) sound below = (below.0, below.1.0)
 IsSound-redirected n m f (Flip bound met unmet) sound below = (sound.0, below.0, below.1.0)
+IsSound-redirected n m f it sound below = (sound.0, below.0)
 
 -- the instruction of a state of a brain
 pub instruction-sound : (brain : List Instr) (state : ℕ) → IsBrain brain → state < length brain → IsSound (length brain) (instruction_at brain state)

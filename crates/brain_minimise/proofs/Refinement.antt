@@ -183,17 +183,14 @@ module _ (brain : List Instr) (classes : List ℕ) where
 -- how far the names are below their states sinks where no name is lower
 slack-le : (i : ℕ) (classes finer : List ℕ) → length classes ≡ length finer → ((k : ℕ) → k < length classes → slice_index classes k ≤ slice_index finer k) → slack i finer ≤ slack i classes
 slack-le i [] [] same no_lower = omega arith
-slack-le i [] (d ∷ finer) same no_lower = absurd (omega arith)
-slack-le i (c ∷ classes) [] same no_lower = absurd (omega arith)
 slack-le i (c ∷ classes) (d ∷ finer) same no_lower =
     let here : c ≤ d = no_lower 0 (omega arith) in
     let rest : slack (i + 1) finer ≤ slack (i + 1) classes = slack-le (i + 1) classes finer (omega arith) (λ k below. no_lower (suc k) (omega arith)) in
     omega arith
+slack-le i it that same no_lower = absurd (omega arith)
 
 -- and really where one is higher
 slack-lt : (i : ℕ) (classes finer : List ℕ) → length classes ≡ length finer → ((k : ℕ) → k < length classes → slice_index classes k ≤ slice_index finer k) → (k : ℕ) → k < length classes → slice_index classes k < slice_index finer k → slice_index finer k ≤ i + k → slack i finer < slack i classes
-slack-lt i [] finer same no_lower k below more low = absurd (omega arith)
-slack-lt i (c ∷ classes) [] same no_lower k below more low = absurd (omega arith)
 slack-lt i (c ∷ classes) (d ∷ finer) same no_lower zero below more low =
     let rest : slack (i + 1) finer ≤ slack (i + 1) classes = slack-le (i + 1) classes finer (omega arith) (λ k below. no_lower (suc k) (omega arith)) in
     omega arith
@@ -201,6 +198,7 @@ slack-lt i (c ∷ classes) (d ∷ finer) same no_lower (suc k) below more low =
     let here : c ≤ d = no_lower 0 (omega arith) in
     let rest : slack (i + 1) finer < slack (i + 1) classes = slack-lt (i + 1) classes finer (omega arith) (λ k below. no_lower (suc k) (omega arith)) k (omega arith) more (omega arith) in
     omega arith
+slack-lt i it finer same no_lower k below more low = absurd (omega arith)
 
 -- a round in which a state parted leaves less
 pub IsRefining-finer : (brain : List Instr) (classes : List ℕ) (heirs : List (Option ℕ)) (finer : List ℕ) (parted : Bool) → AreClasses brain classes → IsRefining brain classes heirs finer parted (length brain) → parted ≡ true → slack 0 finer < slack 0 classes

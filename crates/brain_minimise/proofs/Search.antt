@@ -155,23 +155,15 @@ follow_one brain seen waiting state explores followed = record {
 -- the first and the last state are among those that an instruction names
 first_named : (x : Instr) → Contains (states_of x) (first_next x)
 first_named (Sense sight met unmet condition) = (0, omega arith, refl)
-first_named (Mark i next) = (0, omega arith, refl)
-first_named (Unmark i next) = (0, omega arith, refl)
-first_named (PickUp met unmet) = (0, omega arith, refl)
-first_named (Drop next) = (0, omega arith, refl)
-first_named (Turn side next) = (0, omega arith, refl)
-first_named (Move met unmet) = (0, omega arith, refl)
-first_named (Flip bound met unmet) = (0, omega arith, refl)
+first_named it = (0, omega arith, refl)
 
 last_named : (x : Instr) → Contains (states_of x) (last_next x)
 last_named (Sense sight met unmet condition) = (1, omega arith, refl)
 last_named (Mark i next) = (0, omega arith, refl)
 last_named (Unmark i next) = (0, omega arith, refl)
-last_named (PickUp met unmet) = (1, omega arith, refl)
 last_named (Drop next) = (0, omega arith, refl)
 last_named (Turn side next) = (0, omega arith, refl)
-last_named (Move met unmet) = (1, omega arith, refl)
-last_named (Flip bound met unmet) = (1, omega arith, refl)
+last_named it = (1, omega arith, refl)
 
 -- one of one, and one of two
 one_of_one : (a state : ℕ) → Contains (a ∷ []) state → (state ≡ a) ⊎ (state ≡ a)
@@ -269,11 +261,10 @@ Explores-all brain seen (state ∷ waiting) none explores = absurd (omega arith)
 
 -- a visit of a seen state
 unseen-again : (seen : List Bool) (t : ℕ) → is_seen seen t ≡ true → unseen (slice_set seen t true) ≡ unseen seen
-unseen-again [] t was = refl
-unseen-again (true ∷ seen) zero was = refl
 unseen-again (false ∷ seen) zero was = absurd (cc)
 unseen-again (true ∷ seen) (suc t) was = unseen-again seen t was
 unseen-again (false ∷ seen) (suc t) was = ap suc (unseen-again seen t was)
+unseen-again it t was = refl
 
 -- and of one that wasn't
 unseen-new : (seen : List Bool) (t : ℕ) → t < length seen → is_seen seen t ≡ false → suc (unseen (slice_set seen t true)) ≡ unseen seen

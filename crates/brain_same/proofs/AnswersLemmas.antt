@@ -79,15 +79,14 @@ number_from-shorter answers (met ∷ others) n short =
 -- of two of one length, the one of the lower number has met where they part
 IsMetFirst-number : (answers others : List Bool) (n : ℕ) → length answers ≡ length others → number_from answers n ≤ number_from others n → IsMetFirst answers others
 unfolding branch
-IsMetFirst-number [] others n long low = tt
 IsMetFirst-number (met ∷ answers) [] n long low = absurd (omega arith)
 IsMetFirst-number (true ∷ answers) (true ∷ others) n long low = IsMetFirst-number answers others (branch true n) (omega arith) low
-IsMetFirst-number (true ∷ answers) (false ∷ others) n long low = tt
 IsMetFirst-number (false ∷ answers) (true ∷ others) n long low =
     let more = number_from-lower others answers (branch true n) (branch false n) (omega arith) (omega arith) in
     let is : number_from answers (branch false n) ≤ number_from others (branch true n) = low in
     absurd (omega arith)
 IsMetFirst-number (false ∷ answers) (false ∷ others) n long low = IsMetFirst-number answers others (branch false n) (omega arith) low
+IsMetFirst-number it others n long low = tt
 
 -- so the order is that of the numbers
 pub IsNoLater-number : (answers others : List Bool) → number answers ≤ number others → IsNoLater answers others
@@ -126,9 +125,8 @@ pub data AreBoth (o p : Option ℕ) : Type 0 where
 
 AreBoth-mapped : (f : ℕ → ℕ) (o p : Option ℕ) → option_map f o ≡ option_map f p → AreBoth o p
 AreBoth-mapped f None None same = Neither refl refl
-AreBoth-mapped f None (Some b) same = absurd (cc)
-AreBoth-mapped f (Some a) None same = absurd (cc)
 AreBoth-mapped f (Some a) (Some b) same = Both a b refl refl
+AreBoth-mapped f it that same = absurd (cc)
 
 -- every state as state 0
 abbrev to_zero : ℕ → ℕ
@@ -163,13 +161,7 @@ filled_by (Flip bound taken unmet) o p = Flip bound (unwrap_or o 0) (unwrap_or p
 
 redirected-filled_by : (f : ℕ → ℕ) (x : Instr) → redirected f x ≡ filled_by (shape_of x) (option_map f (next_by x true)) (option_map f (next_by x false))
 redirected-filled_by f (Sense sight taken unmet condition) = refl
-redirected-filled_by f (Mark i next) = refl
-redirected-filled_by f (Unmark i next) = refl
-redirected-filled_by f (PickUp taken unmet) = refl
-redirected-filled_by f (Drop next) = refl
-redirected-filled_by f (Turn side next) = refl
-redirected-filled_by f (Move taken unmet) = refl
-redirected-filled_by f (Flip bound taken unmet) = refl
+redirected-filled_by f it = refl
 
 -- two of one shape whose successors have the same names are one with these names
 pub redirected-alike : (f g : ℕ → ℕ) (x y : Instr) → shape_of x ≡ shape_of y → ((met : Bool) (a b : ℕ) → next_by x met ≡ Some a → next_by y met ≡ Some b → f a ≡ g b) →

@@ -74,13 +74,7 @@ place_in-there (pair ∷ pairs) a b there = go (pair.0 == a && pair.1 == b) refl
 -- the shape and the successors of an instruction that is filled in
 shape_of-filled_by : (x : Instr) (o p : Option ℕ) → shape_of (filled_by x o p) ≡ shape_of x
 shape_of-filled_by (Sense sight taken unmet condition) o p = refl
-shape_of-filled_by (Mark i next) o p = refl
-shape_of-filled_by (Unmark i next) o p = refl
-shape_of-filled_by (PickUp taken unmet) o p = refl
-shape_of-filled_by (Drop next) o p = refl
-shape_of-filled_by (Turn side next) o p = refl
-shape_of-filled_by (Move taken unmet) o p = refl
-shape_of-filled_by (Flip bound taken unmet) o p = refl
+shape_of-filled_by it o p = refl
 
 -- of two options the one of this answer
 abbrev by_answer : Bool → Option ℕ → Option ℕ → Option ℕ

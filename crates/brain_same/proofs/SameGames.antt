@@ -7,6 +7,7 @@ use Rattle.cell_world.specs.declared.ant.Colour.{Colour}
 use Rattle.cell_world.specs.declared.ant.Colour.TheVariants.{Red, Black}
 use Rattle.cell_world.specs.declared.cell.Cell.{Cell}
 use Rattle.cell_world.specs.declared.kind.Kind.{Kind}
+use Rattle.cell_world.specs.Score.{score_of}
 use Rattle.cell_world.specs.World.{World, with_cells}
 use Rattle.brain_read.specs.declared.instr.Instr.{Instr}
 use Rattle.ant_turn.specs.Minds.{Minds, mind_of}
@@ -120,3 +121,10 @@ both_play_same minds red black seed width height kinds r first second =
     let one = same_but_states-of_one Red (game minds seed width height kinds r) (game middle seed width height kinds r) (games-of_one minds Red red seed width height kinds r first) in
     let other = same_but_states-of_one Black (game middle seed width height kinds r) (game (with_mind middle Black black) seed width height kinds r) (games-of_one middle Black black seed width height kinds r second) in
     record { world = other.world ∙ one.world; place = other.place ∙ one.place; score = other.score ∙ one.score }
+
+-- what moments that are the same but for the states of one side's ants have alike, and those that are so but for all states
+same_but_tells : (side : Colour) (old new : Moment) → IsSameBut side old new → DiffersInStates side old.world new.world × (new.place ≡ old.place) × (score_of new.world ≡ score_of old.world)
+same_but_tells side old new same = (same.world, same.place, same.score)
+
+same_but_states_tells : (old new : Moment) → IsSameButStates old new → (without_states new.world ≡ without_states old.world) × (new.place ≡ old.place) × (score_of new.world ≡ score_of old.world)
+same_but_states_tells old new same = (same.world, same.place, same.score)

@@ -2,7 +2,7 @@
 use Rattle.std.proofs.Common.{◌≡◌, inl, inr, ℕ, zero, suc, ◌<◌, Bool, true, false, List, [], ◌∷◌, map, length, slice_get, Option, Some, None, IsSome, unwrap_or, refl, sym, ap, ap₂, ◌∙◌, subst, arith}
 use Rattle.std.specs.Prelude.{◌&&◌, ◌||◌, ◌==◌}
 use Rattle.std.specs.List.{AllByRecursion}
-use Rattle.std.proofs.lemmas.Bool.{and_from, and_parts, cases_lt, eq-eqb, eqb-true, or_cases}
+use Rattle.std.proofs.lemmas.Bool.{or_left, or_right, and_from, and_parts, cases_lt, eq-eqb, eqb-true, or_cases}
 use Rattle.std.proofs.lemmas.Option.{none-some, option_and_then_some, same_Some}
 use Rattle.brain_read.specs.declared.instr.Instr.{Instr}
 use Rattle.brain_read.specs.Grammar.{states_of}
@@ -48,9 +48,8 @@ same-itself brain sound =
 -- lists related the other way round
 related-turned : (related : Relation) (states others : List ℕ) → AreRelated related states others → AreRelated (λ a b. related b a) others states
 related-turned related [] [] all = tt
-related-turned related [] (b ∷ others) all = absurd all
-related-turned related (a ∷ states) [] all = absurd all
 related-turned related (a ∷ states) (b ∷ others) all = (all.0, related-turned related states others all.1)
+related-turned related it that all = absurd all
 
 same-turned : (first second : List Instr) → AreSame first second → AreSame second first
 same-turned first second same = record {
@@ -68,20 +67,13 @@ any_below : ℕ → (ℕ → Bool) → Bool
 any_below zero test = false
 any_below (suc n) test = test n || any_below n test
 
-or-first : (a b : Bool) → a ≡ true → (a || b) ≡ true
-or-first a b is = ap (λ c. c || b) is
-
-or-second : (a b : Bool) → b ≡ true → (a || b) ≡ true
-or-second true b is = refl
-or-second false b is = is
-
 any_below-true : (n : ℕ) (test : ℕ → Bool) (k : ℕ) → k < n → test k ≡ true → any_below n test ≡ true
 unfolding any_below
 any_below-true zero test k low passes = absurd (omega arith)
 any_below-true (suc n) test k low passes =
     elim (cases_lt k n) [
-      | inl less ↦ or-second (test n) (any_below n test) (any_below-true n test k less passes)
-      | inr last ↦ let one : k ≡ n = omega arith in or-first (test n) (any_below n test) (ap test (sym one) ∙ passes)
+      | inl less ↦ or_right (test n) (any_below n test) (any_below-true n test k less passes)
+      | inr last ↦ let one : k ≡ n = omega arith in or_left (test n) (any_below n test) (ap test (sym one) ∙ passes)
     ]
 
 any_below-says : (n : ℕ) (test : ℕ → Bool) → any_below n test ≡ true → (k : ℕ) × (k < n) × (test k ≡ true)
@@ -96,11 +88,10 @@ any_below-says (suc n) test holds =
 -- lists related through a third
 related-through : (one other both : Relation) → ((a b c : ℕ) → one a b ≡ true → other b c ≡ true → both a c ≡ true) → (states middle others : List ℕ) → AreRelated one states middle → AreRelated other middle others → AreRelated both states others
 related-through one other both join [] [] [] all more = tt
-related-through one other both join [] [] (c ∷ others) all more = absurd more
 related-through one other both join [] (b ∷ middle) others all more = absurd all
 related-through one other both join (a ∷ states) [] others all more = absurd all
-related-through one other both join (a ∷ states) (b ∷ middle) [] all more = absurd more
 related-through one other both join (a ∷ states) (b ∷ middle) (c ∷ others) all more = (join a b c all.0 more.0, related-through one other both join states middle others all.1 more.1)
+related-through one other both join it that others all more = absurd more
 
 module _ (first second third : List Instr) (one : AreSame first second) (other : AreSame second third) where
   -- related through a state of the second
@@ -212,12 +203,11 @@ same_is_not_apart first second same answers a b apart =
 -- two lists of which neither comes later are one
 met_first-both : (answers others : List Bool) → length answers ≡ length others → IsMetFirst answers others → IsMetFirst others answers → answers ≡ others
 met_first-both [] [] long one other = refl
-met_first-both [] (met ∷ others) long one other = absurd (omega arith)
-met_first-both (met ∷ answers) [] long one other = absurd (omega arith)
 met_first-both (true ∷ answers) (true ∷ others) long one other = ap (λ rest. true ∷ rest) (met_first-both answers others (omega arith) one other)
 met_first-both (true ∷ answers) (false ∷ others) long one other = absurd other
 met_first-both (false ∷ answers) (true ∷ others) long one other = absurd one
 met_first-both (false ∷ answers) (false ∷ others) long one other = ap (λ rest. false ∷ rest) (met_first-both answers others (omega arith) one other)
+met_first-both it that long one other = absurd (omega arith)
 
 no_later-both : (answers others : List Bool) → IsNoLater answers others → IsNoLater others answers → answers ≡ others
 no_later-both answers others (IsShorter less) (IsShorter more) = absurd (omega arith)

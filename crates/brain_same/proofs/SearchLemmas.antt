@@ -72,9 +72,8 @@ record Paired (n : ℕ) (o p : Option ℕ) (pair : Pair) : Type 0 where
   pub is : next_pair n a b ≡ pair
 
 paired-parts : (n : ℕ) (o p : Option ℕ) (pair : Pair) → paired n o p ≡ Some pair → Paired n o p pair
-paired-parts n None p pair is = absurd (none-some pair is)
-paired-parts n (Some a) None pair is = absurd (none-some pair is)
 paired-parts n (Some a) (Some b) pair is = record { a = a; b = b; one = refl; other = refl; is = same_Some (next_pair n a b) pair is }
+paired-parts n it p pair is = absurd (none-some pair is)
 
 same_pair : (a b c d n m : ℕ) → a ≡ b → c ≡ d → n ≡ m → ◌≡◌ {A = Pair} (record { first = a; second = c; answers = n }) (record { first = b; second = d; answers = m })
 same_pair a b c d n m one other count =

@@ -123,24 +123,14 @@ rings = record {
   below a b holds = let both = and_parts (nat_lt a 2) (nat_lt b 3) holds in (ltb-true a 2 both.0, ltb-true b 3 both.1)
 
   shapes : (a b : ℕ) → a < 2 → b < 3 → shape_of (instruction_at two_ring a) ≡ shape_of (instruction_at three_ring b)
-  shapes zero zero low high = refl
-  shapes zero (suc zero) low high = refl
-  shapes zero (suc (suc zero)) low high = refl
-  shapes (suc zero) zero low high = refl
-  shapes (suc zero) (suc zero) low high = refl
-  shapes (suc zero) (suc (suc zero)) low high = refl
   shapes a (suc (suc (suc b))) low high = absurd (omega arith)
   shapes (suc (suc a)) b low high = absurd (omega arith)
+  shapes a b low high = refl
 
   onward : (a b : ℕ) → a < 2 → b < 3 → AreRelated (λ a b. nat_lt a 2 && nat_lt b 3) (states_of (instruction_at two_ring a)) (states_of (instruction_at three_ring b))
-  onward zero zero low high = (refl, tt)
-  onward zero (suc zero) low high = (refl, tt)
-  onward zero (suc (suc zero)) low high = (refl, tt)
-  onward (suc zero) zero low high = (refl, tt)
-  onward (suc zero) (suc zero) low high = (refl, tt)
-  onward (suc zero) (suc (suc zero)) low high = (refl, tt)
   onward a (suc (suc (suc b))) low high = absurd (omega arith)
   onward (suc (suc a)) b low high = absurd (omega arith)
+  onward a b low high = (refl, tt)
 
 -- the texts
 same_told : comparison_text Same ≡ codes "same\n"

@@ -10,7 +10,7 @@ use Rattle.hex_geometry.specs.declared.position.Pos.{Pos}
 use Rattle.hex_geometry.specs.RowOrder.{index_of}
 use Rattle.cell_world.specs.declared.cell.Cell.{Cell}
 use Rattle.cell_world.specs.declared.part.Part.{Part}
-use Rattle.cell_world.specs.declared.part.Part.TheVariants.{Who, Mind, Load, Food, RedMarks, BlackMarks}
+use Rattle.cell_world.specs.declared.part.Part.TheVariants.{Who}
 use Rattle.cell_world.specs.declared.part.Parts.{Parts}
 use Rattle.cell_world.specs.Cell.{rock}
 use Rattle.cell_world.specs.Grid.{Grid, IsWorld, world_of}
@@ -32,11 +32,7 @@ cell_below g p is column beyond =
 
 has_all : (k : Part) → has_part all_parts k ≡ true
 has_all Who = refl
-has_all Mind = refl
-has_all Load = refl
-has_all Food = refl
-has_all RedMarks = refl
-has_all BlackMarks = refl
+has_all it = refl
 
 -- cells of one ground and hill that differ in no part are equal
 pub same_cell : (c d : Cell) → c.rocky ≡ d.rocky → c.hill ≡ d.hill → Agree all_parts c d → c ≡ d

@@ -45,16 +45,13 @@ looked-more job n k t looks new seed place so_far next turn same guess made =
 
 -- what holds of each holds of each of a part
 all_take : {X : Type 0} (P : X → Type 0) (n : ℕ) (xs : List X) → AllByRecursion P xs → AllByRecursion P (take n xs)
-all_take P zero [] all = tt
-all_take P zero (x ∷ xs) all = tt
-all_take P (suc n) [] all = tt
 all_take P (suc n) (x ∷ xs) all = (all.0, all_take P n xs all.1)
+all_take it that other all = tt
 
 all_drop : {X : Type 0} (P : X → Type 0) (n : ℕ) (xs : List X) → AllByRecursion P xs → AllByRecursion P (drop n xs)
-all_drop P zero [] all = tt
 all_drop P zero (x ∷ xs) all = all
-all_drop P (suc n) [] all = tt
 all_drop P (suc n) (x ∷ xs) all = all_drop P n xs all.1
+all_drop it that other all = tt
 
 pub all_between : {X : Type 0} (P : X → Type 0) (n k : ℕ) (xs : List X) → AllByRecursion P xs → AllByRecursion P (take n (drop k xs))
 all_between P n k xs all = all_take P n (drop k xs) (all_drop P k xs all)

@@ -1,8 +1,9 @@
 // The crew of workers that stand by.
-ghost use Rattle.std.specs.Prelude.{◌≡◌, IfOk, OnOk, OnErr};
+ghost use Rattle.std.specs.Prelude.{◌≡◌, ◌≤◌, IfOk, OnOk, OnErr};
 ghost use Rattle.round_book.specs.Book.{CanBegin, IsPlayed, window_of};
 ghost use Rattle.round_book.specs.Counts.{counts_of};
 ghost use Rattle.far_crew.specs.Inner.Turns.{AreTurnsOf, window_on};
+ghost use Rattle.far_crew.specs.Unstarted.{IsUnstarted};
 
 use crate::caller::Caller;
 use crate::deal::prepare_all;
@@ -42,7 +43,10 @@ impl<'c, R: Wait, G: Gate> FarCrew<'c, R, G> {
         gate: &'c G,
         workers: u32,
         lines: Vec<Line>,
-    ) -> FarCrew<'c, R, G> {
+    ) -> FarCrew<'c, R, G>
+        ensures lines { result.lines ≡ lines }
+        ensures caller { result.caller.worker ≡ workers }
+    {
         FarCrew {
             rt,
             caller: Caller {
@@ -57,8 +61,12 @@ impl<'c, R: Wait, G: Gate> FarCrew<'c, R, G> {
         }
     }
 
-    /// A crew of so many workers none of which was started, as where the system refuses each start: the caller's thread looks at each turn.
-    pub fn unstarted(rt: &'c R, alloc: Global, gate: &'c G, workers: u32) -> FarCrew<'c, R, G> {
+    /// A crew of so many workers, 1 to 16, none of which was started, as where the system refuses each start: no worker is asked, and the
+    /// caller's thread looks at each turn.
+    pub fn unstarted(rt: &'c R, alloc: Global, gate: &'c G, workers: u32) -> FarCrew<'c, R, G>
+        requires workers { (1 ≤ workers) × (workers ≤ 16) }
+        ensures { IsUnstarted workers result }
+    {
         FarCrew::of(rt, alloc, gate, workers, Vec::new(alloc))
     }
 

@@ -1,12 +1,12 @@
 -- The ants, and the last line.
-use Rattle.std.proofs.Common.{◌≡◌, ℕ, zero, suc, ◌+◌, ◌-◌, ◌≤◌, Bool, true, false, cond, eqb, leb, List, [], ◌∷◌, ◌++◌, length, Option, Some, None, Result, Ok, Err, refl, sym, ◌∙◌, ap, subst, arith, codes, decimal}
+use Rattle.std.proofs.Common.{◌≡◌, ℕ, suc, ◌+◌, ◌-◌, ◌≤◌, Bool, true, false, cond, eqb, leb, List, [], ◌∷◌, ◌++◌, length, Option, Some, None, Result, Ok, Err, refl, sym, ◌∙◌, ap, subst, arith, codes, decimal}
 use Rattle.std.specs.List.{AllByRecursion}
 use Rattle.std.specs.Str.{bytes_eq}
 use Rattle.std.proofs.lemmas.Bool.{le-leb, leb-true, leb-false}
 use Rattle.std.proofs.lemmas.Slice.Eq.{bytes_eq-Decides}
 use Rattle.hex_geometry.proofs.Turns.{dir_of_number_of}
 use Rattle.hex_geometry.specs.declared.direction.Dir.{Dir}
-use Rattle.hex_geometry.specs.declared.direction.Dir.TheVariants.{East, SouthEast, SouthWest, West, NorthWest, NorthEast}
+use Rattle.hex_geometry.specs.declared.direction.Dir.TheVariants.{East}
 use Rattle.hex_geometry.specs.Direction.{dir_of, number_of}
 use Rattle.cell_world.proofs.GridSums.{one_if-le_one}
 use Rattle.cell_world.specs.declared.ant.Colour.{Colour}
@@ -58,18 +58,12 @@ abbrev ant_print : AntParts → List (List ℕ)
 ant_print p = codes "ant" ∷ decimal p.0 ∷ colour_text p.1.0 ∷ decimal p.1.1.0 ∷ decimal p.1.1.1.0 ∷ decimal p.1.1.1.1.0 ∷ decimal p.1.1.1.1.1.0 ∷ decimal p.1.1.1.1.1.1.0 ∷ decimal p.1.1.1.1.1.1.1 ∷ []
 
 number_of-dir_of : (n : ℕ) → n ≤ 5 → number_of (dir_of n) ≡ n
-number_of-dir_of zero low = refl
-number_of-dir_of (suc zero) low = refl
-number_of-dir_of (suc (suc zero)) low = refl
-number_of-dir_of (suc (suc (suc zero))) low = refl
-number_of-dir_of (suc (suc (suc (suc zero)))) low = refl
-number_of-dir_of (suc (suc (suc (suc (suc zero))))) low = refl
 number_of-dir_of (suc (suc (suc (suc (suc (suc n)))))) low = absurd (let wrong : ⊥ = omega arith in wrong)
+number_of-dir_of it low = refl
 
 one_if-is : (n : ℕ) → n ≤ 1 → one_if (eqb n 1) ≡ n
-one_if-is zero low = refl
-one_if-is (suc zero) low = refl
 one_if-is (suc (suc n)) low = absurd (let wrong : ⊥ = omega arith in wrong)
+one_if-is it low = refl
 
 -- a direction is that of its number
 pub dir_of_number : (d : Dir) (n : ℕ) → number_of d ≡ n → d ≡ dir_of n
@@ -77,11 +71,7 @@ dir_of_number d n e = sym (dir_of_number_of d) ∙ ap dir_of e
 
 pub low_dir : (d : Dir) → number_of d ≤ 5
 low_dir East = omega arith
-low_dir SouthEast = omega arith
-low_dir SouthWest = omega arith
-low_dir West = omega arith
-low_dir NorthWest = omega arith
-low_dir NorthEast = omega arith
+low_dir it = omega arith
 
 is_load : (b : Bool) → eqb (one_if b) 1 ≡ b
 is_load true = refl

@@ -4,7 +4,7 @@ use Rattle.std.specs.List.{AllByRecursion}
 use Rattle.cell_world.specs.declared.ant.Colour.{Colour}
 use Rattle.cell_world.specs.declared.ant.Colour.TheVariants.{Red, Black}
 use Rattle.brain_read.specs.declared.instr.Instr.{Instr}
-use Rattle.brain_read.specs.declared.instr.Instr.TheVariants.{Sense, Mark, Unmark, PickUp, Drop, Turn, Move, Flip}
+use Rattle.brain_read.specs.declared.instr.Instr.TheVariants.{Sense, PickUp, Drop, Turn, Move, Flip}
 use Rattle.brain_read.specs.Forms.{HasBound, IsInRange}
 use Rattle.brain_read.specs.Grammar.{StatesBelow, states_of}
 use Rattle.brain_read.specs.Soundness.{IsBrain, IsSound, most_states}
@@ -20,13 +20,12 @@ record IsFit (n : ℕ) (i : Instr) : Type 0 where
 
 fit : (n : ℕ) (i : Instr) → IsSound n i → HasBound i → IsFit n i
 fit n (Sense s m u c) sound bound = record { in_range = sound.2; states = (sound.0, (sound.1, tt)) }
-fit n (Mark i k) sound bound = record { in_range = sound.0; states = (sound.1, tt) }
-fit n (Unmark i k) sound bound = record { in_range = sound.0; states = (sound.1, tt) }
 fit n (PickUp m u) sound bound = record { in_range = tt; states = (sound.0, (sound.1, tt)) }
 fit n (Drop k) sound bound = record { in_range = tt; states = (sound, tt) }
 fit n (Turn s k) sound bound = record { in_range = tt; states = (sound, tt) }
 fit n (Move m u) sound bound = record { in_range = tt; states = (sound.0, (sound.1, tt)) }
 fit n (Flip b m u) sound bound = record { in_range = (sound.0, bound); states = (sound.1, (sound.2, tt)) }
+fit n it sound bound = record { in_range = sound.0; states = (sound.1, tt) }
 
 -- so are all of a brain
 all_fit : (n : ℕ) (list : List Instr) → ((i : ℕ) (x : Instr) → slice_get list i ≡ Some x → IsSound n x) → AllByRecursion HasBound list → AllByRecursion (IsFit n) list

@@ -1,7 +1,9 @@
 -- The world of a save before any ant stands in it.
-use Rattle.std.proofs.Common.{◌≡◌, ℕ, zero, suc, ◌+◌, ◌*◌, ◌<◌, ◌≤◌, Bool, true, false, not, ◌&&◌, cond, eqb, ltb, List, [], ◌∷◌, length, map, get_or, sum, sum_by, Option, Some, None, refl, sym, ◌∙◌, ap, subst, inl, inr, arith}
+use Rattle.std.proofs.Common.{◌≡◌, ℕ, zero, suc, ◌+◌, ◌*◌, ◌<◌, ◌≤◌, Bool, true, false, not, ◌&&◌, cond, eqb, ltb, List, [], ◌∷◌, length, get_or, sum, sum_by, Option, Some, None, refl, sym, ◌∙◌, ap, subst, inl, inr, arith}
 use Rattle.std.specs.List.{AllByRecursion}
 use Rattle.std.proofs.lemmas.Bool.{and_from, and_parts, cases_lt, eqb-true, not-true}
+use Rattle.std.proofs.Math.ListN.{get_or-map}
+use Rattle.std.proofs.lemmas.List.{get_or_past}
 use Rattle.std.proofs.lemmas.List.Sums.{sum_by-cons}
 use Rattle.std.proofs.lemmas.Nat.{mul-le}
 use Rattle.hex_geometry.specs.declared.position.Pos.{Pos}
@@ -21,7 +23,7 @@ use Rattle.hex_geometry.proofs.RowLemmas.{pos_at-index_of}
 use Rattle.cell_world.proofs.GridSums.{cell_in-pos_at, weight-list}
 use Rattle.ant_turn.specs.Turn.{left_by_ant}
 use Rattle.match_save.specs.declared.soil.Soil.{Soil}
-use Rattle.match_save.specs.declared.soil.Soil.TheVariants.{Rock, Clear, RedHill, BlackHill}
+use Rattle.match_save.specs.declared.soil.Soil.TheVariants.{Rock}
 use Rattle.match_save.specs.Draft.{Draft, IsAnt, IsInForm}
 use Rattle.match_save.specs.State.{IsState, ground_cell, ground_cells, grid_of_draft, hill_count, with_ants}
 use Rattle.match_save.specs.Inner.Floor.{are_sound_cells, floor_of, is_empty_cell, is_sound_cell}
@@ -37,88 +39,59 @@ module _ (width height : ℕ) where
   all-sound (cell ∷ cells) i each_is =
       and_from (is_sound_cell width height i cell) (are_sound_cells width height (i + 1) cells)
       (ap (λ n. is_sound_cell width height n cell) (let s : i ≡ i + 0 = omega arith in s) ∙ each_is 0 (omega arith))
-      (all-sound cells (i + 1) (λ k below. ap (λ n. is_sound_cell width height n (get_or cells k rock)) (let s : i + 1 + k ≡ i + suc k = omega arith in s) ∙ each_is (suc k) (omega (arith, below))))
+      (all-sound cells (i + 1) (λ k below. ap (λ n. is_sound_cell width height n (get_or cells k rock)) (let s : i + 1 + k ≡ i + suc k = omega arith in s) ∙ each_is (suc k) (omega arith)))
 
   -- where all are sound, each is
   sound-at : (cells : List Cell) (i k : ℕ) → are_sound_cells width height i cells ≡ true → k < length cells → is_sound_cell width height (i + k) (get_or cells k rock) ≡ true
-  sound-at [] i k all below = absurd (let wrong : ⊥ = omega (arith, below) in wrong)
+  sound-at [] i k all below = absurd (omega arith)
   sound-at (cell ∷ cells) i zero all below =
       ap (λ n. is_sound_cell width height n cell) (let s : i + 0 ≡ i = omega arith in s) ∙ (and_parts (is_sound_cell width height i cell) (are_sound_cells width height (i + 1) cells) all).0
   sound-at (cell ∷ cells) i (suc k) all below =
       ap (λ n. is_sound_cell width height n (get_or cells k rock)) (let s : i + suc k ≡ i + 1 + k = omega arith in s)
-      ∙ sound-at cells (i + 1) k (and_parts (is_sound_cell width height i cell) (are_sound_cells width height (i + 1) cells) all).1 (omega (arith, below))
+      ∙ sound-at cells (i + 1) k (and_parts (is_sound_cell width height i cell) (are_sound_cells width height (i + 1) cells) all).1 (omega arith)
 
 -- rock on which nothing lies is rock
 rocky-is : (soils : List Soil) (reds blacks foods : List ℕ) (i : ℕ) → (get_or (ground_cells soils reds blacks foods) i rock).rocky ≡ true → is_empty_cell (get_or (ground_cells soils reds blacks foods) i rock) ≡ true
     → get_or (ground_cells soils reds blacks foods) i rock ≡ rock
 unfolding rock
-rocky-is [] reds blacks foods zero rocky empty = refl
-rocky-is [] reds blacks foods (suc i) rocky empty = refl
-rocky-is (soil ∷ soils) [] blacks foods zero rocky empty = refl
-rocky-is (soil ∷ soils) [] blacks foods (suc i) rocky empty = refl
-rocky-is (soil ∷ soils) (red ∷ reds) [] foods zero rocky empty = refl
-rocky-is (soil ∷ soils) (red ∷ reds) [] foods (suc i) rocky empty = refl
-rocky-is (soil ∷ soils) (red ∷ reds) (black ∷ blacks) [] zero rocky empty = refl
-rocky-is (soil ∷ soils) (red ∷ reds) (black ∷ blacks) [] (suc i) rocky empty = refl
 rocky-is (soil ∷ soils) (red ∷ reds) (black ∷ blacks) (food ∷ foods) (suc i) rocky empty = rocky-is soils reds blacks foods i rocky empty
-rocky-is (Clear ∷ soils) (red ∷ reds) (black ∷ blacks) (food ∷ foods) zero rocky empty = absurd (cc)
-rocky-is (RedHill ∷ soils) (red ∷ reds) (black ∷ blacks) (food ∷ foods) zero rocky empty = absurd (cc)
-rocky-is (BlackHill ∷ soils) (red ∷ reds) (black ∷ blacks) (food ∷ foods) zero rocky empty = absurd (cc)
 rocky-is (Rock ∷ soils) (red ∷ reds) (black ∷ blacks) (food ∷ foods) zero rocky empty =
     let parts = and_parts (eqb food 0 && eqb red 0) (eqb black 0) empty in
     let first = and_parts (eqb food 0) (eqb red 0) parts.0 in
     ap (λ (n : ℕ). ground_cell Rock red black n) (eqb-true food 0 first.0)
     ∙ ap (λ (n : ℕ). ground_cell Rock n black 0) (eqb-true red 0 first.1)
     ∙ ap (λ (n : ℕ). ground_cell Rock 0 n 0) (eqb-true black 0 parts.1)
+rocky-is (soil ∷ soils) (red ∷ reds) (black ∷ blacks) (food ∷ foods) zero rocky empty = absurd (cc)
+rocky-is soils reds blacks foods i rocky empty = refl
+
+tails : {s : Soil} {r b f : ℕ} {soils : List Soil} {reds blacks foods : List ℕ} → AreAlike (s ∷ soils) (r ∷ reds) (b ∷ blacks) (f ∷ foods) → AreAlike soils reds blacks foods
+tails are = record { reds_full = omega arith; blacks_full = omega arith; foods_full = omega arith }
 
 length-ground_cells : (soils : List Soil) (reds blacks foods : List ℕ) → AreAlike soils reds blacks foods → length (ground_cells soils reds blacks foods) ≡ length soils
 length-ground_cells [] reds blacks foods are = refl
-length-ground_cells (s ∷ soils) [] blacks foods are = absurd (let l = are.reds_full in let wrong : ⊥ = omega (arith, l) in wrong)
-length-ground_cells (s ∷ soils) (r ∷ reds) [] foods are = absurd (let l = are.blacks_full in let wrong : ⊥ = omega (arith, l) in wrong)
-length-ground_cells (s ∷ soils) (r ∷ reds) (b ∷ blacks) [] are = absurd (let l = are.foods_full in let wrong : ⊥ = omega (arith, l) in wrong)
-length-ground_cells (s ∷ soils) (r ∷ reds) (b ∷ blacks) (f ∷ foods) are =
-    ap suc (length-ground_cells soils reds blacks foods (record { reds_full = (let l = are.reds_full in omega (arith, l)); blacks_full = (let l = are.blacks_full in omega (arith, l)); foods_full = (let l = are.foods_full in omega (arith, l)) }))
+length-ground_cells (s ∷ soils) (r ∷ reds) (b ∷ blacks) (f ∷ foods) are = ap suc (length-ground_cells soils reds blacks foods (tails are))
+length-ground_cells soils reds blacks foods are = absurd (omega arith)
 
 -- the cells weigh what their food does
 weight-ground_cells : (soils : List Soil) (reds blacks foods : List ℕ) → AreAlike soils reds blacks foods → sum_by cell_weight (ground_cells soils reds blacks foods) ≡ sum foods
 unfolding cell_weight
 weight-ground_cells [] reds blacks [] are = refl
-weight-ground_cells [] reds blacks (f ∷ foods) are = absurd (let l = are.foods_full in let wrong : ⊥ = omega (arith, l) in wrong)
-weight-ground_cells (s ∷ soils) [] blacks foods are = absurd (let l = are.reds_full in let wrong : ⊥ = omega (arith, l) in wrong)
-weight-ground_cells (s ∷ soils) (r ∷ reds) [] foods are = absurd (let l = are.blacks_full in let wrong : ⊥ = omega (arith, l) in wrong)
-weight-ground_cells (s ∷ soils) (r ∷ reds) (b ∷ blacks) [] are = absurd (let l = are.foods_full in let wrong : ⊥ = omega (arith, l) in wrong)
 weight-ground_cells (s ∷ soils) (r ∷ reds) (b ∷ blacks) (f ∷ foods) are =
-    let rest = weight-ground_cells soils reds blacks foods (record { reds_full = (let l = are.reds_full in omega (arith, l)); blacks_full = (let l = are.blacks_full in omega (arith, l)); foods_full = (let l = are.foods_full in omega (arith, l)) }) in
+    let rest = weight-ground_cells soils reds blacks foods (tails are) in
     let here = sum_by-cons cell_weight (ground_cell s r b f) (ground_cells soils reds blacks foods) in
     let there = sum_by-cons (λ (n : ℕ). n) f foods in
-    omega (arith, rest, here, there)
+    omega arith
+weight-ground_cells soils reds blacks foods are = absurd (omega arith)
 
 no_ants : (soils : List Soil) (reds blacks foods : List ℕ) → AllByRecursion (λ (cell : Cell). cell.ant ≡ None) (ground_cells soils reds blacks foods)
-no_ants [] reds blacks foods = tt
-no_ants (s ∷ soils) [] blacks foods = tt
-no_ants (s ∷ soils) (r ∷ reds) [] foods = tt
-no_ants (s ∷ soils) (r ∷ reds) (b ∷ blacks) [] = tt
 no_ants (s ∷ soils) (r ∷ reds) (b ∷ blacks) (f ∷ foods) = (refl, no_ants soils reds blacks foods)
-
--- each element of a mapped list is that of the list, mapped
-pub get_or-mapped : {A B : Type 0} (f : A → B) (list : List A) (i : ℕ) (d : A) → get_or (map f list) i (f d) ≡ f (get_or list i d)
-get_or-mapped f [] zero d = refl
-get_or-mapped f [] (suc i) d = refl
-get_or-mapped f (it ∷ list) zero d = refl
-get_or-mapped f (it ∷ list) (suc i) d = get_or-mapped f list i d
+no_ants soils reds blacks foods = tt
 
 -- sets below 64 are of the six markers
 six-ground : (soils : List Soil) (reds blacks foods : List ℕ) → AllByRecursion (λ set. set < 64) reds → AllByRecursion (λ set. set < 64) blacks → (i : ℕ) → HasMarksOfSix (get_or (ground_cells soils reds blacks foods) i rock)
-six-ground [] reds blacks foods r b zero = HasMarksOfSix-rock
-six-ground [] reds blacks foods r b (suc i) = HasMarksOfSix-rock
-six-ground (soil ∷ soils) [] blacks foods r b zero = HasMarksOfSix-rock
-six-ground (soil ∷ soils) [] blacks foods r b (suc i) = HasMarksOfSix-rock
-six-ground (soil ∷ soils) (red ∷ reds) [] foods r b zero = HasMarksOfSix-rock
-six-ground (soil ∷ soils) (red ∷ reds) [] foods r b (suc i) = HasMarksOfSix-rock
-six-ground (soil ∷ soils) (red ∷ reds) (black ∷ blacks) [] r b zero = HasMarksOfSix-rock
-six-ground (soil ∷ soils) (red ∷ reds) (black ∷ blacks) [] r b (suc i) = HasMarksOfSix-rock
 six-ground (soil ∷ soils) (red ∷ reds) (black ∷ blacks) (food ∷ foods) r b zero = record { red = r.0; black = b.0 }
 six-ground (soil ∷ soils) (red ∷ reds) (black ∷ blacks) (food ∷ foods) r b (suc i) = six-ground soils reds blacks foods r.1 b.1 i
+six-ground soils reds blacks foods r b i = HasMarksOfSix-rock
 
 rock-rocky : rock.rocky ≡ true
 unfolding rock
@@ -127,13 +100,6 @@ rock-rocky = refl
 empty-rock : is_empty_cell rock ≡ true
 unfolding rock
 empty-rock = refl
-
--- behind the last cell there is rock
-get_or_late : (cells : List Cell) (i : ℕ) → length cells ≤ i → get_or cells i rock ≡ rock
-get_or_late [] zero late = refl
-get_or_late [] (suc i) late = refl
-get_or_late (cell ∷ cells) zero late = absurd (let wrong : ⊥ = omega (arith, late) in wrong)
-get_or_late (cell ∷ cells) (suc i) late = get_or_late cells i (omega (arith, late))
 
 module _ (d : Draft) (ok : IsInForm d) where
   floor : Grid
@@ -176,7 +142,7 @@ module _ (d : Draft) (ok : IsInForm d) where
         known = λ p ant there. (let both : None ≡ Some ant = sym (empty-floor p) ∙ there in absurd (cc));
         once = λ t p q here there. (let none : is_ant t None ≡ true = ap (is_ant t) (sym (empty-floor p)) ∙ here in absurd (cc));
         six = six;
-        light = (let w = weight-floor in omega (arith, w, light));
+        light = (let w = weight-floor in omega arith);
       };
     };
     empty = no_ants d.soils d.red_marks d.black_marks d.foods;
@@ -192,10 +158,10 @@ module _ (d : Draft) (ok : IsInForm d) where
     sound-cell p inside =
         ap (is_sound_cell d.head.width d.head.height (index_of d.head.width p)) (cell_in-column (floor_of d) p inside.column)
         ∙ ap (λ n. is_sound_cell d.head.width d.head.height n (get_or (floor_of d).cells (index_of d.head.width p) rock)) (let s : index_of d.head.width p ≡ 0 + index_of d.head.width p = omega arith in s)
-        ∙ sound-at d.head.width d.head.height (floor_of d).cells 0 (index_of d.head.width p) sound (let l = full-floor in let m = index_inside p inside in omega (arith, l, m))
+        ∙ sound-at d.head.width d.head.height (floor_of d).cells 0 (index_of d.head.width p) sound (let l = full-floor in let m = index_inside p inside in omega arith)
       where
         index_inside : (p : Pos) → IsInside d.head.width d.head.height p → index_of d.head.width p < d.head.width * d.head.height
-        index_inside p inside = (let r : (p.y + 1) * d.head.width ≤ d.head.height * d.head.width = mul-le (p.y + 1) d.head.width d.head.height d.head.width (let b = inside.row in omega (arith, b)) (omega arith) in let c = inside.column in omega (arith, r, c))
+        index_inside p inside = (let r : (p.y + 1) * d.head.width ≤ d.head.height * d.head.width = mul-le (p.y + 1) d.head.width d.head.height d.head.width (let b = inside.row in omega arith) (omega arith) in let c = inside.column in omega arith)
 
     clear-inside : (p : Pos) → (cell_in (floor_of d) p).rocky ≡ false → IsInside d.head.width d.head.height p
     clear-inside p clear = elim (cases_lt p.x d.head.width) [
@@ -203,9 +169,9 @@ module _ (d : Draft) (ok : IsInForm d) where
           let both : true ≡ false = sym rock-rocky ∙ ap (λ (c : Cell). c.rocky) (sym (cell_in-beyond (floor_of d) p beyond)) ∙ clear in
           absurd (cc)
       | inl column ↦ elim (cases_lt (index_of d.head.width p) (length (floor_of d).cells)) [
-        | inl early ↦ record { column = column; row = row_below (let l = full-floor in omega (arith, l, early)) }
+        | inl early ↦ record { column = column; row = row_below (let l = full-floor in omega arith) }
         | inr late ↦
-            let both : true ≡ false = sym rock-rocky ∙ ap (λ (c : Cell). c.rocky) (sym (get_or_late (floor_of d).cells (index_of d.head.width p) late) ∙ sym (cell_in-column (floor_of d) p column)) ∙ clear in
+            let both : true ≡ false = sym rock-rocky ∙ ap (λ (c : Cell). c.rocky) (sym (get_or_past (floor_of d).cells (index_of d.head.width p) rock late) ∙ sym (cell_in-column (floor_of d) p column)) ∙ clear in
             absurd (cc)
       ]
     ]
@@ -213,7 +179,7 @@ module _ (d : Draft) (ok : IsInForm d) where
         row_below : p.y * d.head.width + p.x < d.head.width * d.head.height → p.y < d.head.height
         row_below below = elim (cases_lt p.y d.head.height) [
           | inl row ↦ row
-          | inr high ↦ (let r : d.head.height * d.head.width ≤ p.y * d.head.width = mul-le d.head.height d.head.width p.y d.head.width high (omega arith) in absurd (let wrong : ⊥ = omega (arith, r, below) in wrong))
+          | inr high ↦ (let r : d.head.height * d.head.width ≤ p.y * d.head.width = mul-le d.head.height d.head.width p.y d.head.width high (omega arith) in absurd (omega arith))
         ]
 
     rim : (p : Pos) → (cell_in (floor_of d) p).rocky ≡ false → IsInner d.head.width d.head.height p
@@ -235,7 +201,7 @@ module _ (d : Draft) (ok : IsInForm d) where
                 ap (λ b. cond b (is_empty_cell (cell_in (floor_of d) p)) (not (is_on_rim d.head.width d.head.height (pos_at d.head.width (index_of d.head.width p))))) (sym rocky) ∙ sound-cell p (record { column = column; row = row }) in
                 at ∙ rocky-is d.soils d.red_marks d.black_marks d.foods (index_of d.head.width p) (ap (λ (c : Cell). c.rocky) (sym at) ∙ rocky) (ap is_empty_cell (sym at) ∙ told)
             | inr below ↦
-                at ∙ get_or_late (floor_of d).cells (index_of d.head.width p) (let l = full-floor in let r : d.head.height * d.head.width ≤ p.y * d.head.width = mul-le d.head.height d.head.width p.y d.head.width below (omega arith) in omega (arith, l, r))
+                at ∙ get_or_past (floor_of d).cells (index_of d.head.width p) rock (let l = full-floor in let r : d.head.height * d.head.width ≤ p.y * d.head.width = mul-le d.head.height d.head.width p.y d.head.width below (omega arith) in omega arith)
           ]
     ]
 
@@ -270,7 +236,7 @@ module _ (d : Draft) (ok : IsInForm d) where
         let light : weight (world_of (grid_of_draft d)) ≤ most_weight = state.world.valid.light in
         let all = weight-all d.ants (floor_of d) full-floor (inside-all d.ants ok.ants) stand-state in
         let w = weight-floor in
-        omega (arith, light, all, w)
+        omega arith
 
     -- and its cells are sound
     pub sound-state : are_sound_cells d.head.width d.head.height 0 (floor_of d).cells ≡ true
@@ -278,9 +244,9 @@ module _ (d : Draft) (ok : IsInForm d) where
     sound-state = all-sound d.head.width d.head.height (floor_of d).cells 0 one where
       there : (i : ℕ) → left_by_ant (get_or (with_ants d.head.width d.ants (floor_of d).cells) i rock) ≡ left_by_ant (get_or (floor_of d).cells i rock)
       there i =
-          sym (get_or-mapped left_by_ant (with_ants d.head.width d.ants (floor_of d).cells) i rock)
+          sym (get_or-map left_by_ant (with_ants d.head.width d.ants (floor_of d).cells) i rock)
           ∙ ap (λ l. get_or l i (left_by_ant rock)) (map-with_ants d.head.width left_by_ant (λ c ant. refl) d.ants (floor_of d).cells)
-          ∙ get_or-mapped left_by_ant (floor_of d).cells i rock
+          ∙ get_or-map left_by_ant (floor_of d).cells i rock
 
       plain : (i : ℕ) → left_by_ant (get_or (floor_of d).cells i rock) ≡ get_or (floor_of d).cells i rock
       plain i = ap (λ (o : Option Ant). record (get_or (floor_of d).cells i rock) { ant = o }) (sym (bare-none d.soils d.red_marks d.black_marks d.foods i))
@@ -291,7 +257,7 @@ module _ (d : Draft) (ok : IsInForm d) where
         p = pos_at d.head.width k
 
         read : cell_in (grid_of_draft d) p ≡ get_or (with_ants d.head.width d.ants (floor_of d).cells) k rock
-        read = cell_in-pos_at (grid_of_draft d) k (let l = full-floor in omega (arith, l, below))
+        read = cell_in-pos_at (grid_of_draft d) k (let l = full-floor in omega arith)
 
         same_rock : (get_or (with_ants d.head.width d.ants (floor_of d).cells) k rock).rocky ≡ (get_or (floor_of d).cells k rock).rocky
         same_rock = ap (λ (c : Cell). c.rocky) (there k)

@@ -101,9 +101,8 @@ food-good width i value is_set small small' = go (eqb value 63) refl where
 -- the values of these foods stand for these values, one by one
 abbrev pub AreFoods : List ℕ → List ℕ → Type 0
 AreFoods [] [] = Unit {0}
-AreFoods [] (food ∷ foods) = ⊥
-AreFoods (value ∷ values) [] = ⊥
 AreFoods (value ∷ values) (food ∷ foods) = HasValue value food × AreFoods values foods
+AreFoods it that = ⊥
 
 -- numbers in row order of a world have columns and rows of few digits
 pub small_place : (width i : ℕ) → 1 ≤ width → width ≤ 512 → i < 1000000 → (i % width ≤ most_counted) × (i / width ≤ most_counted)
@@ -142,14 +141,12 @@ map-value [] = refl
 map-value (food ∷ foods) = ap (λ c. c ∷ map marks_byte (map value_of_food foods)) (marks_byte-value food) ∙ ap (λ l. food_byte food ∷ l) (map-value foods)
 
 take-map : (n : ℕ) (list : List ℕ) → take n (map value_of_food list) ≡ map value_of_food (take n list)
-take-map zero list = refl
-take-map (suc n) [] = refl
 take-map (suc n) (x ∷ list) = ap (λ l. value_of_food x ∷ l) (take-map n list)
+take-map it list = refl
 
 drop-map : (n : ℕ) (list : List ℕ) → drop n (map value_of_food list) ≡ map value_of_food (drop n list)
-drop-map zero list = refl
-drop-map (suc n) [] = refl
 drop-map (suc n) (x ∷ list) = drop-map n list
+drop-map it list = refl
 
 rows-map : (width height : ℕ) (foods : List ℕ) → rows marks_byte width height (map value_of_food foods) ≡ rows food_byte width height foods
 rows-map width zero foods = refl
@@ -166,21 +163,18 @@ pub record AreAmounts (width height : ℕ) (foods : List ℕ) : Type 0 where
 
 length-foods : (values foods : List ℕ) → AreFoods values foods → length foods ≡ length values
 length-foods [] [] ok = refl
-length-foods [] (food ∷ foods) ok = absurd ok
-length-foods (value ∷ values) [] ok = absurd ok
 length-foods (value ∷ values) (food ∷ foods) ok = ap suc (length-foods values foods ok.1)
+length-foods it that ok = absurd ok
 
 each-foods : (values foods : List ℕ) → AreFoods values foods → AllByRecursion (λ food. food ≤ most_weight) foods
 each-foods [] [] ok = tt
-each-foods [] (food ∷ foods) ok = absurd ok
-each-foods (value ∷ values) [] ok = absurd ok
 each-foods (value ∷ values) (food ∷ foods) ok = (ok.0.1, each-foods values foods ok.1)
+each-foods it that ok = absurd ok
 
 values-foods : (values foods : List ℕ) → AreFoods values foods → values ≡ map value_of_food foods
 values-foods [] [] ok = refl
-values-foods [] (food ∷ foods) ok = absurd ok
-values-foods (value ∷ values) [] ok = absurd ok
 values-foods (value ∷ values) (food ∷ foods) ok = ap (λ b. b ∷ values) (sym ok.0.0) ∙ ap (λ l. value_of_food food ∷ l) (values-foods values foods ok.1)
+values-foods it that ok = absurd ok
 
 again-foods : (foods : List ℕ) → AllByRecursion (λ food. food ≤ most_weight) foods → AreFoods (map value_of_food foods) foods
 again-foods [] ok = tt

@@ -6,6 +6,9 @@ use Rattle.cell_world.specs.declared.ant.Colour.TheVariants.{Black}
 use Rattle.match_save.specs.declared.head.Head.{Head}
 use Rattle.match_save.specs.Inner.Readers.{Left}
 use Rattle.match_save.specs.Inner.Reading.{ant_of, draft_of_text, food_of, read_head, strict_value}
+use Rattle.std.specs.Fmt.{digits}
+use Rattle.match_save.specs.FaultText.{already_at_text, save_fault_text}
+use Rattle.match_save.specs.declared.fault.SaveFault.TheVariants.{BadLine, BadState, OutOfMemory}
 
 -- a line has one space between its tokens and none else, and its words in their case
 pub spelled_otherwise : map (λ line. draft_of_text (codes "ants save 1\n" ++ line)) (codes "seed  1\n" ∷ codes "seed 1 \n" ∷ codes " seed 1\n" ∷ codes "seed\t1\n" ∷ codes "Seed 1\n" ∷ [])
@@ -89,3 +92,9 @@ ants_beyond = refl
 pub foods_judged : map (food_of 2 1) (codes "food 2 1 62" ∷ codes "food 2 1 63" ∷ codes "food 2 1 2340900" ∷ codes "food 2 1 2340901" ∷ []) ≡ None ∷ Some 63 ∷ Some 2340900 ∷ None ∷ []
 unfolding strict_value
 foods_judged = refl
+
+-- what each fault says
+faults_say : already_at_text 60 ∷ map save_fault_text (BadLine 1 ∷ BadState ∷ OutOfMemory ∷ [])
+    ≡ codes "already at round 60" ∷ codes "line 1: not a save" ∷ codes "no valid state" ∷ codes "out of memory" ∷ []
+unfolding digits
+faults_say = refl

@@ -19,7 +19,7 @@ use Rattle.hex_geometry.specs.Direction.{number_of}
 use Rattle.match_save.specs.Draft.{Draft, IsAnt, IsHead, IsInForm, IsInstruction, IsProgram}
 use Rattle.match_save.specs.declared.head.Head.{Head}
 use Rattle.match_save.specs.declared.soil.Soil.{Soil}
-use Rattle.match_save.specs.declared.soil.Soil.TheVariants.{Rock, Clear, RedHill, BlackHill}
+use Rattle.match_save.specs.declared.soil.Soil.TheVariants.{Rock}
 use Rattle.dump_print.specs.Content.{colour_text}
 use Rattle.match_save.specs.Text.{ant_lines, ant_tokens, draft_lines, draft_text, food_byte, food_lines, food_tokens, head_tokens, instruction_line, marks_byte, program_lines, rows, soil_byte, spaced}
 use Rattle.match_save.specs.Saved.{IsSaveLines, IsSaveText, SavedValue, draft_of, save_text}
@@ -89,9 +89,7 @@ module _ {A : Type 0} (byte : A → ℕ) (other : (a : A) → is_lf (byte a) ≡
 
 soil-other : (soil : Soil) → is_lf (soil_byte soil) ≡ false
 soil-other Rock = refl
-soil-other Clear = refl
-soil-other RedHill = refl
-soil-other BlackHill = refl
+soil-other it = refl
 
 marks-other : (set : ℕ) → is_lf (marks_byte set) ≡ false
 marks-other set = ne_eqb (48 + set) 10 (omega arith)

@@ -61,12 +61,11 @@ small_fields (Number n ∷ fields) (t ∷ tokens) all = (decimal_value-small t n
 small_states : (i : Instr) → AllByRecursion IsSmall (fields_of i) → AllByRecursion (λ state. state ≤ 9999999999) (states_of i)
 small_states (Sense s m u c) all = (all.1.1.0, (all.1.1.1.0, tt))
 small_states (Mark i k) all = (all.1.1.0, tt)
-small_states (Unmark i k) all = (all.1.1.0, tt)
 small_states (PickUp m u) all = (all.1.0, (all.1.1.0, tt))
 small_states (Drop k) all = (all.1.0, tt)
-small_states (Turn s k) all = (all.1.1.0, tt)
 small_states (Move m u) all = (all.1.0, (all.1.1.0, tt))
 small_states (Flip b m u) all = (all.1.1.0, (all.1.1.1.0, tt))
+small_states it all = (all.1.1.0, tt)
 
 -- a line is an instruction's exactly where it is its printing
 pub instruction-spells : Spells instruction_of IsInstruction instruction_line

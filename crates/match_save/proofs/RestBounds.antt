@@ -10,7 +10,7 @@ use Rattle.cell_world.specs.declared.cell.Cell.{Cell}
 use Rattle.cell_world.specs.World.{Cells, World, place_in, put_cell}
 use Rattle.cell_world.proofs.Puts.{cases_pos, put_cell-other, put_cell-same}
 use Rattle.brain_read.specs.declared.instr.Instr.{Instr}
-use Rattle.brain_read.specs.declared.instr.Instr.TheVariants.{Sense, Mark, Unmark, PickUp, Drop, Turn, Move, Flip}
+use Rattle.brain_read.specs.declared.instr.Instr.TheVariants.{Sense, Mark, Unmark, PickUp, Drop, Move}
 use Rattle.ant_turn.specs.Conditions.{meets}
 use Rattle.ant_turn.specs.Kills.{check_all, places_around}
 use Rattle.ant_turn.specs.Minds.{Minds, mind_of}
@@ -70,13 +70,12 @@ module _ (most : ℕ) where
       let barred : Bool = ant.laden || (cells p).food == 0 in
       put_cell-rest cells p (if barred then kept else taken) all (cond_both barred kept taken Rests (λ _. rests kept (in_state ant unmet) refl low) (λ _. rests taken laden refl low))
   execute-rest sheet seed cells place p ant (Drop next) small all low = becomes cells p _ (record ant { laden = false; state = next }) all refl low
-  execute-rest sheet seed cells place p ant (Turn side next) small all low = becomes cells p _ _ all refl low
   execute-rest sheet seed cells place p ant (Move met unmet) small all low =
       let ahead : Pos = adjacent_pos p ant.facing in
       cond_both (is_blocked (cells ahead)) _ _ (λ (outcome : Outcome). AllRest outcome.cells)
       (λ _. becomes cells p (with_ant (cells p) (in_state ant unmet)) (in_state ant unmet) all refl low)
       (λ _. check_all-rest sheet (stepped sheet cells p ant ahead met) (places_around ahead) (stepped-rest sheet cells p ant ahead met small all))
-  execute-rest sheet seed cells place p ant (Flip bound met unmet) small all low = becomes cells p _ _ all refl low
+  execute-rest sheet seed cells place p ant it small all low = becomes cells p _ _ all refl low
 
   -- a turn
   acts-rest : (n : ℕ) (minds : Minds) (seed : ℕ) (cells : Cells) (place : ℕ) (p : Pos) (ant : Ant) → minds.sheet.rest ≤ most → AllRest cells → ant.resting ≤ most → n ≤ most → AllRest (acts n minds seed cells place p ant).cells

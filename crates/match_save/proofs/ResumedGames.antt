@@ -1,5 +1,5 @@
 -- Saves as games that go on.
-use Rattle.std.proofs.Common.{◌≡◌, ◌⊎◌, ℕ, ◌+◌, ◌*◌, ◌<◌, ◌≤◌, Bool, true, false, cond, ltb, List, [], ◌∷◌, length, get_or, Some, None, refl, sym, ◌∙◌, ap, subst, inl, inr, arith}
+use Rattle.std.proofs.Common.{◌≡◌, ◌⊎◌, ℕ, ◌*◌, ◌<◌, ◌≤◌, Bool, true, false, cond, ltb, List, [], ◌∷◌, length, get_or, Some, None, refl, sym, ◌∙◌, ap, subst, inl, inr, arith}
 use Rattle.std.specs.List.{AllByRecursion}
 use Rattle.std.proofs.lemmas.Nat.{mul-le}
 use Rattle.cell_world.specs.Limits.{most_ants}
@@ -9,18 +9,14 @@ use Rattle.cell_world.specs.declared.ant.Ant.{Ant}
 use Rattle.cell_world.specs.declared.ant.PlacedAnt.{PlacedAnt}
 use Rattle.cell_world.specs.Cell.{rock}
 use Rattle.cell_world.specs.Grid.{Grid, cell_in, world_of}
-use Rattle.ant_base.specs.Layout.{◌+++◌}
 use Rattle.ant_turn.specs.Minds.{Fits, Minds, mind_of}
-use Rattle.ant_turn.specs.Rounds.{Moment, start_of}
-use Rattle.dump_print.specs.Texts.{seed_text}
 use Rattle.dump_print.specs.declared.totals.Totals.{Totals}
 use Rattle.match_run.proofs.RestLaws.{rest_text-plain, rest_text-some, runs_go_on}
-use Rattle.match_run.specs.Counts.{totals_of}
 use Rattle.match_run.specs.Game.{CanGoOn, GameValue, game_at_round, now_of}
 use Rattle.match_run.specs.Rest.{plain_rest_text, rest_text}
 use Rattle.match_run.specs.Sequential.{SequentialValue, standing}
 use Rattle.match_save.specs.Inner.Alone.{sequential_of}
-use Rattle.match_run.specs.Run.{dumps_text, most_rounds}
+use Rattle.match_run.specs.Run.{most_rounds}
 use Rattle.round_book.specs.Book.{FieldValue}
 use Rattle.match_save.specs.Draft.{Draft, IsInForm}
 use Rattle.match_save.specs.Resumed.{SavesGoOn, field_of, moment_of, rest_of}
@@ -54,9 +50,7 @@ fits-of d ok state p ant is = go (ltb p.x d.head.width) is where
 pub saves_go_on : SavesGoOn
 unfolding rest_of
 saves_go_on s w rounds chosen stats is left =
-    runs_go_on s.minds s.seed s.window w s.round rounds chosen stats left
-    ∙ ap (λ (m : Moment). seed_text s.seed +++ dumps_text s.minds s.seed chosen w (s.round + 1) +++ rest_text s.minds s.seed s.window m s.round (totals_of s.minds s.seed s.window (start_of w) s.round) rounds chosen stats) (sym is.moment)
-    ∙ ap (λ (t : Totals). seed_text s.seed +++ dumps_text s.minds s.seed chosen w (s.round + 1) +++ rest_text s.minds s.seed s.window (moment_of s) s.round t rounds chosen stats) (sym is.totals)
+    let on = runs_go_on s.minds s.seed s.window w s.round rounds chosen stats left in cc
 
 -- the ants of a save fit its brains
 pub Fits-saved : (s : SavedValue) → IsSaved s → Fits (world_of s.world) s.minds
@@ -90,11 +84,7 @@ early-saved s is = is.in_form.head.place
 -- the field and the game that are made of a save's parts are its own
 pub field-is : (s : SavedValue) (world : Grid) (minds : Minds) (seed place : ℕ) → world ≡ s.world → minds ≡ s.minds → seed ≡ s.seed → place ≡ s.place
     → ◌≡◌ {A = FieldValue} (record { world = world; minds = minds; seed = seed; place = place; whole = true; lent = None }) (field_of s)
-field-is s world minds seed place a b c e =
-    ap (λ (w : Grid). record { world = w; minds = minds; seed = seed; place = place; whole = true; lent = None }) a
-    ∙ ap (λ (m : Minds). record { world = s.world; minds = m; seed = seed; place = place; whole = true; lent = None }) b
-    ∙ ap (λ (n : ℕ). record { world = s.world; minds = s.minds; seed = n; place = place; whole = true; lent = None }) c
-    ∙ ap (λ (n : ℕ). record { world = s.world; minds = s.minds; seed = s.seed; place = n; whole = true; lent = None }) e
+field-is s world minds seed place a b c e = cc
 
 -- parts of a game that are a save's
 pub record AreParts (s : SavedValue) (field : FieldValue) (window round : ℕ) (totals : Totals) : Type 0 where
@@ -104,24 +94,16 @@ pub record AreParts (s : SavedValue) (field : FieldValue) (window round : ℕ) (
   pub totals_are : totals ≡ s.totals
 
 pub can-go : (s : SavedValue) (field : FieldValue) (window round : ℕ) (totals : Totals) → AreParts s field window round totals → IsSaved s → CanGoOn field window round totals
-can-go s field window round totals are is =
-    subst (λ (f : FieldValue). CanGoOn f window round totals) (sym are.field_is)
-    (subst (λ (n : ℕ). CanGoOn (field_of s) n round totals) (sym are.window_is)
-    (subst (λ (n : ℕ). CanGoOn (field_of s) s.window n totals) (sym are.round_is)
-    (subst (λ (t : Totals). CanGoOn (field_of s) s.window s.round t) (sym are.totals_are) (CanGoOn-saved s is))))
+can-go s field window round totals are is = rw (are.field_is, are.window_is, are.round_is, are.totals_are) (CanGoOn-saved s is)
 
 pub game-is : (s : SavedValue) (field : FieldValue) (window round : ℕ) (totals : Totals) → AreParts s field window round totals → game_at_round field window round totals ≡ game_at_round (field_of s) s.window s.round s.totals
-game-is s field window round totals are =
-    ap (λ (f : FieldValue). game_at_round f window round totals) are.field_is
-    ∙ ap (λ (n : ℕ). game_at_round (field_of s) n round totals) are.window_is
-    ∙ ap (λ (n : ℕ). game_at_round (field_of s) s.window n totals) are.round_is
-    ∙ ap (λ (t : Totals). game_at_round (field_of s) s.window s.round t) are.totals_are
+game-is s field window round totals are = cc
 
 -- what was pushed of a save's game is its rest
 pub rest-is : (s : SavedValue) (game : GameValue) (rounds : ℕ) (chosen : ℕ → Bool) (stats : Bool) → game ≡ game_at_round (field_of s) s.window s.round s.totals
     → rest_text game.field.minds game.field.seed game.window (now_of game) game.done game.totals rounds chosen stats ≡ rest_of s rounds chosen stats
 unfolding rest_of
-rest-is s game rounds chosen stats e = ap (λ (g : GameValue). rest_text g.field.minds g.field.seed g.window (now_of g) g.done g.totals rounds chosen stats) e
+rest-is s game rounds chosen stats e = rw e refl
 
 -- the rest of a save has something
 pub rest_of-some : (s : SavedValue) (rounds : ℕ) (chosen : ℕ → Bool) (stats : Bool) → 1 ≤ length (rest_of s rounds chosen stats)
@@ -131,12 +113,7 @@ rest_of-some s rounds chosen stats = rest_text-some s.minds s.seed s.window (mom
 -- a game that is just played stands where the save does
 pub sequential-is : (s : SavedValue) (world : Grid) (minds : Minds) (seed place round : ℕ) → world ≡ s.world → minds ≡ s.minds → seed ≡ s.seed → place ≡ s.place → round ≡ s.round
     → ◌≡◌ {A = SequentialValue} (record { world = world; minds = minds; seed = seed; place = place; done = round }) (sequential_of s)
-sequential-is s world minds seed place round a b c e f =
-    ap (λ (w : Grid). record { world = w; minds = minds; seed = seed; place = place; done = round }) a
-    ∙ ap (λ (m : Minds). record { world = s.world; minds = m; seed = seed; place = place; done = round }) b
-    ∙ ap (λ (n : ℕ). record { world = s.world; minds = s.minds; seed = n; place = place; done = round }) c
-    ∙ ap (λ (n : ℕ). record { world = s.world; minds = s.minds; seed = s.seed; place = n; done = round }) e
-    ∙ ap (λ (n : ℕ). record { world = s.world; minds = s.minds; seed = s.seed; place = s.place; done = n }) f
+sequential-is s world minds seed place round a b c e f = cc
 
 -- few of its rounds are done
 pub few-saved : (s : SavedValue) → IsSaved s → s.round ≤ most_rounds
@@ -157,5 +134,4 @@ pub alone-is : (s : SavedValue) (game : SequentialValue) (rounds : ℕ) (chosen 
     → plain_rest_text game.minds game.seed (standing game) game.done rounds chosen ≡ rest_of s rounds chosen false
 unfolding rest_of
 alone-is s game rounds chosen e =
-    ap (λ (g : SequentialValue). plain_rest_text g.minds g.seed (standing g) g.done rounds chosen) e
-    ∙ sym (rest_text-plain s.minds s.seed s.window (moment_of s) s.round s.totals rounds chosen)
+    let plain = rest_text-plain s.minds s.seed s.window (moment_of s) s.round s.totals rounds chosen in cc

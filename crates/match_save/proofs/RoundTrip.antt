@@ -96,16 +96,8 @@ module _ (width : ℕ) where
 -- no cell of the ground has an ant
 pub bare-none : (soils : List Soil) (reds blacks foods : List ℕ) (i : ℕ) → (get_or (ground_cells soils reds blacks foods) i rock).ant ≡ None
 unfolding rock
-bare-none [] reds blacks foods zero = refl
-bare-none [] reds blacks foods (suc i) = refl
-bare-none (soil ∷ soils) [] blacks foods zero = refl
-bare-none (soil ∷ soils) [] blacks foods (suc i) = refl
-bare-none (soil ∷ soils) (red ∷ reds) [] foods zero = refl
-bare-none (soil ∷ soils) (red ∷ reds) [] foods (suc i) = refl
-bare-none (soil ∷ soils) (red ∷ reds) (black ∷ blacks) [] zero = refl
-bare-none (soil ∷ soils) (red ∷ reds) (black ∷ blacks) [] (suc i) = refl
-bare-none (soil ∷ soils) (red ∷ reds) (black ∷ blacks) (food ∷ foods) zero = refl
 bare-none (soil ∷ soils) (red ∷ reds) (black ∷ blacks) (food ∷ foods) (suc i) = bare-none soils reds blacks foods i
+bare-none it reds blacks foods that = refl
 
 -- the ants whose ids are below n, and those of id n
 abbrev below : ℕ → List PlacedAnt → List PlacedAnt

@@ -60,9 +60,8 @@ module _ {A : Type 0} {value : ℕ → Option A} {accepts : A → Type 0} {byte 
     pub each : AllByRecursion accepts list
 
   all-take : (n : ℕ) (a : List A) → AllByRecursion accepts a → AllByRecursion accepts (take n a)
-  all-take zero a p = tt
-  all-take (suc n) [] p = tt
   all-take (suc n) (x ∷ a) p = (p.0, all-take n a p.1)
+  all-take it a p = tt
 
   all-drop : (n : ℕ) (a : List A) → AllByRecursion accepts a → AllByRecursion accepts (drop n a)
   all-drop zero a p = p
@@ -75,12 +74,11 @@ module _ {A : Type 0} {value : ℕ → Option A} {accepts : A → Type 0} {byte 
 
     joined-ok : (height : ℕ) (list : List (List A)) → AreRows height list → AreValues width height (joined list)
     joined-ok zero [] ok = record { full = (let z : 0 ≡ 0 * width = omega arith in z); each = tt }
-    joined-ok zero (row ∷ list) ok = absurd (let wrong : ⊥ = omega (arith, ok.as_many) in wrong)
-    joined-ok (suc height) [] ok = absurd (let wrong : ⊥ = omega (arith, ok.as_many) in wrong)
     joined-ok (suc height) (row ∷ list) ok =
         let below = joined-ok height list (record { as_many = (let l = ok.as_many in omega (arith, l)); each = ok.each.1 }) in
         let wide = ok.each.0.wide in
         record { full = (let l = length-append row (joined list) in let f = below.full in omega (arith, l, f, wide)); each = AllByRecursion-append accepts row (joined list) ok.each.0.each below.each }
+    joined-ok it that ok = absurd (let wrong : ⊥ = omega (arith, ok.as_many) in wrong)
 
     take-row : (row rest : List A) → length row ≡ width → take width (row ++ rest) ≡ row
     take-row row rest wide = ap (λ n. take n (row ++ rest)) (sym wide) ∙ take-append-le (length row) row rest (omega arith) ∙ take_all (length row) row (omega arith)
@@ -90,12 +88,11 @@ module _ {A : Type 0} {value : ℕ → Option A} {accepts : A → Type 0} {byte 
 
     joined-print : (height : ℕ) (list : List (List A)) → AreRows height list → rows byte width height (joined list) ≡ map (map byte) list
     joined-print zero [] ok = refl
-    joined-print zero (row ∷ list) ok = absurd (let wrong : ⊥ = omega (arith, ok.as_many) in wrong)
-    joined-print (suc height) [] ok = absurd (let wrong : ⊥ = omega (arith, ok.as_many) in wrong)
     joined-print (suc height) (row ∷ list) ok =
         ap (λ r. map byte r ∷ rows byte width height (drop width (row ++ joined list))) (take-row row (joined list) ok.each.0.wide)
         ∙ ap (λ l. map byte row ∷ rows byte width height l) (drop-row row (joined list) ok.each.0.wide)
         ∙ ap (λ l. map byte row ∷ l) (joined-print height list (record { as_many = (let l = ok.as_many in omega (arith, l)); each = ok.each.1 }))
+    joined-print it that ok = absurd (let wrong : ⊥ = omega (arith, ok.as_many) in wrong)
 
     cut : (height : ℕ) (list : List A) → AreValues width height list → (rows' : List (List A)) × AreRows height rows' × (joined rows' ≡ list)
     cut zero [] ok = ([], record { as_many = refl; each = tt }, refl)

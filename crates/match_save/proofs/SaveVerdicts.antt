@@ -1,8 +1,8 @@
 -- Every text is that of one save or has one fault.
 use Rattle.std.proofs.Common.{◌≡◌, ◌⊎◌, ℕ, List, Result, Ok, Err, IfOk, IfErr, refl, sym, ap, subst, inl, inr}
+use Rattle.ant_base.specs.Answers.{AnswersFault, AnswersValue, IsFaultOr}
 use Rattle.match_save.specs.declared.fault.SaveFault.{SaveFault}
 use Rattle.match_save.specs.declared.fault.SaveFault.TheVariants.{BadLine, BadState, OutOfMemory}
-use Rattle.match_save.specs.Answers.{AnswersFault, AnswersSaved, IsFaultOf}
 use Rattle.match_save.specs.Draft.{Draft}
 use Rattle.match_save.specs.Faulty.{IsSaveFault}
 use Rattle.match_save.specs.Laws.{EveryTextHasOneVerdict}
@@ -38,11 +38,10 @@ save-or-fault text s OutOfMemory is bad = bad
 pub same_fault : (text : List ℕ) (fault other : SaveFault) → IsSaveFault text fault → IsSaveFault text other → fault ≡ other
 same_fault text (BadLine line) (BadLine another) is bad = ap BadLine (one_line text line another is bad)
 same_fault text (BadLine line) BadState is bad = absurd (never_both text bad.draft line bad.is is)
-same_fault text (BadLine line) OutOfMemory is bad = absurd bad
 same_fault text BadState (BadLine line) is bad = absurd (never_both text is.draft line is.is bad)
 same_fault text BadState BadState is bad = refl
-same_fault text BadState OutOfMemory is bad = absurd bad
 same_fault text OutOfMemory other is bad = absurd is
+same_fault text it other is bad = absurd bad
 
 some_verdict : (text : List ℕ) → ((s : SavedValue) × IsSaveText text s) ⊎ ((fault : SaveFault) × IsSaveFault text fault)
 some_verdict text = go (draft_of_text text) refl where
@@ -58,36 +57,34 @@ pub every_verdict : EveryTextHasOneVerdict
 every_verdict = record { some = some_verdict; one_save = same_save; one_fault = same_fault; never_both = save-or-fault }
 
 -- a fault that was told is the text's
-pub fault-of : (text : List ℕ) (fault : SaveFault) → FaultTold (draft_of_text text) fault → IsFaultOf text fault
-fault-of text (BadLine line) told = refused-known text line told
+pub fault-of : (text : List ℕ) (fault : SaveFault) → FaultTold (draft_of_text text) fault → IsFaultOr OutOfMemory (IsSaveFault text) fault
+fault-of text (BadLine line) told = inl (refused-known text line told)
 fault-of text BadState told = absurd told
-fault-of text OutOfMemory told = tt
+fault-of text OutOfMemory told = inr refl
 
 -- what was judged of lines is what the text is
 pub judged-is : (text : List ℕ) (d : Draft) (result : Result SavedValue SaveFault) → IsDraftText text d → Judges d result → ReadsSave text result
 judged-is text d (Ok saved) is judged = subst (IsSaveText text) (sym judged.1) (save-of-draft text d is judged.0)
 judged-is text d (Err (BadLine line)) is judged = absurd judged
-judged-is text d (Err BadState) is judged = record { draft = d; is = is; wrong = judged }
-judged-is text d (Err OutOfMemory) is judged = tt
+judged-is text d (Err BadState) is judged = inl (record { draft = d; is = is; wrong = judged })
+judged-is text d (Err OutOfMemory) is judged = inr refl
 
 -- a save that is answered is the text's
 pub reads-saved : (text : List ℕ) (result : Result SavedValue SaveFault) → ReadsSave text result → IfOk result (λ saved. IsSaveText text saved)
 reads-saved text (Ok saved) is = is
 reads-saved text (Err fault) is = tt
 
-pub reads-fault : (text : List ℕ) (result : Result SavedValue SaveFault) → ReadsSave text result → IfErr result (λ fault. IsFaultOf text fault)
+pub reads-fault : (text : List ℕ) (result : Result SavedValue SaveFault) → ReadsSave text result → IfErr result (IsFaultOr OutOfMemory (IsSaveFault text))
 reads-fault text (Ok saved) is = tt
 reads-fault text (Err fault) is = is
 
 -- and no other
-pub every-saved : (text : List ℕ) (result : Result SavedValue SaveFault) → ReadsSave text result → (s : SavedValue) → IsSaveText text s → AnswersSaved result s
+pub every-saved : (text : List ℕ) (result : Result SavedValue SaveFault) → ReadsSave text result → (s : SavedValue) → IsSaveText text s → AnswersValue OutOfMemory result s
 every-saved text (Ok answered) is s other = same_save text answered s is other
-every-saved text (Err (BadLine line)) is s other = absurd (save-or-fault text s (BadLine line) other is)
-every-saved text (Err BadState) is s other = absurd (save-or-fault text s BadState other is)
-every-saved text (Err OutOfMemory) is s other = refl
+every-saved text (Err fault) (inl bad) s other = absurd (save-or-fault text s fault other bad)
+every-saved text (Err fault) (inr want) s other = want
 
-pub every-fault : (text : List ℕ) (result : Result SavedValue SaveFault) → ReadsSave text result → (fault : SaveFault) → IsSaveFault text fault → AnswersFault result fault
+pub every-fault : (text : List ℕ) (result : Result SavedValue SaveFault) → ReadsSave text result → (fault : SaveFault) → IsSaveFault text fault → AnswersFault OutOfMemory result fault
 every-fault text (Ok answered) is fault bad = save-or-fault text answered fault is bad
-every-fault text (Err (BadLine line)) is fault bad = inl (same_fault text (BadLine line) fault is bad)
-every-fault text (Err BadState) is fault bad = inl (same_fault text BadState fault is bad)
-every-fault text (Err OutOfMemory) is fault bad = inr refl
+every-fault text (Err answered) (inl is) fault bad = inl (same_fault text answered fault is bad)
+every-fault text (Err answered) (inr want) fault bad = inr want

@@ -30,10 +30,8 @@ record SayAgain (soils : List Soil) (reds blacks foods : List ℕ) : Type 0 wher
 
 again : (soils : List Soil) (reds blacks foods : List ℕ) → AreAlike soils reds blacks foods → SayAgain soils reds blacks foods
 again [] [] [] [] are = record { full = refl; soils_again = refl; reds_again = refl; blacks_again = refl; foods_again = refl }
-again [] (r ∷ reds) blacks foods are = absurd (let l = are.reds_full in let wrong : ⊥ = omega (arith, l) in wrong)
 again [] [] (b ∷ blacks) foods are = absurd (let l = are.blacks_full in let wrong : ⊥ = omega (arith, l) in wrong)
 again [] [] [] (f ∷ foods) are = absurd (let l = are.foods_full in let wrong : ⊥ = omega (arith, l) in wrong)
-again (s ∷ soils) [] blacks foods are = absurd (let l = are.reds_full in let wrong : ⊥ = omega (arith, l) in wrong)
 again (s ∷ soils) (r ∷ reds) [] foods are = absurd (let l = are.blacks_full in let wrong : ⊥ = omega (arith, l) in wrong)
 again (s ∷ soils) (r ∷ reds) (b ∷ blacks) [] are = absurd (let l = are.foods_full in let wrong : ⊥ = omega (arith, l) in wrong)
 again (s ∷ soils) (r ∷ reds) (b ∷ blacks) (f ∷ foods) are =
@@ -51,6 +49,7 @@ again (s ∷ soils) (r ∷ reds) (b ∷ blacks) (f ∷ foods) are =
     soil Clear rest = ap (λ l. Clear ∷ l) rest
     soil RedHill rest = ap (λ l. RedHill ∷ l) rest
     soil BlackHill rest = ap (λ l. BlackHill ∷ l) rest
+again it that blacks foods are = absurd (let l = are.reds_full in let wrong : ⊥ = omega (arith, l) in wrong)
 
 pub on_all : (width height count : ℕ) (ants : List PlacedAnt) → count ≡ height * width → AllByRecursion (IsAnt width height) ants → AllByRecursion (IsOn width count) ants
 on_all width height count [] full all = tt

@@ -8,7 +8,7 @@ use Rattle.std.proofs.lemmas.List.Sums.{sum_by-cons}
 use Rattle.std.proofs.lemmas.Nat.{div_below, mod_below, mul-le}
 use Rattle.ant_base.specs.Shelf.{longest}
 use Rattle.brain_read.specs.declared.instr.Cond.{Cond}
-use Rattle.brain_read.specs.declared.instr.Cond.TheVariants.{Friend, Foe, FriendWithFood, FoeWithFood, Food, Rock, Marker, FoeMarker, Home, FoeHome}
+use Rattle.brain_read.specs.declared.instr.Cond.TheVariants.{Marker}
 use Rattle.brain_read.specs.declared.instr.Instr.{Instr}
 use Rattle.brain_read.specs.declared.instr.Instr.TheVariants.{Sense, Mark, Unmark, PickUp, Drop, Turn, Move, Flip}
 use Rattle.brain_read.specs.Forms.{fields_of_condition, word_of_sight, word_of_side}
@@ -27,7 +27,7 @@ use Rattle.dump_print.specs.Content.{colour_text}
 use Rattle.hex_geometry.specs.declared.direction.Side.{Side}
 use Rattle.hex_geometry.specs.declared.direction.Side.TheVariants.{Left, Right}
 use Rattle.hex_geometry.specs.declared.neighbourhood.Sight.{Sight}
-use Rattle.hex_geometry.specs.declared.neighbourhood.Sight.TheVariants.{Here, Ahead, LeftAhead, RightAhead}
+use Rattle.hex_geometry.specs.declared.neighbourhood.Sight.TheVariants.{Here}
 use Rattle.hex_geometry.specs.declared.position.Pos.{Pos}
 use Rattle.hex_geometry.specs.Direction.{number_of}
 use Rattle.line_tokens.specs.Fields.{field_text}
@@ -88,9 +88,7 @@ head-bytes h ok =
 -- the words of an instruction
 sight-short : (sight : Sight) → length (word_of_sight sight) ≤ 10
 sight-short Here = omega arith
-sight-short Ahead = omega arith
-sight-short LeftAhead = omega arith
-sight-short RightAhead = omega arith
+sight-short it = omega arith
 
 side-short : (side : Side) → length (word_of_side side) ≤ 5
 side-short Left = omega arith
@@ -98,16 +96,8 @@ side-short Right = omega arith
 
 condition-bytes : (condition : Cond) → IsSoundCondition condition → bytes (map field_text (fields_of_condition condition)) ≤ 15
 unfolding bytes
-condition-bytes Friend sound = omega arith
-condition-bytes Foe sound = omega arith
-condition-bytes FriendWithFood sound = omega arith
-condition-bytes FoeWithFood sound = omega arith
-condition-bytes Food sound = omega arith
-condition-bytes Rock sound = omega arith
 condition-bytes (Marker i) sound = (let digits = length-decimal-le 1 i (omega arith) (omega (arith, sound)) (omega (arith, sound)) in omega (arith, digits))
-condition-bytes FoeMarker sound = omega arith
-condition-bytes Home sound = omega arith
-condition-bytes FoeHome sound = omega arith
+condition-bytes it sound = omega arith
 
 -- a state of at most ten digits
 state-short : (state : ℕ) → state ≤ 9999999999 → length (decimal state) ≤ 10

@@ -43,10 +43,8 @@ floors-bare (cell ∷ cells) = ap (λ l. bare cell ∷ l) (floors-bare cells)
 
 pub floors-at : (cells : List Cell) (i : ℕ) → get_or (floors cells) i rock ≡ bare (get_or cells i rock)
 unfolding rock
-floors-at [] zero = refl
-floors-at [] (suc i) = refl
-floors-at (cell ∷ cells) zero = refl
 floors-at (cell ∷ cells) (suc i) = floors-at cells i
+floors-at it that = refl
 
 length-floors : (cells : List Cell) → length (floors cells) ≡ length cells
 length-floors cells = ap length (floors-bare cells) ∙ length-map cells bare
@@ -83,10 +81,9 @@ bare-again cell plain = go cell.rocky refl where
 -- lists with equal elements
 pub same_list : (xs ys : List Cell) → length xs ≡ length ys → ((i : ℕ) → i < length xs → get_or xs i rock ≡ get_or ys i rock) → xs ≡ ys
 same_list [] [] full all = refl
-same_list [] (y ∷ ys) full all = absurd (let wrong : ⊥ = omega (arith, full) in wrong)
-same_list (x ∷ xs) [] full all = absurd (let wrong : ⊥ = omega (arith, full) in wrong)
 same_list (x ∷ xs) (y ∷ ys) full all =
     ap (λ c. c ∷ xs) (all 0 (omega arith)) ∙ ap (λ l. y ∷ l) (same_list xs ys (omega (arith, full)) (λ i lt. all (suc i) (omega (arith, lt))))
+same_list it that full all = absurd (let wrong : ⊥ = omega (arith, full) in wrong)
 
 in_front : (a b : List PlacedAnt) (it : PlacedAnt) → In it a → In it (a ++ b)
 in_front [] b it is = absurd is

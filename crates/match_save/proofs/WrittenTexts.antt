@@ -27,7 +27,7 @@ use Rattle.match_save.specs.Inner.LineTexts.{lines_text, tokens_text}
 use Rattle.match_save.specs.Inner.Written.{ant_text, ant_text_at, cells_written, food_text, food_text_at, program_text, row_text, rows_text, standing_text, written}
 use Rattle.match_save.proofs.Bytes.{tokens_text-spaced}
 use Rattle.match_save.proofs.Drafted.{text-ended}
-use Rattle.match_save.proofs.Floors.{get_or-mapped}
+use Rattle.std.proofs.Math.ListN.{get_or-map}
 
 -- the line of tokens
 tokens-line : (tokens : List (List ℕ)) → spaced tokens ++ 10 ∷ [] ≡ tokens_text tokens
@@ -107,7 +107,7 @@ rows-cells byte f g full =
     ∙ numbered-same (λ y. numbered (λ x. byte (get_or (map f g.cells) (y * g.width + x) (f rock)) ∷ []) g.width ++ 10 ∷ []) (row_text (λ cell. byte (f cell)) g) g.height
     (λ y below. ap (λ l. l ++ 10 ∷ [])
     (numbered-same (λ x. byte (get_or (map f g.cells) (y * g.width + x) (f rock)) ∷ []) (λ x. byte (f (cell_in g (record { x = x; y = y }))) ∷ []) g.width
-    (λ x column. ap (λ it. byte it ∷ []) (get_or-mapped f g.cells (y * g.width + x) rock ∙ ap f (sym (cell-in-row g x y column))))))
+    (λ x column. ap (λ it. byte it ∷ []) (get_or-map f g.cells (y * g.width + x) rock ∙ ap f (sym (cell-in-row g x y column))))))
 
 -- the lines of food
 one-food : (b : Bool) (tokens : List (List ℕ)) → text_of_lines (cond b [] (spaced tokens ∷ [])) ≡ cond b [] (tokens_text tokens)
@@ -134,7 +134,7 @@ foods-cells g full wide =
     ∙ numbered-same (λ j. food_text g.width (0 + j) (get_or (map (λ (cell : Cell). cell.food) g.cells) j 0)) (food_text_at g) (g.width * g.height)
     (λ j below. let same : 0 + j ≡ j = omega arith in
     ap (λ k. food_text g.width k (get_or (map (λ (cell : Cell). cell.food) g.cells) j 0)) same
-    ∙ ap (food_text g.width j) (get_or-mapped (λ (cell : Cell). cell.food) g.cells j rock ∙ ap (λ (cell : Cell). cell.food) (sym (cell-at g j wide))))
+    ∙ ap (food_text g.width j) (get_or-map (λ (cell : Cell). cell.food) g.cells j rock ∙ ap (λ (cell : Cell). cell.food) (sym (cell-at g j wide))))
 
 -- the lines of the ants
 line_of_ant : PlacedAnt → List ℕ

@@ -1,4 +1,3 @@
-pub mod Answers
 pub mod Draft
 pub mod Faulty
 pub mod Inner

@@ -7,8 +7,8 @@ use Rattle.cell_world.specs.Grid.{world_of}
 use Rattle.cell_world.specs.World.{World}
 use Rattle.dump_print.specs.Texts.{seed_text}
 use Rattle.match_run.specs.Counts.{totals_of, whole_text}
-use Rattle.match_run.specs.declared.fault.PlayFault.{PlayFault}
-use Rattle.match_run.specs.declared.fault.PlayFault.TheVariants.{WriteFault, OutOfMemory}
+use Rattle.ant_base.specs.declared.push_fault.PushFault.{PushFault}
+use Rattle.ant_base.specs.declared.push_fault.PushFault.TheVariants.{WriteFault, OutOfMemory}
 use Rattle.match_run.specs.Rest.{rest_text}
 use Rattle.match_run.specs.Run.{dumps_text}
 use Rattle.round_book.specs.Book.{FieldValue}
@@ -39,7 +39,7 @@ SavesGoOn = (s : SavedValue) (w : World) (rounds : ℕ) (chosen : ℕ → Bool) 
     ≡ seed_text s.seed +++ dumps_text s.minds s.seed chosen w (s.round + 1) +++ rest_of s rounds chosen stats
 
 -- where memory was wanting, nothing was pushed
-abbrev pub UnwrittenByMemory : {A : Type 0} → SinkState → SinkState → Result A PlayFault → Type 0
+abbrev pub UnwrittenByMemory : {A : Type 0} → SinkState → SinkState → Result A PushFault → Type 0
 UnwrittenByMemory old new (Ok _) = ⊤
 UnwrittenByMemory old new (Err WriteFault) = ⊤
 UnwrittenByMemory old new (Err OutOfMemory) = new ≡ old

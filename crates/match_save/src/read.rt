@@ -1,8 +1,9 @@
 // Texts of saves read.
 ghost use Rattle.std.specs.Prelude.{◌≤◌, length, IfErr, IfOk};
+ghost use Rattle.ant_base.specs.Answers.{AnswersFault, AnswersValue, IsFaultOr};
 ghost use Rattle.ant_base.specs.Shelf.{longest};
 ghost use Rattle.match_save.specs.declared.fault.SaveFault.{SaveFault};
-ghost use Rattle.match_save.specs.Answers.{AnswersFault, AnswersSaved, IsFaultOf};
+ghost use Rattle.match_save.specs.declared.fault.SaveFault.TheVariants.{OutOfMemory};
 ghost use Rattle.match_save.specs.Faulty.{IsSaveFault};
 ghost use Rattle.match_save.specs.Saved.{IsSaveText, SavedValue};
 ghost use Rattle.match_save.specs.Inner.Judged.{ReadsSave};
@@ -20,9 +21,9 @@ use std::alloc::Global;
 pub fn read_saved(alloc: Global, text: &[u8]) -> Result<Saved, SaveFault>
     requires { length text.now ≤ longest }
     ensures saved { IfOk result (λ saved. IsSaveText text.now saved) }
-    ensures fault { IfErr result (λ fault. IsFaultOf text.now fault) }
-    ensures every_saved { (saved : SavedValue) → IsSaveText text.now saved → AnswersSaved result saved }
-    ensures every_fault { (fault : SaveFault) → IsSaveFault text.now fault → AnswersFault result fault }
+    ensures fault { IfErr result (IsFaultOr OutOfMemory (IsSaveFault text.now)) }
+    ensures every_saved { (saved : SavedValue) → IsSaveText text.now saved → AnswersValue OutOfMemory result saved }
+    ensures every_fault { (fault : SaveFault) → IsSaveFault text.now fault → AnswersFault OutOfMemory result fault }
 {
     read_text(alloc, text)
 }

@@ -35,20 +35,18 @@ use Rattle.round_book.specs.Counts.{counts_of, do_agree, is_alike, is_alike_if, 
 use Rattle.round_book.specs.Window.{AreVerdicts, HoldsIn, IsVerdict, Window, guess_for, look_for, moment_before}
 
 pub same_colour-true : (a b : Colour) → same_colour a b ≡ true → a ≡ b
-same_colour-true Red Red same = refl
 same_colour-true Red Black same = absurd (false≢true same)
 same_colour-true Black Red same = absurd (false≢true same)
-same_colour-true Black Black same = refl
+same_colour-true it that same = refl
 
 same_colour-self : (a : Colour) → same_colour a a ≡ true
 same_colour-self Red = refl
 same_colour-self Black = refl
 
 one_if-same : (a b : Bool) → one_if a ≡ one_if b → a ≡ b
-one_if-same true true same = refl
 one_if-same true false same = absurd (let e : 1 ≡ 0 = same in omega arith)
 one_if-same false true same = absurd (let e : 0 ≡ 1 = same in omega arith)
-one_if-same false false same = refl
+one_if-same it that same = refl
 
 -- the tests of two ants
 identity-test : (a b : Ant) → (same_identity a b ≡ true) ↔ (identity_of a ≡ identity_of b)
@@ -83,9 +81,8 @@ load-test a b = (
 -- of ants that may not be there
 any-test : {A : Type 0} (f : Ant → A) (same : Ant → Ant → Bool) → ((a b : Ant) → (same a b ≡ true) ↔ (f a ≡ f b)) → (o p : Option Ant) → (same_if_any same o p ≡ true) ↔ (option_map f o ≡ option_map f p)
 any-test f same test None None = (λ e. refl, λ e. refl)
-any-test f same test None (Some b) = (λ e. absurd (false≢true e), λ e. cc)
-any-test f same test (Some a) None = (λ e. absurd (false≢true e), λ e. cc)
 any-test f same test (Some a) (Some b) = (λ e. ap Some ((test a b).0 e), λ e. (test a b).1 (some_one e))
+any-test f same test it that = (λ e. absurd (false≢true e), λ e. cc)
 
 marks-test : (a b : Marks) → (nat_eq a.set b.set ≡ true) ↔ (a ≡ b)
 marks-test a b = (

@@ -237,9 +237,8 @@ second-set w first writes can one =
 
 -- a list of one
 pub one_alone : {A : Type 0} (xs : List A) (d : A) → length xs ≡ 1 → xs ≡ slice_index_or xs 0 d ∷ []
-one_alone [] d is = absurd (cc)
 one_alone (x ∷ []) d is = refl
-one_alone (x ∷ y ∷ xs) d is = absurd (cc)
+one_alone it d is = absurd (cc)
 
 -- a write that is the only one may be set, whether it raises its cell's weight or not
 CanSet-either : (raised : Bool) (w : World) (write : Sighting) → raises w.cells write ≡ raised → CanTake w (write ∷ []) → CanSet w 9 (seen_place write) (patched_by_write w.cells write)

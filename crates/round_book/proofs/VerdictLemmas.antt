@@ -1,6 +1,6 @@
 -- There is always something that may be said of a turn.
-use Rattle.std.proofs.Common.{◌≡◌, ◌⊎◌, inl, inr, ⊎_elim, ℕ, Bool, true, false, not, ◌&&◌, ◌||◌, nat_eq, List, [], ◌∷◌, refl, sym, ◌∙◌, arith}
-use Rattle.std.proofs.lemmas.Bool.{eq-eqb, false≢true, or_parts}
+use Rattle.std.proofs.Common.{◌≡◌, ◌⊎◌, ⊎_elim, ℕ, Bool, true, false, not, ◌||◌, nat_eq, List, [], ◌∷◌, refl, sym, ◌∙◌, arith}
+use Rattle.std.proofs.lemmas.Bool.{and_cases, eq-eqb, false≢true, or_parts}
 use Rattle.std.proofs.lemmas.List.Elements.{Contains-append_right}
 use Rattle.hex_geometry.specs.declared.position.Pos.{Pos}
 use Rattle.cell_world.specs.declared.cell.Cell.{Cell}
@@ -23,11 +23,6 @@ use Rattle.round_book.specs.MachineLaws.{PutTurnsSettle}
 use Rattle.round_book.specs.Window.{HoldsIn, IsVerdict, Window, guess_for, look_for}
 use Rattle.round_book.proofs.BookLemmas.{IsVerdict-cause}
 use Rattle.round_book.proofs.CountLemmas.{look_holds-test, part-test, reads-test}
-
--- one of two tests
-and_fails : (x y : Bool) → (x && y) ≡ false → (x ≡ false) ⊎ (y ≡ false)
-and_fails true y fails = inr fails
-and_fails false y fails = inl refl
 
 not_fails : (x : Bool) → not x ≡ false → x ≡ true
 not_fails true fails = refl
@@ -58,11 +53,11 @@ find_part parts c d fails = ⊎_elim (differs_in parts c d Who) (λ a.
     ⊎_elim (differs_in parts c d Load) (λ e.
     ⊎_elim (differs_in parts c d Food) (λ f.
     ⊎_elim (differs_in parts c d RedMarks) (differs_in parts c d BlackMarks)
-    (and_fails (is_alike_if parts.red_marks RedMarks c d) (is_alike_if parts.black_marks BlackMarks c d) f))
-    (and_fails (is_alike_if parts.food Food c d) _ e))
-    (and_fails (is_alike_if parts.load Load c d) _ b))
-    (and_fails (is_alike_if parts.mind Mind c d) _ a))
-    (and_fails (is_alike_if parts.who Who c d) _ fails)
+    (and_cases (is_alike_if parts.red_marks RedMarks c d) (is_alike_if parts.black_marks BlackMarks c d) f))
+    (and_cases (is_alike_if parts.food Food c d) _ e))
+    (and_cases (is_alike_if parts.load Load c d) _ b))
+    (and_cases (is_alike_if parts.mind Mind c d) _ a))
+    (and_cases (is_alike_if parts.who Who c d) _ fails)
 
 -- a position that was read, and a part of it that differs
 record Change (reads : List Sighting) (cells : Cells) : Type 0 where
@@ -93,7 +88,7 @@ find_change [] cells fails = absurd (false≢true (sym fails))
 find_change (read ∷ reads) cells fails = ⊎_elim
     (first_change read reads cells)
     (λ later. later_change read reads cells (find_change reads cells later))
-    (and_fails (do_agree (seen_parts read) (seen_cell read) (cells (seen_place read))) (is_unchanged reads cells) fails)
+    (and_cases (do_agree (seen_parts read) (seen_cell read) (cells (seen_place read))) (is_unchanged reads cells) fails)
 
 -- why a look doesn't hold
 find_move : (look : LookValue) (now : Moment) → is_unchanged look.reads now.world.cells ≡ true → (not look.drew || nat_eq now.place look.guess) ≡ false → (found : Cause) × IsCause look now found
@@ -113,7 +108,7 @@ find_cause : (look : LookValue) (now : Moment) → look_holds look now.world.cel
 find_cause look now fails = ⊎_elim
     (λ changed. changed_so (find_change look.reads now.world.cells changed))
     (λ moved. go moved (is_unchanged look.reads now.world.cells) refl)
-    (and_fails (is_unchanged look.reads now.world.cells) (not look.drew || nat_eq now.place look.guess) fails)
+    (and_cases (is_unchanged look.reads now.world.cells) (not look.drew || nat_eq now.place look.guess) fails)
   where
     changed_so : Change look.reads now.world.cells → (found : Cause) × IsCause look now found
     changed_so change = (cause.Part change.at change.which, change.is_changed)

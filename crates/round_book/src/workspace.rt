@@ -43,6 +43,7 @@ impl Workspace {
     }
 
     // Takes room for the positions that so many turns write, seven each and no more than there are cells, and for their verdicts.
+    #[inline(always)]
     pub(crate) fn reserve(&mut self, turns: u32) -> Result<(), OutOfMemory>
         ensures rest { self.new ≡ record self.old { written = self.new.written; verdicts = self.new.verdicts } }
         ensures written { self.new.written.items ≡ self.old.written.items }

@@ -32,10 +32,9 @@ use Rattle.round_workers.proofs.BoardWays.{board-way, way-map}
 -- a look that was put, or not, and taken, or not, and what its slot has
 look-left : (window : Window) (ticket word put took : ℕ) (home : maybe.Option (maybe.Option BoardSlot)) (kept : IsLookKept window ticket word home put took 0 0)
     → (place : BoardSlot) × HasHome home place × (look_in place ≡ left_if put took (look_for window (window.from + ticket)))
-look-left window ticket word zero took home kept = let spare = kept.bare (let back = kept.back in omega arith) refl in (Spare spare.0, spare.1, refl)
 look-left window ticket word (suc zero) zero home kept = (OneLook (Some (look_for window (window.from + ticket))), kept.full refl refl, refl)
-look-left window ticket word (suc zero) (suc took) home kept = let spare = kept.bare (let back = kept.back in omega arith) refl in (Spare spare.0, spare.1, refl)
 look-left window ticket word (suc (suc put)) took home kept = absurd (let once = kept.once in omega arith)
+look-left window ticket word it took home kept = let spare = kept.bare (let back = kept.back in omega arith) refl in (Spare spare.0, spare.1, refl)
 
 -- what the last state has: how many tickets were drawn, the book, and the look of each ticket
 pub record IsLast (key : Basis) (v : View) (words : List ℕ) (slots : List BoardSlot) : Type 0 where
@@ -123,9 +122,8 @@ places-looked (p ∷ ps) = ap suc (places-looked ps)
 
 -- the look of each place
 pub looks-of : (places : List BoardSlot) (k : ℕ) → slice_index_or (map look_in places) k None ≡ look_in (slice_index_or places k Nothing)
-looks-of [] k = refl
-looks-of (p ∷ ps) zero = refl
 looks-of (p ∷ ps) (suc k) = looks-of ps k
+looks-of it k = refl
 
 snoc-append : (xs : List (Option LookValue)) (x : Option LookValue) (ys : List (Option LookValue)) → (xs ++ x ∷ []) ++ ys ≡ xs ++ x ∷ ys
 snoc-append [] x ys = refl

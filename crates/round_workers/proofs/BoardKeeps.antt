@@ -1,5 +1,5 @@
 -- What a step leaves as it was of a board's rule.
-use Rattle.std.proofs.Common.{◌≡◌, ◌≢◌, ℕ, zero, suc, ◌+◌, Bool, true, false, List, [], ◌∷◌, ◌++◌, length, set, sym, refl, ap, ◌∙◌, subst, ⊎_elim, arith, Option, Some, None}
+use Rattle.std.proofs.Common.{◌≡◌, ◌≢◌, ℕ, zero, ◌+◌, Bool, true, false, List, [], ◌∷◌, ◌++◌, length, set, sym, refl, ap, ◌∙◌, subst, ⊎_elim, arith, Option, Some, None}
 use mathlib.Core.Option as maybe
 use lib.ListN.{get_elem?}
 use Rattle.atomic_table.proofs.Lists.{at_set, at_snoc}
@@ -50,9 +50,8 @@ book-seen window word home a b c d d' none_more is = record { out = is.out; bit 
 
 -- who isn't numbered 0 isn't the first seat
 pub first-other : (about : Option Basis) (number : ℕ) → number ≢ 0 → first_one about number ≡ 0
-first-other None number ne = refl
 first-other (Some basis) zero ne = absurd (ne refl)
-first-other (Some basis) (suc number) ne = refl
+first-other it number ne = refl
 
 pub only-none : (b : Bool) (n : ℕ) → n ≡ 0 → only_if b n ≡ 0
 only-none true n e = e

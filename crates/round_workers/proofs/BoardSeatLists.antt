@@ -81,10 +81,9 @@ hired-more board workers more w all one is = All-same (IsHired board) more (work
 -- workers that have worked are the same
 numbers-worked : (board : Board) (old new : List Worker) → length new ≡ length old → ((i : ℕ) (d : Worker) → i < length old → HasWorked board (slice_index_or old i d) (slice_index_or new i d)) → seat_numbers new ≡ seat_numbers old
 numbers-worked board [] [] long worked = refl
-numbers-worked board [] (v ∷ vs) long worked = absurd (omega arith)
-numbers-worked board (u ∷ us) [] long worked = absurd (omega arith)
 numbers-worked board (u ∷ us) (v ∷ vs) long worked =
     ap₂ (λ (n : ℕ) (l : List ℕ). n ∷ l) (worked 0 u (omega arith)).number (numbers-worked board us vs (omega arith) (λ i d h. worked (suc i) d (omega arith)))
+numbers-worked board it that long worked = absurd (omega arith)
 
 pub manned-worked : (board : Board) (first : Seat) (old new : List Worker) → length new ≡ length old → ((i : ℕ) (d : Worker) → i < length old → HasWorked board (slice_index_or old i d) (slice_index_or new i d)) → IsManned board first old → IsManned board first new
 manned-worked board first old new long worked manned = record {
@@ -111,9 +110,8 @@ worker-new v made other alone free drew put bare = record {
 
 -- a look that was left is the one of its turn
 left-some : (put took : ℕ) (look : LookValue) → IfSome (left_if put took look) (λ found. found ≡ look)
-left-some zero took look = tt
 left-some (suc put) zero look = refl
-left-some (suc put) (suc took) look = tt
+left-some it took look = tt
 
 pub looks-left : (window : Window) (v : View) (places : List BoardSlot) → ((k : ℕ) → k < turns_in window → look_in (slice_index_or places k Nothing) ≡ left_look window v k) → AreLooks window places
 looks-left window v places are k h = subst (λ (o : Option LookValue). IfSome o (λ look. look ≡ look_for window (window.from + k))) (sym (are k h)) (left-some (times k v.put) (times k v.took) (look_for window (window.from + k)))

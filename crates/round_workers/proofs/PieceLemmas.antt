@@ -154,19 +154,17 @@ module _ (field : FieldValue) (from to : ℕ) where
   -- pieces whose looks are made
   pub done-looked : (old new : List Piece) → length new ≡ length old → ((i : ℕ) (d : Piece) → i < length old → IsPieceDone field from (get_or old i d) (get_or new i d)) → All IsLooked new
   done-looked [] [] len each = All-nil IsLooked
-  done-looked [] (y ∷ ys) len each = absurd (omega arith)
-  done-looked (x ∷ xs) [] len each = absurd (omega arith)
   done-looked (x ∷ xs) (y ∷ ys) len each =
       All-cons IsLooked y ys (looked-done x y (each 0 y (omega arith))) (done-looked xs ys (omega arith) (λ i d lt. each (suc i) d (omega arith)))
+  done-looked it that len each = absurd (omega arith)
 
   -- their shares stay
   pub done-shares : (old new : List Piece) → length new ≡ length old → ((i : ℕ) (d : Piece) → i < length old → IsPieceDone field from (get_or old i d) (get_or new i d)) → map (λ piece. piece.share) new ≡ map (λ piece. piece.share) old
   done-shares [] [] len each = refl
-  done-shares [] (y ∷ ys) len each = absurd (omega arith)
-  done-shares (x ∷ xs) [] len each = absurd (omega arith)
   done-shares (x ∷ xs) (y ∷ ys) len each =
       let here : y.share ≡ x.share = (each 0 y (omega arith)).share in
       ap₂ (λ s ss. s ∷ ss) here (done-shares xs ys (omega arith) (λ i d lt. each (suc i) d (omega arith)))
+  done-shares it that len each = absurd (omega arith)
 
 -- a piece that is next ends within what is left
 pub AreConsecutive-item : (pieces : List Piece) (i : ℕ) (piece : Piece) (from to : ℕ) → i < length pieces → piece ≡ get_or pieces i piece → AreConsecutive (map (λ p. p.share) (drop i pieces)) from to → piece.share.to ≤ to

@@ -84,11 +84,10 @@ ants_among-alike v w colour places all =
 has_foes-alike : (sheet : Sheet) (v w : Cells) (places : List Pos) (a b : Option Ant) → option_map identity_of a ≡ option_map identity_of b → (has_ant a ≡ true → AllByRecursion (λ n. Alike Who (v n) (w n)) places) →
     has_foes sheet v places a ≡ has_foes sheet w places b
 has_foes-alike sheet v w places None None who around = refl
-has_foes-alike sheet v w places None (Some b) who around = absurd (cc)
-has_foes-alike sheet v w places (Some a) None who around = absurd (cc)
 has_foes-alike sheet v w places (Some a) (Some b) who around =
     let one : identity_of a ≡ identity_of b = cc in
     ap (nat_le sheet.surround) (ants_among-alike v w (foe_of a.colour) places (around refl) ∙ ap (λ (i : Identity). ants_among w (foe_of i.colour) places) one)
+has_foes-alike sheet v w places it that who around = absurd (cc)
 
 -- a cell that is seen alike is surrounded in both or in none
 pub is_surrounded-alike : (sheet : Sheet) (v w : Cells) (x : Pos) → Sees v w x → is_surrounded sheet v x ≡ is_surrounded sheet w x

@@ -20,20 +20,12 @@ use Rattle.spec_record.specs.Patches.{parts_at, parts_there}
 -- a part is in a union where it is in one of the two
 pub has_part-union : (a b : Parts) (k : Part) → has_part (union a b) k ≡ (has_part a k || has_part b k)
 has_part-union a b Who = refl
-has_part-union a b Mind = refl
-has_part-union a b Load = refl
-has_part-union a b Food = refl
-has_part-union a b RedMarks = refl
-has_part-union a b BlackMarks = refl
+has_part-union a b it = refl
 
 -- no part is in the empty set
 pub has_part-none : (k : Part) → has_part no_parts k ≡ false
 has_part-none Who = refl
-has_part-none Mind = refl
-has_part-none Load = refl
-has_part-none Food = refl
-has_part-none RedMarks = refl
-has_part-none BlackMarks = refl
+has_part-none it = refl
 
 -- two sets with the same parts are one
 pub parts_same : (a b : Parts) → ((k : Part) → has_part a k ≡ has_part b k) → a ≡ b

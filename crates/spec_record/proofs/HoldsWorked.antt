@@ -53,30 +53,18 @@ marked_world asked = with_cells one_each (turn (mark_and_sense asked) 7 one_each
 own_same : (asked : Cond) → Agree who_and_mind (one_each.cells (at 1 2)) ((marked_world asked).cells (at 1 2))
 unfolding turn place_in put_cell same_pos cell_in opening rock floor
 own_same asked part.Who named = refl
-own_same asked part.Mind named = refl
-own_same asked part.Load named = refl
-own_same asked part.Food named = refl
-own_same asked part.RedMarks named = refl
-own_same asked part.BlackMarks named = refl
+own_same asked it named = refl
 
 -- so is the food of the marked cell
 food_same : Agree (only part.Food) (one_each.cells (at 1 1)) ((marked_world condition.Food).cells (at 1 1))
 unfolding turn place_in put_cell same_pos cell_in opening rock floor
-food_same part.Who named = refl
-food_same part.Mind named = refl
-food_same part.Load named = refl
-food_same part.Food named = refl
 food_same part.RedMarks named = absurd (false≢true named)
-food_same part.BlackMarks named = refl
+food_same it named = refl
 
 -- no part is read where the black ant asks for its own hill
 nothing_same : Agree no_parts (one_each.cells (at 1 1)) ((marked_world condition.Home).cells (at 1 1))
 nothing_same part.Who named = absurd (false≢true named)
-nothing_same part.Mind named = absurd (false≢true named)
-nothing_same part.Load named = absurd (false≢true named)
-nothing_same part.Food named = absurd (false≢true named)
-nothing_same part.RedMarks named = absurd (false≢true named)
-nothing_same part.BlackMarks named = absurd (false≢true named)
+nothing_same it named = absurd (false≢true named)
 
 -- a look that asks for food holds after the mark
 food_holds : Holds (mark_and_sense condition.Food) one_each 0 (marked_world condition.Food) 0 1

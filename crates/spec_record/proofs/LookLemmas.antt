@@ -1,7 +1,7 @@
 -- The look at a turn, by where its ant is and what it does.
-use Rattle.std.proofs.Common.{◌≡◌, ◌≢◌, ◌≤◌, ℕ, suc, Bool, true, false, if◌then◌else◌, ◌||◌, List, [], ◌∷◌, ◌++◌, map, length, Option, Some, None, refl, sym, ◌∙◌, ap, ap₂, subst}
+use Rattle.std.proofs.Common.{◌≡◌, ◌≢◌, ◌≤◌, ℕ, suc, Bool, true, false, if◌then◌else◌, List, [], ◌∷◌, ◌++◌, map, length, Option, Some, None, refl, sym, ◌∙◌, ap, ap₂, subst}
 use Rattle.std.specs.List.{AllByRecursion}
-use Rattle.std.proofs.lemmas.Bool.{cond-true, cond-false}
+use Rattle.std.proofs.lemmas.Bool.{or_parts, cond-true, cond-false}
 use Rattle.hex_geometry.specs.declared.position.Pos.{Pos}
 use Rattle.hex_geometry.specs.Neighbourhood.{adjacent_pos, sensed_pos}
 use Rattle.hex_geometry.specs.Position.{HasNeighbours, IsInner, IsInside}
@@ -129,20 +129,13 @@ blocked_ahead false q stays = absurd (cc)
 -- an ant that doesn't go stays, and senses the cell that it reads
 pub stays-seeing : (cells : Cells) (p : Pos) (ant : Ant) (seen : Cell) (instruction : Instr) → seen ≡ cells (read_at p ant instruction) → destination cells p ant instruction ≡ None → StaysSeeing cells p ant seen instruction
 stays-seeing cells p ant seen (Sense sight met unmet condition) is stays = is
-stays-seeing cells p ant seen (Mark i next) is stays = tt
-stays-seeing cells p ant seen (Unmark i next) is stays = tt
-stays-seeing cells p ant seen (PickUp met unmet) is stays = tt
-stays-seeing cells p ant seen (Drop next) is stays = tt
-stays-seeing cells p ant seen (Turn side next) is stays = tt
 stays-seeing cells p ant seen (Move met unmet) is stays = blocked_ahead (is_blocked (cells (adjacent_pos p ant.facing))) (adjacent_pos p ant.facing) stays
-stays-seeing cells p ant seen (Flip bound met unmet) is stays = tt
+stays-seeing cells p ant seen it is stays = tt
 
 -- what an ant that stays reads
 reads-stays : (sheet : Sheet) (cells : Cells) (p : Pos) (ant : Ant) (instruction : Instr) → destination cells p ant instruction ≡ None →
     with_cells_at cells (merged (claim p who_and_mind ∷ reads_besides sheet cells p ant instruction)) ≡ staying_reads cells p ant instruction
 reads-stays sheet cells p ant (Sense sight met unmet condition) stays = with_cells_at-merged cells (claim p who_and_mind ∷ claim (sensed_pos p ant.facing sight) (asked condition ant.colour) ∷ [])
-reads-stays sheet cells p ant (Mark i next) stays = with_cells_at-merged cells (claim p who_and_mind ∷ claim p (only (marks_part ant.colour)) ∷ [])
-reads-stays sheet cells p ant (Unmark i next) stays = with_cells_at-merged cells (claim p who_and_mind ∷ claim p (only (marks_part ant.colour)) ∷ [])
 reads-stays sheet cells p ant (PickUp met unmet) stays = with_cells_at-merged cells (claim p who_and_mind ∷ claim p load_and_food ∷ [])
 reads-stays sheet cells p ant (Drop next) stays = with_cells_at-merged cells (claim p who_and_mind ∷ claim p load_and_food ∷ [])
 reads-stays sheet cells p ant (Turn side next) stays = reads-nothing cells p
@@ -151,21 +144,20 @@ reads-stays sheet cells p ant (Move met unmet) stays =
     ap (λ claims. with_cells_at cells (merged (claim p who_and_mind ∷ claims))) (blocked_claims (is_blocked (cells q)) sheet cells p ant q met refl stays)
     ∙ with_cells_at-merged cells (claim p who_and_mind ∷ claim q (only part.Who) ∷ [])
 reads-stays sheet cells p ant (Flip bound met unmet) stays = reads-nothing cells p
+reads-stays sheet cells p ant it stays = with_cells_at-merged cells (claim p who_and_mind ∷ claim p (only (marks_part ant.colour)) ∷ [])
 
 -- what it writes
 writes-stays : (sheet : Sheet) (cells last : Cells) (p : Pos) (ant : Ant) (instruction : Instr) → destination cells p ant instruction ≡ None →
     with_cells_at last (merged (claim p (only part.Mind) ∷ writes_besides sheet cells p ant instruction)) ≡ staying_writes last p ant instruction
-writes-stays sheet cells last p ant (Sense sight met unmet condition) stays = one_claim last p (only part.Mind)
 writes-stays sheet cells last p ant (Mark i next) stays = two_claims last p (only part.Mind) (only (marks_part ant.colour))
 writes-stays sheet cells last p ant (Unmark i next) stays = two_claims last p (only part.Mind) (only (marks_part ant.colour))
 writes-stays sheet cells last p ant (PickUp met unmet) stays = two_claims last p (only part.Mind) load_and_food
 writes-stays sheet cells last p ant (Drop next) stays = two_claims last p (only part.Mind) load_and_food
-writes-stays sheet cells last p ant (Turn side next) stays = one_claim last p (only part.Mind)
 writes-stays sheet cells last p ant (Move met unmet) stays =
     let q : Pos = adjacent_pos p ant.facing in
     ap (λ claims. with_cells_at last (merged (claim p (only part.Mind) ∷ claims))) (blocked_writes (is_blocked (cells q)) sheet cells p ant q met refl stays)
     ∙ one_claim last p (only part.Mind)
-writes-stays sheet cells last p ant (Flip bound met unmet) stays = one_claim last p (only part.Mind)
+writes-stays sheet cells last p ant it stays = one_claim last p (only part.Mind)
 
 -- the look at an ant that stays
 pub look_by-stays : (sheet : Sheet) (seed : ℕ) (cells : Cells) (guess t : ℕ) (p : Pos) (ant : Ant) (instruction : Instr) (outcome : Outcome) → destination cells p ant instruction ≡ None → outcome ≡ execute sheet seed cells guess p ant instruction →
@@ -199,14 +191,8 @@ goes-ahead false sheet seed cells guess p ant met unmet q is goes =
     })
 
 pub goes_to : (sheet : Sheet) (seed : ℕ) (cells : Cells) (guess : ℕ) (p : Pos) (ant : Ant) (instruction : Instr) (q : Pos) → destination cells p ant instruction ≡ Some q → Goes sheet seed cells guess p ant instruction q
-goes_to sheet seed cells guess p ant (Sense sight met unmet condition) q there = absurd (cc)
-goes_to sheet seed cells guess p ant (Mark i next) q there = absurd (cc)
-goes_to sheet seed cells guess p ant (Unmark i next) q there = absurd (cc)
-goes_to sheet seed cells guess p ant (PickUp met unmet) q there = absurd (cc)
-goes_to sheet seed cells guess p ant (Drop next) q there = absurd (cc)
-goes_to sheet seed cells guess p ant (Turn side next) q there = absurd (cc)
 goes_to sheet seed cells guess p ant (Move met unmet) q there = goes-ahead (is_blocked (cells (adjacent_pos p ant.facing))) sheet seed cells guess p ant met unmet q refl there
-goes_to sheet seed cells guess p ant (Flip bound met unmet) q there = absurd (cc)
+goes_to sheet seed cells guess p ant it q there = absurd (cc)
 
 -- the claims of an ant that goes, as sightings one after another
 reads-goes : (sheet : Sheet) (cells last : Cells) (p : Pos) (ant : Ant) (q : Pos) (next : ℕ) → 1 ≤ q.x → 1 ≤ q.y → last ≡ check_all sheet (stepped sheet cells p ant q next) (places_around q) →
@@ -236,11 +222,6 @@ writes-goes sheet cells last p ant q next left top other is =
     ∙ ap (λ list. all_sighted (sighted list (q, whole_ant, last q)) (with_cells_at last corpses)) (cond-true _ ((p, whole_ant, last p) ∷ []) _ (same_pos_self p))
     ∙ ap (λ list. all_sighted list (with_cells_at last corpses)) (cond-false _ _ ((p, whole_ant, last p) ∷ (q, whole_ant, last q) ∷ []) (same_pos_apart p q other))
     ∙ ap (all_sighted ((p, whole_ant, last p) ∷ (q, whole_ant, last q) ∷ [])) left_there
-
--- what isn't blocked isn't rocky
-first-false : (a b : Bool) → (a || b) ≡ false → a ≡ false
-first-false true b wrong = absurd (cc)
-first-false false b free = refl
 
 -- the turn of an ant that acts is its instruction's
 turn-instruction : (minds : Minds) (seed : ℕ) (w : World) (guess t : ℕ) (p : Pos) (ant : Ant) → place_in w t ≡ Some p → (w.cells p).ant ≡ Some ant → ant.resting ≡ 0 →
@@ -313,7 +294,7 @@ module _ {minds : Minds} {seed : ℕ} {w : World} {guess t : ℕ} {p : Pos} {ant
     there = goes_to minds.sheet seed w.cells guess p ant instruction q way
 
     clear-there : (w.cells q).rocky ≡ false
-    clear-there = first-false (w.cells q).rocky (has_ant (w.cells q).ant) there.free
+    clear-there = (or_parts (w.cells q).rocky (has_ant (w.cells q).ant) there.free).0
 
     -- where it goes
     pub inner-there : IsInner w.width w.height q
@@ -414,10 +395,5 @@ calm-once cells p q =
 -- the cell that an ant that stays reads is inside
 pub read_at-inside : {width height : ℕ} (p : Pos) (ant : Ant) (instruction : Instr) → IsInner width height p → IsInside width height (read_at p ant instruction)
 read_at-inside p ant (Sense sight met unmet condition) inner = sensed_pos_inside ant.facing sight inner
-read_at-inside p ant (Mark i next) inner = inner_inside inner
-read_at-inside p ant (Unmark i next) inner = inner_inside inner
-read_at-inside p ant (PickUp met unmet) inner = inner_inside inner
-read_at-inside p ant (Drop next) inner = inner_inside inner
-read_at-inside p ant (Turn side next) inner = inner_inside inner
 read_at-inside p ant (Move met unmet) inner = adjacent_pos_inside ant.facing inner
-read_at-inside p ant (Flip bound met unmet) inner = inner_inside inner
+read_at-inside p ant it inner = inner_inside inner

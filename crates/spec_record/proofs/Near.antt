@@ -7,7 +7,7 @@ use Rattle.std.proofs.lemmas.List.{get_or-replicate, get_or-set_other, get_or-se
 use Rattle.list_lemmas.proofs.AllElements.{AllByRecursion-append}
 use Rattle.hex_geometry.specs.declared.position.Pos.{Pos}
 use Rattle.hex_geometry.specs.declared.direction.Dir.{Dir}
-use Rattle.hex_geometry.specs.declared.direction.Dir.TheVariants.{East, SouthEast, SouthWest, West, NorthWest, NorthEast}
+use Rattle.hex_geometry.specs.declared.direction.Dir.TheVariants.{East}
 use Rattle.hex_geometry.specs.Direction.{dir_of}
 use Rattle.hex_geometry.specs.Neighbourhood.{adjacent_pos, neighbours_of}
 use Rattle.hex_geometry.specs.Position.{same_pos}
@@ -26,11 +26,7 @@ use Rattle.spec_record.specs.Inner.Sightings.{sighted}
 pub within-beside : (q : Pos) (d : Dir) → IsWithin 1 q (adjacent_pos q d)
 unfolding adjacent_pos
 within-beside q East = record { right = omega arith; left = omega arith; down = omega arith; up = omega arith }
-within-beside q SouthEast = record { right = omega arith; left = omega arith; down = omega arith; up = omega arith }
-within-beside q SouthWest = record { right = omega arith; left = omega arith; down = omega arith; up = omega arith }
-within-beside q West = record { right = omega arith; left = omega arith; down = omega arith; up = omega arith }
-within-beside q NorthWest = record { right = omega arith; left = omega arith; down = omega arith; up = omega arith }
-within-beside q NorthEast = record { right = omega arith; left = omega arith; down = omega arith; up = omega arith }
+within-beside q it = record { right = omega arith; left = omega arith; down = omega arith; up = omega arith }
 
 pub within-self : (q : Pos) → IsWithin 1 q q
 within-self q = record { right = omega arith; left = omega arith; down = omega arith; up = omega arith }

@@ -6,7 +6,7 @@ use Rattle.hex_geometry.specs.Direction.{directions, opposite, turned_by}
 use Rattle.hex_geometry.specs.Neighbourhood.{adjacent_pos, neighbours_of}
 use Rattle.hex_geometry.specs.Position.{same_pos}
 use Rattle.hex_geometry.specs.declared.direction.Dir.{Dir}
-use Rattle.hex_geometry.specs.declared.direction.Dir.TheVariants.{East, SouthEast, SouthWest, West, NorthWest, NorthEast}
+use Rattle.hex_geometry.specs.declared.direction.Dir.TheVariants.{East}
 use Rattle.hex_geometry.specs.declared.direction.Side.TheVariants.{Left, Right}
 use Rattle.hex_geometry.proofs.Beside.{adjacent_pos_back}
 use Rattle.hex_geometry.proofs.Places.{pos_same, same_pos_equal}
@@ -55,12 +55,8 @@ among-right p (q ∷ some) more is = among-later p q (some ++ more) (among-right
 -- what each direction brings is among what all bring
 among-map : (f : Dir → Pos) (d : Dir) → among (f d) (map f directions) ≡ true
 unfolding directions
-among-map f East = among-first (f East) (f East) (f SouthEast ∷ f SouthWest ∷ f West ∷ f NorthWest ∷ f NorthEast ∷ []) refl
-among-map f SouthEast = among-later (f SouthEast) (f East) (f SouthEast ∷ f SouthWest ∷ f West ∷ f NorthWest ∷ f NorthEast ∷ []) (among-first (f SouthEast) (f SouthEast) (f SouthWest ∷ f West ∷ f NorthWest ∷ f NorthEast ∷ []) refl)
-among-map f SouthWest = among-later (f SouthWest) (f East) (f SouthEast ∷ f SouthWest ∷ f West ∷ f NorthWest ∷ f NorthEast ∷ []) (among-later (f SouthWest) (f SouthEast) (f SouthWest ∷ f West ∷ f NorthWest ∷ f NorthEast ∷ []) (among-first (f SouthWest) (f SouthWest) (f West ∷ f NorthWest ∷ f NorthEast ∷ []) refl))
-among-map f West = among-later (f West) (f East) (f SouthEast ∷ f SouthWest ∷ f West ∷ f NorthWest ∷ f NorthEast ∷ []) (among-later (f West) (f SouthEast) (f SouthWest ∷ f West ∷ f NorthWest ∷ f NorthEast ∷ []) (among-later (f West) (f SouthWest) (f West ∷ f NorthWest ∷ f NorthEast ∷ []) (among-first (f West) (f West) (f NorthWest ∷ f NorthEast ∷ []) refl)))
-among-map f NorthWest = among-later (f NorthWest) (f East) (f SouthEast ∷ f SouthWest ∷ f West ∷ f NorthWest ∷ f NorthEast ∷ []) (among-later (f NorthWest) (f SouthEast) (f SouthWest ∷ f West ∷ f NorthWest ∷ f NorthEast ∷ []) (among-later (f NorthWest) (f SouthWest) (f West ∷ f NorthWest ∷ f NorthEast ∷ []) (among-later (f NorthWest) (f West) (f NorthWest ∷ f NorthEast ∷ []) (among-first (f NorthWest) (f NorthWest) (f NorthEast ∷ []) refl))))
-among-map f NorthEast = among-later (f NorthEast) (f East) (f SouthEast ∷ f SouthWest ∷ f West ∷ f NorthWest ∷ f NorthEast ∷ []) (among-later (f NorthEast) (f SouthEast) (f SouthWest ∷ f West ∷ f NorthWest ∷ f NorthEast ∷ []) (among-later (f NorthEast) (f SouthWest) (f West ∷ f NorthWest ∷ f NorthEast ∷ []) (among-later (f NorthEast) (f West) (f NorthWest ∷ f NorthEast ∷ []) (among-later (f NorthEast) (f NorthWest) (f NorthEast ∷ []) (among-first (f NorthEast) (f NorthEast) [] refl)))))
+among-map f East = search (among-first, among-later)
+among-map f d = search (among-first, among-later) depth 8
 
 -- the neighbours of a position are among those that are checked around it
 pub among-beside : (q : Pos) (d : Dir) → among (adjacent_pos q d) (places_around q) ≡ true
@@ -89,70 +85,25 @@ ring-slanted q d = among-right (slanted q d) (places_around q) (map (straight q)
 right_twice : (q : Pos) (d : Dir) → 1 ≤ q.x → 1 ≤ q.y → 1 ≤ (adjacent_pos q d).x → 1 ≤ (adjacent_pos q d).y → adjacent_pos (adjacent_pos q d) (turned_by (turned_by d Right) Right) ≡ adjacent_pos q (turned_by d Right)
 unfolding adjacent_pos turned_by
 right_twice q East left top in_left in_top = pos_same (omega arith) (omega arith)
-right_twice q SouthEast left top in_left in_top = pos_same (omega arith) (omega arith)
-right_twice q SouthWest left top in_left in_top = pos_same (omega arith) (omega arith)
-right_twice q West left top in_left in_top = pos_same (omega arith) (omega arith)
-right_twice q NorthWest left top in_left in_top = pos_same (omega arith) (omega arith)
-right_twice q NorthEast left top in_left in_top = pos_same (omega arith) (omega arith)
+right_twice q d left top in_left in_top = pos_same (omega arith) (omega arith)
 
 left_twice : (q : Pos) (d : Dir) → 1 ≤ q.x → 1 ≤ q.y → 1 ≤ (adjacent_pos q d).x → 1 ≤ (adjacent_pos q d).y → adjacent_pos (adjacent_pos q d) (turned_by (turned_by d Left) Left) ≡ adjacent_pos q (turned_by d Left)
 unfolding adjacent_pos turned_by
 left_twice q East left top in_left in_top = pos_same (omega arith) (omega arith)
-left_twice q SouthEast left top in_left in_top = pos_same (omega arith) (omega arith)
-left_twice q SouthWest left top in_left in_top = pos_same (omega arith) (omega arith)
-left_twice q West left top in_left in_top = pos_same (omega arith) (omega arith)
-left_twice q NorthWest left top in_left in_top = pos_same (omega arith) (omega arith)
-left_twice q NorthEast left top in_left in_top = pos_same (omega arith) (omega arith)
+left_twice q d left top in_left in_top = pos_same (omega arith) (omega arith)
 
 -- two steps, the second turned to the left, lead where the same two lead in the other order
 left_once : (q : Pos) (d : Dir) → 1 ≤ q.x → 1 ≤ q.y → 1 ≤ (adjacent_pos q d).x → 1 ≤ (adjacent_pos q d).y → adjacent_pos (adjacent_pos q d) (turned_by d Left) ≡ slanted q (turned_by d Left)
 unfolding adjacent_pos turned_by
 left_once q East left top in_left in_top = pos_same (omega arith) (omega arith)
-left_once q SouthEast left top in_left in_top = pos_same (omega arith) (omega arith)
-left_once q SouthWest left top in_left in_top = pos_same (omega arith) (omega arith)
-left_once q West left top in_left in_top = pos_same (omega arith) (omega arith)
-left_once q NorthWest left top in_left in_top = pos_same (omega arith) (omega arith)
-left_once q NorthEast left top in_left in_top = pos_same (omega arith) (omega arith)
+left_once q d left top in_left in_top = pos_same (omega arith) (omega arith)
 
 -- what holds of the six turns of a direction holds of every direction
 each_turn : (P : Dir → Dir → Type 0) (d e : Dir) → P d d → P d (turned_by d Right) → P d (turned_by (turned_by d Right) Right) → P d (opposite d) → P d (turned_by (turned_by d Left) Left) → P d (turned_by d Left) → P d e
 unfolding turned_by opposite
 each_turn P East East a b c x y z = a
-each_turn P East SouthEast a b c x y z = b
-each_turn P East SouthWest a b c x y z = c
-each_turn P East West a b c x y z = x
-each_turn P East NorthWest a b c x y z = y
-each_turn P East NorthEast a b c x y z = z
-each_turn P SouthEast East a b c x y z = z
-each_turn P SouthEast SouthEast a b c x y z = a
-each_turn P SouthEast SouthWest a b c x y z = b
-each_turn P SouthEast West a b c x y z = c
-each_turn P SouthEast NorthWest a b c x y z = x
-each_turn P SouthEast NorthEast a b c x y z = y
-each_turn P SouthWest East a b c x y z = y
-each_turn P SouthWest SouthEast a b c x y z = z
-each_turn P SouthWest SouthWest a b c x y z = a
-each_turn P SouthWest West a b c x y z = b
-each_turn P SouthWest NorthWest a b c x y z = c
-each_turn P SouthWest NorthEast a b c x y z = x
-each_turn P West East a b c x y z = x
-each_turn P West SouthEast a b c x y z = y
-each_turn P West SouthWest a b c x y z = z
-each_turn P West West a b c x y z = a
-each_turn P West NorthWest a b c x y z = b
-each_turn P West NorthEast a b c x y z = c
-each_turn P NorthWest East a b c x y z = c
-each_turn P NorthWest SouthEast a b c x y z = x
-each_turn P NorthWest SouthWest a b c x y z = y
-each_turn P NorthWest West a b c x y z = z
-each_turn P NorthWest NorthWest a b c x y z = a
-each_turn P NorthWest NorthEast a b c x y z = b
-each_turn P NorthEast East a b c x y z = b
-each_turn P NorthEast SouthEast a b c x y z = c
-each_turn P NorthEast SouthWest a b c x y z = x
-each_turn P NorthEast West a b c x y z = y
-each_turn P NorthEast NorthWest a b c x y z = z
-each_turn P NorthEast NorthEast a b c x y z = a
+each_turn P d East a b c x y z = assumption
+each_turn P d e a b c x y z = assumption
 
 -- the neighbours of a neighbour that is not on the rim are in the ring
 pub ring-beyond : (q : Pos) (d e : Dir) → 1 ≤ q.x → 1 ≤ q.y → 1 ≤ (adjacent_pos q d).x → 1 ≤ (adjacent_pos q d).y → among (adjacent_pos (adjacent_pos q d) e) (ring q) ≡ true

@@ -3,7 +3,7 @@ use Rattle.std.proofs.Common.{◌≡◌, inl, inr, ℕ, zero, suc, ◌+◌, ◌�
 use Rattle.std.specs.List.{AllByRecursion, flat_map, refill}
 use Rattle.std.proofs.Math.Seq.{drop-cons, drop-length, take-length}
 use Rattle.std.proofs.lemmas.List.{append-nil, length-set}
-use Rattle.std.proofs.lemmas.Bool.{cases_Bool, cond-false, cond-true, or_right}
+use Rattle.std.proofs.lemmas.Bool.{or_left, cases_Bool, cond-false, cond-true, or_right}
 use Rattle.hex_geometry.specs.declared.position.Pos.{Pos}
 use Rattle.hex_geometry.specs.Position.{same_pos}
 use Rattle.hex_geometry.proofs.Places.{same_pos_true}
@@ -162,10 +162,6 @@ pub or_rest : (a b : Bool) → a ≡ false → (a || b) ≡ true → b ≡ true
 or_rest true b wrong either = absurd (cc)
 or_rest false b is either = either
 
-or-first : (a b : Bool) → a ≡ true → (a || b) ≡ true
-or-first true b first = refl
-or-first false b first = absurd (cc)
-
 without-length : (p : Pos) (places : List Pos) → among p places ≡ true → length places ≡ suc (length (without p places))
 without-length p [] is = absurd (cc)
 without-length p (q ∷ places) is =
@@ -180,7 +176,7 @@ without-among p r (q ∷ places) other is =
     elim (cases_Bool (same_pos q p)) [
       | inl same ↦ rw (cond-true _ _ _ same) (or_rest (same_pos q r) _ (ap (λ s. same_pos s r) (same_pos_true q p same) ∙ other) is)
       | inr apart ↦ rw (cond-false _ _ _ apart) (elim (cases_Bool (same_pos q r)) [
-        | inl here ↦ or-first (same_pos q r) _ here
+        | inl here ↦ or_left (same_pos q r) _ here
         | inr there ↦ or_right (same_pos q r) _ (without-among p r places other (or_rest _ _ there is))
       ])
     ]

@@ -15,7 +15,7 @@ use Rattle.cell_world.specs.Valid.{Valid}
 use Rattle.cell_world.specs.World.{Cells, World, place_in}
 use Rattle.cell_world.proofs.Places.{ant-clear}
 use Rattle.brain_read.specs.declared.instr.Instr.{Instr}
-use Rattle.brain_read.specs.declared.instr.Instr.TheVariants.{Sense, Mark, Unmark, PickUp, Drop, Turn, Move, Flip}
+use Rattle.brain_read.specs.declared.instr.Instr.TheVariants.{Move}
 use Rattle.ant_turn.specs.Kills.{check_at, is_surrounded, places_around}
 use Rattle.ant_turn.specs.Minds.{Minds, mind_of}
 use Rattle.ant_turn.specs.Sheet.{Sheet}
@@ -134,24 +134,12 @@ module _ (minds : Minds) (w : World) (valid : Valid w) (p : Pos) (ant : Ant) (is
 
   -- what an instruction writes and reads
   besides_writes-few : (instruction : Instr) → length (merged (claim p (only part.Mind) ∷ writes_besides minds.sheet w.cells p ant instruction)) ≤ 7
-  besides_writes-few (Sense sight met unmet condition) = merged-fewer (claim p (only part.Mind) ∷ writes_besides minds.sheet w.cells p ant (Sense sight met unmet condition)) 7 (omega arith)
-  besides_writes-few (Mark i next) = merged-fewer (claim p (only part.Mind) ∷ writes_besides minds.sheet w.cells p ant (Mark i next)) 7 (omega arith)
-  besides_writes-few (Unmark i next) = merged-fewer (claim p (only part.Mind) ∷ writes_besides minds.sheet w.cells p ant (Unmark i next)) 7 (omega arith)
-  besides_writes-few (PickUp met unmet) = merged-fewer (claim p (only part.Mind) ∷ writes_besides minds.sheet w.cells p ant (PickUp met unmet)) 7 (omega arith)
-  besides_writes-few (Drop next) = merged-fewer (claim p (only part.Mind) ∷ writes_besides minds.sheet w.cells p ant (Drop next)) 7 (omega arith)
-  besides_writes-few (Turn side next) = merged-fewer (claim p (only part.Mind) ∷ writes_besides minds.sheet w.cells p ant (Turn side next)) 7 (omega arith)
   besides_writes-few (Move met unmet) = move_writes-few met (is_blocked (w.cells (adjacent_pos p ant.facing)))
-  besides_writes-few (Flip bound met unmet) = merged-fewer (claim p (only part.Mind) ∷ writes_besides minds.sheet w.cells p ant (Flip bound met unmet)) 7 (omega arith)
+  besides_writes-few it = merged-fewer (claim p (only part.Mind) ∷ writes_besides minds.sheet w.cells p ant it) 7 (omega arith)
 
   besides_reads-few : (instruction : Instr) → length (merged (claim p who_and_mind ∷ reads_besides minds.sheet w.cells p ant instruction)) ≤ 19
-  besides_reads-few (Sense sight met unmet condition) = merged-fewer (claim p who_and_mind ∷ reads_besides minds.sheet w.cells p ant (Sense sight met unmet condition)) 19 (omega arith)
-  besides_reads-few (Mark i next) = merged-fewer (claim p who_and_mind ∷ reads_besides minds.sheet w.cells p ant (Mark i next)) 19 (omega arith)
-  besides_reads-few (Unmark i next) = merged-fewer (claim p who_and_mind ∷ reads_besides minds.sheet w.cells p ant (Unmark i next)) 19 (omega arith)
-  besides_reads-few (PickUp met unmet) = merged-fewer (claim p who_and_mind ∷ reads_besides minds.sheet w.cells p ant (PickUp met unmet)) 19 (omega arith)
-  besides_reads-few (Drop next) = merged-fewer (claim p who_and_mind ∷ reads_besides minds.sheet w.cells p ant (Drop next)) 19 (omega arith)
-  besides_reads-few (Turn side next) = merged-fewer (claim p who_and_mind ∷ reads_besides minds.sheet w.cells p ant (Turn side next)) 19 (omega arith)
   besides_reads-few (Move met unmet) = move_reads-few met (is_blocked (w.cells (adjacent_pos p ant.facing))) refl
-  besides_reads-few (Flip bound met unmet) = merged-fewer (claim p who_and_mind ∷ reads_besides minds.sheet w.cells p ant (Flip bound met unmet)) 19 (omega arith)
+  besides_reads-few it = merged-fewer (claim p who_and_mind ∷ reads_besides minds.sheet w.cells p ant it) 19 (omega arith)
 
   -- what it does when it acts or rests
   acting_writes-few : (resting : ℕ) → length (merged (claim p (only part.Mind) ∷ writes_acting resting minds w.cells p ant)) ≤ 7

@@ -70,10 +70,9 @@ IsSameAnt-then (Some ant) (Some there) (Some another) who same = let one : ident
 
 -- four tests of which one holds
 one_of_four : (a b c d : Bool) → ((a || c) || (b || d)) ≡ true → ((a || b) ≡ true) ⊎ ((c || d) ≡ true)
-one_of_four true b c d any = inl refl
 one_of_four false b true d any = inr refl
-one_of_four false true false d any = inl refl
 one_of_four false false false d any = inr any
+one_of_four it b c d any = inl refl
 
 -- a named part brings another that it is never named without
 union_brings : (x y u v : Bool) → (x ≡ true → y ≡ true) → (u ≡ true → v ≡ true) → (x || u) ≡ true → (y || v) ≡ true

@@ -52,9 +52,8 @@ pub record SameOutcome (claims : List Claim) (v w : Cells) (one other : Outcome)
 -- whether an ant that may not be there carries food
 is_laden-alike : (a b : Option Ant) → option_map (λ ant. ant.laden) a ≡ option_map (λ ant. ant.laden) b → is_laden a ≡ is_laden b
 is_laden-alike None None load = refl
-is_laden-alike None (Some b) load = absurd (cc)
-is_laden-alike (Some a) None load = absurd (cc)
 is_laden-alike (Some a) (Some b) load = some_one load
+is_laden-alike it that load = absurd (cc)
 
 marks_of-alike : (colour : Colour) (c d : Cell) → Agree (only (marks_part colour)) c d → marks_of colour c ≡ marks_of colour d
 marks_of-alike Red c d agree = agree part.RedMarks refl

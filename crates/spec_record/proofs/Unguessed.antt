@@ -5,7 +5,7 @@ use Rattle.hex_geometry.specs.declared.position.Pos.{Pos}
 use Rattle.cell_world.specs.declared.ant.Ant.{Ant}
 use Rattle.cell_world.specs.World.{Cells, World, place_in}
 use Rattle.brain_read.specs.declared.instr.Instr.{Instr}
-use Rattle.brain_read.specs.declared.instr.Instr.TheVariants.{Sense, Mark, Unmark, PickUp, Drop, Turn, Move, Flip}
+use Rattle.brain_read.specs.declared.instr.Instr.TheVariants.{Flip}
 use Rattle.ant_turn.specs.Minds.{Minds, mind_of}
 use Rattle.ant_turn.specs.Sheet.{Sheet}
 use Rattle.ant_turn.specs.Turn.{Outcome, acts, execute, instruction_at, turn, turn_from, turn_at}
@@ -17,14 +17,8 @@ use Rattle.spec_record.specs.Writes.{writes}
 
 -- an instruction other than a Flip
 execute-unguessed : (sheet : Sheet) (seed : ℕ) (cells : Cells) (one other : ℕ) (p : Pos) (ant : Ant) (instruction : Instr) → is_flip instruction ≡ false → execute sheet seed cells one p ant instruction ≡ execute sheet seed cells other p ant instruction
-execute-unguessed sheet seed cells one other p ant (Sense sight met unmet condition) drawless = refl
-execute-unguessed sheet seed cells one other p ant (Mark i next) drawless = refl
-execute-unguessed sheet seed cells one other p ant (Unmark i next) drawless = refl
-execute-unguessed sheet seed cells one other p ant (PickUp met unmet) drawless = refl
-execute-unguessed sheet seed cells one other p ant (Drop next) drawless = refl
-execute-unguessed sheet seed cells one other p ant (Turn side next) drawless = refl
-execute-unguessed sheet seed cells one other p ant (Move met unmet) drawless = refl
 execute-unguessed sheet seed cells one other p ant (Flip bound met unmet) drawless = absurd (cc)
+execute-unguessed sheet seed cells one other p ant it drawless = refl
 
 -- an ant that rests, or executes one
 acts-unguessed : (n : ℕ) (minds : Minds) (seed : ℕ) (cells : Cells) (one other : ℕ) (p : Pos) (ant : Ant) → flips_now n minds ant ≡ false → acts n minds seed cells one p ant ≡ acts n minds seed cells other p ant

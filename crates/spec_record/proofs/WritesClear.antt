@@ -11,7 +11,7 @@ use Rattle.cell_world.specs.World.{Cells, World, place_in, put}
 use Rattle.cell_world.proofs.Places.{ant-clear}
 use Rattle.cell_world.proofs.ValidLemmas.{put_cell-all}
 use Rattle.brain_read.specs.declared.instr.Instr.{Instr}
-use Rattle.brain_read.specs.declared.instr.Instr.TheVariants.{Sense, Mark, Unmark, PickUp, Drop, Turn, Move, Flip}
+use Rattle.brain_read.specs.declared.instr.Instr.TheVariants.{Sense, Mark, Turn, Move, Flip}
 use Rattle.ant_turn.specs.Kills.{check_at, is_surrounded, places_around}
 use Rattle.ant_turn.specs.Minds.{Minds, mind_of}
 use Rattle.ant_turn.specs.Sheet.{Sheet}
@@ -80,12 +80,10 @@ module _ (w : World) (valid : Valid w) (p : Pos) (ant : Ant) (is : (w.cells p).a
   besides_clear : (sheet : Sheet) (instruction : Instr) → AreClear (positions (writes_besides sheet w.cells p ant instruction))
   besides_clear sheet (Sense sight met unmet condition) = tt
   besides_clear sheet (Mark i next) = (here_clear, tt)
-  besides_clear sheet (Unmark i next) = (here_clear, tt)
-  besides_clear sheet (PickUp met unmet) = (here_clear, tt)
-  besides_clear sheet (Drop next) = (here_clear, tt)
   besides_clear sheet (Turn side next) = tt
   besides_clear sheet (Move met unmet) = move_clear sheet met (is_blocked (w.cells (adjacent_pos p ant.facing))) refl
   besides_clear sheet (Flip bound met unmet) = tt
+  besides_clear sheet it = (here_clear, tt)
 
   acting_clear : (minds : Minds) (resting : ℕ) → AreClear (positions (writes_acting resting minds w.cells p ant))
   acting_clear minds zero = besides_clear minds.sheet (instruction_at (mind_of minds ant.colour) ant.state)

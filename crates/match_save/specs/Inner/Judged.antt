@@ -5,7 +5,8 @@ use Rattle.brain_read.specs.Grammar.{StatesBelow}
 use Rattle.cell_world.specs.Grid.{Grid}
 use Rattle.match_save.specs.declared.fault.SaveFault.{SaveFault}
 use Rattle.match_save.specs.declared.fault.SaveFault.TheVariants.{BadLine, BadState, OutOfMemory}
-use Rattle.match_save.specs.Answers.{IsFaultOf}
+use Rattle.ant_base.specs.Answers.{IsFaultOr}
+use Rattle.match_save.specs.Faulty.{IsSaveFault}
 use Rattle.match_save.specs.Draft.{Draft}
 use Rattle.match_save.specs.Saved.{IsSaveText, SavedValue, saved_of}
 use Rattle.match_save.specs.State.{IsState, grid_of_draft}
@@ -35,4 +36,4 @@ Judges d (Err fault) = Refutes (IsState d) fault
 -- the save of a text, or the text's fault
 abbrev pub ReadsSave : List ℕ → Result SavedValue SaveFault → Type 0
 ReadsSave text (Ok saved) = IsSaveText text saved
-ReadsSave text (Err fault) = IsFaultOf text fault
+ReadsSave text (Err fault) = IsFaultOr OutOfMemory (IsSaveFault text) fault

@@ -3,7 +3,7 @@ use Rattle.std.proofs.lemmas.Result.{err_from_is_err_and}
 use Rattle.brain_read.specs.Soundness.{IsBrain}
 use Rattle.ant_asm.specs.Answers.{IsAssembledText}
 use Rattle.ant_asm.specs.Inner.ProgramView.{AreBodiesOf}
-use Rattle.ant_asm.proofs.Expansion.{fault-of, fault-only, main-brain, no-fault, program-assembled, text-assembled, want-only}
+use Rattle.ant_asm.proofs.Expansion.{fault-only, main-brain, no-fault, program-assembled, text-assembled, want-only}
 use Rattle.ant_asm.proofs.LabelGames.{game-labelled}
 use Rattle.ant_asm.proofs.assembly.assemble.Goals as goal
 use Rattle.ant_asm.proofs.assembly.assemble.Goals.{After-with_brain}
@@ -11,7 +11,7 @@ use Rattle.ant_asm.proofs.assembly.assemble.Goals.{After-with_brain}
 pub returns-in_err-bodies-clause-fault : goal.returns-in_err-bodies-clause-fault
 returns-in_err-bodies-clause-fault c =
     let p = err_from_is_err_and c.from_residual.result c.from_residual.ensures.1 in
-    rw (p.1, p.2) (fault-of c.args.text.now c.in_err-bodies.field-0.0 c.in_err-bodies.ensures.fault)
+    rw (p.1, p.2) c.in_err-bodies.ensures.fault
 
 pub returns-in_err-bodies-clause-every_program : goal.returns-in_err-bodies-clause-every_program
 returns-in_err-bodies-clause-every_program c = λ main program.

@@ -149,6 +149,3 @@ returns-clause-places t c =
     (ap (λ (k : ℕ). from_place k (tree_at c.args.bodies.now c.args.number)) (last ∙ ap length size)
     ∙ body_end c.args.bodies.now c.args.number c.index-bodies-number.result c.requires.good c.requires.known c.index-bodies-number.is)
     c.loop-place.invariant.0).1
-
-pub returns-clause-path : goal.returns-clause-path
-returns-clause-path t c = c.loop-place.invariant.1

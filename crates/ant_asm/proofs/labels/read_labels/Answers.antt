@@ -1,5 +1,5 @@
 use Rattle.std.proofs.lemmas.Result.{err_from_is_err_and}
-use Rattle.ant_asm.proofs.Expansion.{fault-of, fault-only, want-only}
+use Rattle.ant_asm.proofs.Expansion.{fault-only, want-only}
 use Rattle.ant_asm.proofs.LabelsRead.{are-listed, labels-fault, labels-read, one-labels}
 use Rattle.ant_asm.specs.Inner.Outlines.{listed}
 use Rattle.ant_asm.proofs.labels.read_labels.Goals as goal
@@ -7,7 +7,7 @@ use Rattle.ant_asm.proofs.labels.read_labels.Goals as goal
 pub returns-in_err-_program-clause-fault : goal.returns-in_err-_program-clause-fault
 returns-in_err-_program-clause-fault c =
     let p = err_from_is_err_and c.from_residual.result c.from_residual.ensures.1 in
-    rw (p.1, p.2) (fault-of c.args.text.now c.in_err-_program.field-0.0 c.in_err-_program.ensures.fault)
+    rw (p.1, p.2) c.in_err-_program.ensures.fault
 
 pub returns-in_err-_program-clause-every_labels : goal.returns-in_err-_program-clause-every_labels
 returns-in_err-_program-clause-every_labels c = λ labels are.

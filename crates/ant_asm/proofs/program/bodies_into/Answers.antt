@@ -6,9 +6,3 @@ pub returns-in_err-read_lines-clause-fault : goal.returns-in_err-read_lines-clau
 returns-in_err-read_lines-clause-fault c =
     let p = err_from_is_err_and c.from_residual.result c.from_residual.ensures.1 in
     rw (p.1, p.2) (fails-text c.args.text.now c.in_err-read_lines.field-0.0 c.in_err-read_lines.ensures.fault)
-
-pub returns-clause-bodies : goal.returns-clause-bodies
-returns-clause-bodies c = c.take_bodies.ensures.bodies c.args.text.now c.in_ok-read_lines.ensures.read
-
-pub returns-clause-fault : goal.returns-clause-fault
-returns-clause-fault c = c.take_bodies.ensures.fault c.args.text.now c.in_ok-read_lines.ensures.read

@@ -1,12 +1,5 @@
-use Rattle.std.proofs.Common.{arith}
 use Rattle.brain_minimise.proofs.MinimisedLemmas.{IsBrain-kept, IsMinimised-from}
 use Rattle.brain_minimise.proofs.merge.minimise.Goals as goal
-
-pub number_states-requires-clause-few : goal.number_states-requires-clause-few
-number_states-requires-clause-few c = omega (arith, c.in_ok-seen.ensures.seen.each, c.in_ok-seen.ensures.brain.few)
-
-pub table_of-requires : goal.table_of-requires
-table_of-requires c = omega (arith, c.in_ok-seen.ensures.seen.each, c.in_ok-seen.ensures.brain.few, c.in_ok-numbers.ensures.each)
 
 pub kept_instructions-requires-clause-rising : goal.kept_instructions-requires-clause-rising
 kept_instructions-requires-clause-rising c = rw c.deref-4.ensures.value c.in_ok-numbers.ensures.rising

@@ -1,4 +1,4 @@
-use Rattle.std.proofs.Common.{◌≡◌, ◌∙◌, ◌-◌, ◌+◌, take, refl, sym, subst, arith}
+use Rattle.std.proofs.Common.{◌≡◌, ◌∙◌, ◌-◌, ◌+◌, take, subst, arith}
 use Rattle.ant_turn.specs.Minds.{minds_of}
 use Rattle.far_crew.specs.Inner.Turns.{job_on}
 use Rattle.far_crew.specs.Jobs.{JobValue, looks_of}
@@ -23,38 +23,13 @@ returns-clause-each g c =
     subst (λ i. take (i - c.args.turns.now.from) c.loop-id.looks.items ≡ looks_of job (i - c.args.turns.now.from)) end c.loop-id.invariant.looked in
     looked-each job (take (c.args.turns.now.to - c.args.turns.now.from) c.loop-id.looks.items) c.requires.turns.forwards c.requires.turns.ids looked
 
-pub returns-clause-looks : goal.returns-clause-looks
-returns-clause-looks g c =
-    let end : c.loop-id.id ≡ c.args.turns.now.to = omega (arith, c.loop-id-test.false, c.requires.turns.forwards) in
-    subst (λ i. take (i - c.args.turns.now.from) c.loop-id.looks.items ≡ looks_of (job_on (minds_of c.args.brains) c.args.seed c.args.base.now c.args.turns.now) (i - c.args.turns.now.from)) end c.loop-id.invariant.looked
-
-pub make_look-requires-clause-fits : goal.make_look-requires-clause-fits
-make_look-requires-clause-fits g c = c.requires.fits
-
-pub make_look-requires-clause-id : goal.make_look-requires-clause-id
-make_look-requires-clause-id g c = omega (arith, c.loop-id-test.true, c.requires.turns.ids)
-
 pub make_look-requires-clause-place : goal.make_look-requires-clause-place
 make_look-requires-clause-place g c =
     let small = guess_small c.args.base.now c.args.turns.now c.loop-id.id c.requires.turns c.loop-id.auto.id c.loop-id-test.true in
     let place = c.stream_at-stream.ensures.place in
     omega (arith, small, place)
 
-pub make_look-requires-clause-next : goal.make_look-requires-clause-next
-make_look-requires-clause-next g c = c.loop-id.invariant.len
-
-pub make_look-requires-clause-room : goal.make_look-requires-clause-room
-make_look-requires-clause-room g c = omega (arith, c.loop-id-test.true, c.loop-id.invariant.capacity, c.requires.room)
-
 pub stream_at-stream-requires : goal.stream_at-stream-requires
 stream_at-stream-requires g c =
     let small = guess_small c.args.base.now c.args.turns.now c.loop-id.id c.requires.turns c.loop-id.auto.id c.loop-id-test.true in
     omega (arith, small)
-
-pub loop-id-init : goal.loop-id-init
-loop-id-init g c = let none : c.args.turns.now.from - c.args.turns.now.from ≡ 0 = omega arith in record {
-  looked = subst (λ n. take n c.args.looks.now.items ≡ looks_of (job_on (minds_of c.args.brains) c.args.seed c.args.base.now c.args.turns.now) n) (sym none) refl;
-  len = omega (arith, none);
-  capacity = refl;
-  seed = c.from_seed-stream.ensures.seed;
-}

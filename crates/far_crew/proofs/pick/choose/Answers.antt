@@ -6,17 +6,11 @@ use Rattle.far_crew.specs.Inner.Turns.{window_on}
 use Rattle.far_crew.proofs.PickLemmas.{none_picked}
 use Rattle.far_crew.proofs.pick.choose.Goals as goal
 
-pub sift-requires-clause-turns : goal.sift-requires-clause-turns
-sift-requires-clause-turns g c = c.requires.turns
-
 pub sift-requires-clause-picks : goal.sift-requires-clause-picks
 sift-requires-clause-picks g c = record {
   count = c.deref_mut.ensures.len ∙ c.requires.count;
   picked = none_picked c.args.lines.now [] (window_on c.args.field.now c.args.turns.now) c.deref_mut.result.now (subst AreNone (sym c.deref_mut.ensures.value) c.requires.none);
 }
-
-pub returns-clause-count : goal.returns-clause-count
-returns-clause-count g c = c.requires.count
 
 -- what a call through a slice leaves in the list is what it left in the slice
 written : (n : ℕ) (new rest : List (Option Pick)) → length new ≡ n → take n (new ++ rest) ≡ new

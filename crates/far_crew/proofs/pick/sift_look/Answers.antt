@@ -20,24 +20,3 @@ returns-then-is_look_for c =
       picked = ArePicked-set c.args.lines.now [] window c.args.picks.now (c.turn-id.result - c.args.turns.now.from) (Theirs c.args.answer.now.line c.args.at) (omega arith) c.requires.picks.picked
           (ap (λ (l : List LookValue). slice_get l c.args.at) c.requires.answer ∙ c.look-look.ensures.item ∙ ap Some look);
     }
-
-pub returns-then-is_some : goal.returns-then-is_some
-returns-then-is_some c = c.requires.picks
-
-pub returns-else-is_look_for : goal.returns-else-is_look_for
-returns-else-is_look_for c = c.requires.picks
-
-pub guess_of-guess-requires-clause-turns : goal.guess_of-guess-requires-clause-turns
-guess_of-guess-requires-clause-turns c = c.requires.turns
-
-pub guess_of-guess-requires-clause-first : goal.guess_of-guess-requires-clause-first
-guess_of-guess-requires-clause-first c = c.if-id-turns.false
-
-pub guess_of-guess-requires-clause-last : goal.guess_of-guess-requires-clause-last
-guess_of-guess-requires-clause-last c = c.if-id-turns-2.false
-
-pub is_look_for-requires : goal.is_look_for-requires
-is_look_for-requires c = c.look-look.ensures.is
-
-pub returns-then-id-turns : goal.returns-then-id-turns
-returns-then-id-turns c = c.requires.picks

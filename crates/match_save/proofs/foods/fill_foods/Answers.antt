@@ -1,4 +1,4 @@
-use Rattle.std.proofs.Common.{ℕ, ◌+◌, List, drop, get_or, refl, sym, ap, ◌∙◌}
+use Rattle.std.proofs.Common.{ℕ, ◌+◌, List, drop, get_or, sym, ap, ◌∙◌}
 use Rattle.std.proofs.lemmas.List.{drop_all}
 use Rattle.std.proofs.lemmas.Result.{err_from_is_err_and}
 use Rattle.match_save.specs.Inner.Answered.{behind}
@@ -6,9 +6,6 @@ use Rattle.match_save.specs.Inner.Reading.{read_foods}
 use Rattle.match_save.proofs.FilledLists.{foods-more, foods-none, foods-refused}
 use Rattle.match_save.proofs.PutLemmas.{drop-from}
 use Rattle.match_save.proofs.foods.fill_foods.Goals as goal
-
-pub loop-cell-init : goal.loop-cell-init
-loop-cell-init c = refl
 
 pub loop-cell-preserved : goal.loop-cell-preserved
 loop-cell-preserved c =
@@ -23,9 +20,6 @@ returns-in_err-food c =
     let p = err_from_is_err_and c.from_residual.result c.from_residual.ensures.1 in
     rw (p.1, p.2) (c.loop-cell.invariant ∙ ap (λ (l : List ℕ). behind front (read_foods width cell l lines)) (drop-from values cell 0 c.loop-cell-test.true)
     ∙ foods-refused width cell (get_or values cell 0) (drop (cell + 1) values) front c.in_err-food.field-0.0.0 lines c.in_err-food.ensures)
-
-pub returns-in_err-push : goal.returns-in_err-push
-returns-in_err-push c = let p = err_from_is_err_and c.from_residual-in_err-push.result c.from_residual-in_err-push.ensures.1 in rw (p.1, p.2) tt
 
 pub returns : goal.returns
 returns c =

@@ -40,9 +40,6 @@ returns-then-is_done-clause-value c =
     (ap (go_on (λ corpse. number 0 255)) c.in-Ok-number-2.ensures.value ∙ ap (paired c.in-Ok-number-2.corpse) c.in-Ok-number-3.ensures.value))
     (sym c.if-is_done.ensures)
 
-pub returns-then-is_done-clause-bounds : goal.returns-then-is_done-clause-bounds
-returns-then-is_done-clause-bounds c = (c.in-Ok-number.ensures.bounds.1, (c.in-Ok-number-2.ensures.bounds.1, c.in-Ok-number-3.ensures.bounds.1))
-
 pub returns-else-is_done-clause-value : goal.returns-else-is_done-clause-value
 returns-else-is_done-clause-value c =
     whole-longer sheet_tokens (pieces c.args.line.now) c.new-fields.result c.new-fields.ensures (c.in-Ok-number.surround, (c.in-Ok-number-2.corpse, c.in-Ok-number-3.rest)) c.number-3.new.self

@@ -28,9 +28,6 @@ returns-then-is_done-clause-value c =
     c.in-Ok.ensures c.in-Ok-number.ensures.value c.in-Ok-number-2.ensures.value)
     (sym c.if-is_done.ensures)
 
-pub returns-then-is_done-clause-bounds : goal.returns-then-is_done-clause-bounds
-returns-then-is_done-clause-bounds c = (c.in-Ok-number.ensures.bounds, c.in-Ok-number-2.ensures.bounds)
-
 pub returns-else-is_done-clause-value : goal.returns-else-is_done-clause-value
 returns-else-is_done-clause-value c =
     whole-longer size_tokens (pieces c.args.line.now) c.new-fields.result c.new-fields.ensures (c.in-Ok-number.width, c.in-Ok-number-2.height) c.number-2.new.self

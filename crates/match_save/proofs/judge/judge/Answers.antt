@@ -3,7 +3,7 @@ use Rattle.std.proofs.lemmas.Result.{err_from_is_err_and}
 use Rattle.brain_read.specs.declared.instr.Instr.{Instr}
 use Rattle.brain_read.specs.Drafts.{drafted}
 use Rattle.brain_read.specs.Grammar.{StatesBelow}
-use Rattle.match_save.specs.Draft.{Draft, IsProgram}
+use Rattle.match_save.specs.Draft.{Draft}
 use Rattle.match_save.specs.declared.soil.Soil.{Soil}
 use Rattle.match_save.specs.Saved.{IsSaved}
 use Rattle.match_save.specs.State.{IsState, hill_count}
@@ -85,46 +85,8 @@ returns-in_err-black c =
     let p = err_from_is_err_and c.from_residual-in_err-black.result c.from_residual-in_err-black.ensures.1 in
     rw (p.1, p.2) (refutes-sooner (λ (state : IsState (said c.args.draft.now)). subst (λ (l : List Instr). StatesBelow (length l) l) (sym is_black) state.black) _ c.in_err-black.ensures)
 
-pub returns-in_err-world : goal.returns-in_err-world
-returns-in_err-world c =
-    let p = err_from_is_err_and c.from_residual-in_err-world.result c.from_residual-in_err-world.ensures.1 in
-    rw (p.1, p.2) c.in_err-world.ensures
-
 pub hill_count-ids-requires : goal.hill_count-ids-requires
 hill_count-ids-requires c =
     let d : Draft = said c.args.draft.now in
     subst (λ (soils : List Soil). length soils ≤ 262144) (sym c.deref.ensures.value)
     (subst (λ (n : ℕ). n ≤ 262144) (c.requires.foods ∙ sym c.requires.soils) (few-cells d c.requires))
-
-pub has_turns-requires-clause-within : goal.has_turns-requires-clause-within
-has_turns-requires-clause-within c = c.requires.head
-
-pub has_turns-requires-clause-few : goal.has_turns-requires-clause-few
-has_turns-requires-clause-few c = c.if-ids-gt-MOST_ANTS.false
-
-pub brain_of-requires : goal.brain_of-requires
-brain_of-requires c = subst IsProgram (sym (ap (map drafted) c.deref-2.ensures.value)) c.requires.red
-
-pub brain_of-requires-2 : goal.brain_of-requires-2
-brain_of-requires-2 c = subst IsProgram (sym (ap (map drafted) c.deref-3.ensures.value)) c.requires.black
-
-pub world_of-requires-clause-form : goal.world_of-requires-clause-form
-world_of-requires-clause-form c = c.requires
-
-pub world_of-requires-clause-ids : goal.world_of-requires-clause-ids
-world_of-requires-clause-ids c = c.hill_count-ids.ensures ∙ ap hill_count c.deref.ensures.value
-
-pub world_of-requires-clause-few : goal.world_of-requires-clause-few
-world_of-requires-clause-few c = c.if-ids-gt-MOST_ANTS.false
-
-pub of-requires-clause-enough : goal.of-requires-clause-enough
-of-requires-clause-enough c = c.requires.head.few
-
-pub of-requires-clause-at_most_all : goal.of-requires-clause-at_most_all
-of-requires-clause-at_most_all c = c.requires.head.many
-
-pub of-requires-clause-light : goal.of-requires-clause-light
-of-requires-clause-light c = c.requires.head.corpse
-
-pub of-requires-clause-few : goal.of-requires-clause-few
-of-requires-clause-few c = c.requires.head.round

@@ -1,6 +1,5 @@
 use Rattle.std.proofs.Common.{◌≡◌, ◌<◌, ℕ, List, ◌++◌, append-nil, length, map, sym, ◌∙◌, ap, subst, arith}
 use Rattle.std.proofs.lemmas.List.{drop_all}
-use Rattle.std.proofs.lemmas.Result.{err_from_is_err_and}
 use Rattle.brain_read.specs.declared.draft.Draft.{Draft}
 use Rattle.brain_read.specs.Drafts.{drafted}
 use Rattle.brain_read.specs.Grammar.{StatesBelow}
@@ -17,16 +16,6 @@ pub loop-draft-preserved : goal.loop-draft-preserved
 loop-draft-preserved c =
     let low : c.loop-draft.draft-index < length c.args.drafts.now = omega arith in
     SettlesOn-more (length c.args.drafts.now) c.loop-draft.list.items c.push.new.self.items c.args.drafts.now c.loop-draft.draft-index _ c.in-Ok.instruction low c.loop-draft.invariant (sym c.in-Ok.ensures) c.in_ok-push.ensures.items
-
-pub returns-in_err-list : goal.returns-in_err-list
-returns-in_err-list c =
-    let p = err_from_is_err_and c.from_residual.result c.from_residual.ensures.1 in
-    rw (p.1, p.2) tt
-
-pub returns-in_err-push : goal.returns-in_err-push
-returns-in_err-push c =
-    let p = err_from_is_err_and c.from_residual-in_err-push.result c.from_residual-in_err-push.ensures.1 in
-    rw (p.1, p.2) tt
 
 pub returns : goal.returns
 returns c =

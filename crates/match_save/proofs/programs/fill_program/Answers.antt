@@ -1,4 +1,4 @@
-use Rattle.std.proofs.Common.{◌≡◌, ◌+◌, ◌-◌, ℕ, suc, List, map, Ok, append-nil, sym, ◌∙◌, ap, arith}
+use Rattle.std.proofs.Common.{◌≡◌, ◌+◌, ◌-◌, ℕ, suc, List, map, sym, ◌∙◌, ap, arith}
 use Rattle.std.proofs.lemmas.Result.{err_from_is_err_and}
 use Rattle.brain_read.specs.declared.instr.Instr.{Instr}
 use Rattle.brain_read.specs.Drafts.{drafted}
@@ -26,14 +26,3 @@ loop-state-preserved c =
     c.loop-state.invariant ∙ ap (λ m. behind (map drafted c.loop-state.list.items) (many instruction_of m c.loop-state.lines)) left
     ∙ many-more instruction_of (map drafted c.loop-state.list.items) (drafted c.in_ok-draft.draft) n c.loop-state.lines c.next_instruction.new.lines c.in_ok-draft.ensures
     ∙ ap (λ (l : List Instr). behind l (many instruction_of n c.next_instruction.new.lines)) (sym (map-more c.push.new.self.items c.loop-state.list.items c.in_ok-draft.draft c.in_ok-push.ensures.items))
-
-pub returns-in_err-push : goal.returns-in_err-push
-returns-in_err-push c =
-    let p = err_from_is_err_and c.from_residual-in_err-push.result c.from_residual-in_err-push.ensures.1 in
-    rw (p.1, p.2) tt
-
-pub returns : goal.returns
-returns c =
-    let front = map drafted c.loop-state.list.items in
-    let none : c.args.count - c.loop-state._state ≡ 0 = omega (arith, c.loop-state-test.false) in
-    c.loop-state.invariant ∙ ap (λ m. behind front (many instruction_of m c.loop-state.lines)) none ∙ ap (λ (l : List Instr). Ok (l, c.loop-state.lines)) (append-nil front)

@@ -1,8 +1,7 @@
-use Rattle.std.proofs.Common.{◌≤◌, List, ℕ, refl, subst, sym, false}
+use Rattle.std.proofs.Common.{List, ℕ, subst, false}
 use Rattle.std.proofs.lemmas.Result.{err_from_is_err_and}
 use Rattle.ant_base.specs.Sink.{PushedAll, PushedFront}
 use Rattle.match_run.specs.Dumps.{chooses}
-use Rattle.match_run.specs.Sequential.{SequentialValue}
 use Rattle.match_run.proofs.PlayLemmas.{prefix_of_nothing}
 use Rattle.match_save.proofs.ResumedGames.{alone-is, rest_of-some}
 use Rattle.match_save.proofs.rest.resume_alone.Goals as goal
@@ -23,16 +22,3 @@ pub returns-clause-text : goal.returns-clause-text
 returns-clause-text g c =
     subst (λ (text : List ℕ). PushedAll (g.K.Sink.state c.args.sink.now) (g.K.Sink.state c.play_rest_alone.new.sink) text)
     (alone-is c.args.saved.now c.in_ok-game.game c.args.rounds (chooses c.args.dumps.now) c.in_ok-game.ensures) c.in_ok-play_rest_alone.ensures.text
-
-pub returns-in_err-game-clause-unwritten : goal.returns-in_err-game-clause-unwritten
-returns-in_err-game-clause-unwritten g c =
-    let p = err_from_is_err_and c.from_residual.result c.from_residual.ensures.1 in
-    rw (p.1, p.2) refl
-
-pub returns-in_err-play_rest_alone-clause-unwritten : goal.returns-in_err-play_rest_alone-clause-unwritten
-returns-in_err-play_rest_alone-clause-unwritten g c =
-    let p = err_from_is_err_and c.from_residual-in_err-play_rest_alone.result c.from_residual-in_err-play_rest_alone.ensures.1 in
-    rw (p.1, p.2) tt
-
-pub play_rest_alone-requires-clause-left : goal.play_rest_alone-requires-clause-left
-play_rest_alone-requires-clause-left g c = subst (λ (game : SequentialValue). game.done ≤ c.args.rounds) (sym c.in_ok-game.ensures) c.requires.left

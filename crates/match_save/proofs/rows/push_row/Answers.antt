@@ -1,14 +1,10 @@
 use Rattle.std.proofs.Common.{ℕ, ◌+◌, List, drop, get_or, refl, sym, ap, ◌∙◌}
 use Rattle.std.proofs.lemmas.List.{drop_all}
-use Rattle.std.proofs.lemmas.Result.{err_from_is_err_and}
 use Rattle.match_save.specs.Inner.Answered.{row_behind}
 use Rattle.match_save.specs.Inner.Reading.{all_of}
 use Rattle.match_save.proofs.FilledLists.{none-behind, row-ends, row-more, row-refused, row-wide}
 use Rattle.match_save.proofs.PutLemmas.{drop-from}
 use Rattle.match_save.proofs.rows.push_row.Goals as goal
-
-pub loop-byte-init : goal.loop-byte-init
-loop-byte-init g c = refl
 
 pub loop-byte-preserved : goal.loop-byte-preserved
 loop-byte-preserved g c =
@@ -29,6 +25,3 @@ returns-in_default g c =
     let none = c.loop-byte.invariant ∙ ap (λ (l : List ℕ). row_behind front (all_of value l)) (drop-from line i 0 c.loop-byte-test.true)
     ∙ row-refused value front (get_or line i 0) (drop (i + 1) line) (sym c.of_byte.ensures ∙ c.in_default.is) in
     (row-wide value c.args.width line c.if-line-width.false ∙ none-behind value c.args.cells.now.items (all_of value line) none, refl)
-
-pub returns-in_err-push : goal.returns-in_err-push
-returns-in_err-push g c = let p = err_from_is_err_and c.from_residual.result c.from_residual.ensures.1 in rw (p.1, p.2) tt

@@ -1,14 +1,11 @@
-use Rattle.std.proofs.Common.{ℕ, ◌<◌, ◌≤◌, List, [], ◌∷◌, ◌++◌, length, take, sym, ◌∙◌, ap, subst}
-use Rattle.std.proofs.lemmas.List.{take_all, take_more}
+use Rattle.std.proofs.Common.{ℕ, ◌<◌, List, [], ◌∷◌, ◌++◌, length, take, sym, ◌∙◌, ap, subst}
+use Rattle.std.proofs.lemmas.List.{take_more}
 use Rattle.std.proofs.lemmas.Option.{get_or_from_slice_get}
 use Rattle.std.specs.List.{AllByRecursion}
 use Rattle.list_lemmas.proofs.AllElements.{AllByRecursion-push}
 use Rattle.brain_read.specs.Forms.{HasBound}
 use Rattle.brain_read.specs.declared.instr.Instr.{Instr}
 use Rattle.match_save.proofs.saves.bounds_are_short.Goals as goal
-
-pub at-requires : goal.at-requires
-at-requires c = subst (λ (n : ℕ). c.loop-state.state < n) c.len-state-end.ensures.length c.loop-state-test.true
 
 pub loop-state-preserved : goal.loop-state-preserved
 loop-state-preserved c =
@@ -18,8 +15,3 @@ loop-state-preserved c =
     let read = get_or_from_slice_get list i c.at.result c.at.result c.at.ensures.instruction in
     subst (AllByRecursion HasBound) (sym (take_more list i c.at.result below ∙ ap (λ (it : Instr). take i list ++ it ∷ []) read))
     (AllByRecursion-push HasBound (take i list) c.at.result c.loop-state.invariant c.bound_is_short.ensures)
-
-pub returns : goal.returns
-returns c =
-    subst (AllByRecursion HasBound) (take_all c.loop-state.state c.args.brain.now (subst (λ (n : ℕ). n ≤ c.loop-state.state) c.len-state-end.ensures.length c.loop-state-test.false))
-    c.loop-state.invariant

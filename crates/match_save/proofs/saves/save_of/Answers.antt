@@ -43,15 +43,3 @@ of-requires-clause-saved c = subst IsSaved (sym (made (goal.at.of-requires-claus
 
 pub returns : goal.returns
 returns c = c.of.ensures ∙ made (goal.at.returns c).In_ok-world
-
-pub of-requires-clause-enough : goal.of-requires-clause-enough
-of-requires-clause-enough c = c.head_of-head.ensures.form.few
-
-pub of-requires-clause-at_most_all : goal.of-requires-clause-at_most_all
-of-requires-clause-at_most_all c = c.head_of-head.ensures.form.many
-
-pub of-requires-clause-light : goal.of-requires-clause-light
-of-requires-clause-light c = c.head_of-head.ensures.form.corpse
-
-pub of-requires-clause-few : goal.of-requires-clause-few
-of-requires-clause-few c = c.head_of-head.ensures.form.round

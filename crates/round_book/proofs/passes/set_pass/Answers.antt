@@ -1,10 +1,7 @@
-use Rattle.std.proofs.Common.{refl, arith}
+use Rattle.std.proofs.Common.{arith}
 use Rattle.cell_world.specs.Grid.{world_of}
 use Rattle.round_book.proofs.PassLemmas.{PassLeft-end, PassLeft-item, PassLeft-step}
 use Rattle.round_book.proofs.passes.set_pass.Goals as goal
-
-pub loop-write-init : goal.loop-write-init
-loop-write-init c = record { leads = refl; set = c.requires.set; each = c.requires.each; once = c.requires.once }
 
 pub set_in_pass-requires-clause-patch : goal.set_in_pass-requires-clause-patch
 set_in_pass-requires-clause-patch c =

@@ -1,17 +1,9 @@
-use Rattle.std.proofs.Common.{◌≡◌, ◌∙◌, sym, ap, subst, arith}
-use Rattle.cell_world.specs.Grid.{Grid, world_of}
-use Rattle.ant_turn.specs.Minds.{Fits, Minds}
+use Rattle.std.proofs.Common.{◌∙◌, ap, arith}
+use Rattle.cell_world.specs.Grid.{world_of}
 use Rattle.round_book.specs.Book.{window_of}
 use Rattle.round_book.proofs.SoloLemmas.{guess_for-le}
 use Rattle.round_workers.proofs.GuessLemmas.{guess_for-on}
 use Rattle.round_workers.proofs.guesses.guess_on.Goals as goal
-
-pub guess_at-requires-clause-fit : goal.guess_at-requires-clause-fit
-guess_at-requires-clause-fit c =
-    subst (λ (m : Minds). Fits (world_of c.world.result.now) m) (sym c.brains.ensures.brains) (subst (λ (w : Grid). Fits (world_of w) c.args.field.now.minds) (sym c.world.ensures.world) c.world.ensures.fit)
-
-pub guess_at-requires-clause-ids : goal.guess_at-requires-clause-ids
-guess_at-requires-clause-ids c = let same : c.world.result.now.ids ≡ c.args.field.now.world.ids = ap (λ (w : Grid). w.ids) c.world.ensures.world in let ids = c.requires.window.ids in let last = c.requires.last in omega arith
 
 pub guess_at-requires-clause-room : goal.guess_at-requires-clause-room
 guess_at-requires-clause-room c =

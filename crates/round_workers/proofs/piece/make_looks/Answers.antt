@@ -1,8 +1,7 @@
-use Rattle.std.proofs.Common.{◌≡◌, ℕ, ◌-◌, take, refl, ◌∙◌, ap, subst, arith}
+use Rattle.std.proofs.Common.{◌-◌, refl, ◌∙◌, ap, arith}
 use Rattle.ant_random.specs.Stream.{SeedAndPlace}
 use Rattle.round_book.specs.Book.{window_of}
 use Rattle.round_book.proofs.SoloLemmas.{guess_for-le}
-use Rattle.round_workers.specs.Inner.Shares.{looks_for}
 use Rattle.round_workers.proofs.PieceLemmas.{guess_for-more, guess_for-small, looked-more, looked-none}
 use Rattle.round_workers.proofs.piece.make_looks.Goals as goal
 
@@ -35,17 +34,3 @@ loop-id-preserved g c = record {
   len = omega (arith, c.make_look.ensures.len);
   capacity = c.make_look.ensures.capacity ∙ c.loop-id.invariant.capacity;
 }
-
-pub make_look-requires-clause-id : goal.make_look-requires-clause-id
-make_look-requires-clause-id g c = let below = c.loop-id-test.true in let ids = c.requires.begin.ids in omega arith
-
-pub make_look-requires-clause-next : goal.make_look-requires-clause-next
-make_look-requires-clause-next g c = c.loop-id.invariant.len
-
-pub make_look-requires-clause-room : goal.make_look-requires-clause-room
-make_look-requires-clause-room g c = let same = c.loop-id.invariant.capacity in let room = c.requires.room in let below = c.loop-id-test.true in let first = c.loop-id.auto.id in omega arith
-
-pub returns : goal.returns
-returns g c =
-    let share = c.args.share in let end : c.loop-id.id ≡ share.to = (let left = c.loop-id-test.false in let within = c.loop-id.auto.id-end c.requires.forwards in omega arith) in
-    subst (λ (n : ℕ). take (n - share.from) c.loop-id.looks.items ≡ looks_for (window_of c.args.field.now c.args.from share.to) share.from (n - share.from)) end c.loop-id.invariant.looked

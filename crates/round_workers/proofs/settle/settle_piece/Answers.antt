@@ -1,4 +1,4 @@
-use Rattle.std.proofs.Common.{◌-◌, length, take, sym, ◌∙◌, ap, ap₂, arith, refl}
+use Rattle.std.proofs.Common.{◌-◌, length, take, sym, ◌∙◌, ap, ap₂, arith}
 use Rattle.round_book.specs.Book.{window_of}
 use Rattle.round_book.specs.Window.{look_for}
 use Rattle.round_workers.proofs.PieceLemmas.{looked-item, looked-length}
@@ -21,22 +21,3 @@ returns-clause-next c =
     let long = looked-length (window_of c.args.field.now c.args.book.now.from c.args.book.now.to) c.args.piece.now.share c.args.piece.now.looks.items c.requires.looked in
     let all = ap (λ xs. length (take (c.args.piece.now.share.to - c.args.piece.now.share.from) xs)) c.deref.ensures.value in
     omega (arith, long, all, c.loop-look.invariant.next, c.loop-look-test.false, c.loop-look.auto.look-index-end)
-
-pub loop-look-preserved : goal.loop-look-preserved
-loop-look-preserved c = let old = c.loop-look.invariant in let same = c.advance.ensures.same in record {
-  stands = c.advance.ensures.stands;
-  same = record { seed = same.seed ∙ old.same.seed; from = same.from ∙ old.same.from; to = same.to ∙ old.same.to };
-  next = (let one = c.advance.ensures.next in let so_far = old.next in omega arith);
-}
-
-pub loop-look-init : goal.loop-look-init
-loop-look-init c = record { stands = c.requires.stands; same = record { seed = refl; from = refl; to = refl }; next = (let next = c.requires.next in omega arith) }
-
-pub advance-requires-clause-stands : goal.advance-requires-clause-stands
-advance-requires-clause-stands c = c.loop-look.invariant.stands
-
-pub returns-clause-stands : goal.returns-clause-stands
-returns-clause-stands c = c.loop-look.invariant.stands
-
-pub returns-clause-same : goal.returns-clause-same
-returns-clause-same c = c.loop-look.invariant.same

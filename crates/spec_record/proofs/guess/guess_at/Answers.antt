@@ -22,7 +22,3 @@ loop-id-preserved c =
       guessed = let next = guess-next minds w c.args.place c.args.from id (omega arith) in let same = ap (guess minds w c.args.place c.args.from) (add-one id) in omega (arith, next, same, drew, c.loop-id.invariant.guessed);
       small = omega (arith, few, drew, c.loop-id.invariant.small);
     }
-
-pub returns-clause-guess : goal.returns-clause-guess
-returns-clause-guess c =
-    c.loop-id.invariant.guessed ∙ ap (guess (minds_of c.args.brains) (world_of c.args.base.now) c.args.place c.args.from) (omega arith)

@@ -8,11 +8,6 @@ use Rattle.ant_asm.proofs.OutlineLemmas.{good-push, named-at, outlines_of-length
 use Rattle.ant_asm.proofs.OutlineReading.{current-good, put-on}
 use Rattle.ant_asm.proofs.outline.Outlines.put.Goals as goal
 
-pub index-requires : goal.index-requires
-index-requires c =
-    let inside = c.requires.good.blocks c.args.name.now c.in-Some.block (sym c.block_named.ensures ∙ c.in-Some.is) in
-    let all = c.args.self.now.bodies.ok.0 in omega (arith, inside, all)
-
 pub returns-clause-good : goal.returns-clause-good
 returns-clause-good c =
     let o = c.args.self.now in

@@ -26,9 +26,6 @@ returns-then-len-index-clause-fault c =
     inl (put-counts p c.args.name.now (labels_seen c.args.handed.items) c.args.number c.in-Some.block known
     (λ all. c.if-len-index.true (c.len.ensures ∙ c.args.handed.ok.0 ∙ sym (length-map c.args.handed.items seen) ∙ all ∙ ap parameters_in body)))
 
-pub size_of-size-requires-clause-known : goal.size_of-size-requires-clause-known
-size_of-size-requires-clause-known c = c.requires.good.blocks c.args.name.now c.in-Some.block (sym c.block_number.ensures ∙ c.in-Some.is)
-
 pub returns-clause-good : goal.returns-clause-good
 returns-clause-good c =
     let p = c.args.self.now in

@@ -1,4 +1,4 @@
-use Rattle.std.proofs.Common.{◌≡◌, ℕ, ◌-◌, ◌≤◌, true, None, sym, ◌∙◌, ap, ap₂, subst, arith}
+use Rattle.std.proofs.Common.{ℕ, ◌-◌, true, None, sym, ◌∙◌, ap, ap₂, subst}
 use Rattle.cell_world.specs.Grid.{Grid, world_of}
 use Rattle.ant_turn.specs.Minds.{Fits}
 use Rattle.round_book.specs.Book.{FieldValue}
@@ -17,12 +17,6 @@ take_back-requires-clause-ids c = sym (ap (λ (g : Grid). g.ids) c.close-work.en
 pub take_back-requires-clause-fit : goal.take_back-requires-clause-fit
 take_back-requires-clause-fit c =
     subst (λ (g : Grid). Fits (world_of g) c.args.self.now.minds) (sym c.close-work.ensures.world) (on-keeps c.args.self.now c.args.book c.requires.stands).fits
-
-pub overflow_sub-result : goal.overflow_sub-result
-overflow_sub-result c =
-    let turns : c.turns-turns.result ≡ c.args.book.to - c.args.book.from = c.turns-turns.ensures.turns in
-    let most : c.taken-taken.result ≤ c.args.book.to - c.args.book.from = c.taken-taken.ensures.most in
-    omega arith
 
 pub returns-clause-played : goal.returns-clause-played
 returns-clause-played c =

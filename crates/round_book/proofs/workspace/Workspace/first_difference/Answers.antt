@@ -3,9 +3,6 @@ use Rattle.cell_world.specs.Grid.{world_of}
 use Rattle.round_book.proofs.MarkLemmas.{Changes-found, Changes-not_found, Comparing-end, Comparing-item, Comparing-step}
 use Rattle.round_book.proofs.workspace.Workspace.first_difference.Goals as goal
 
-pub loop-read-init : goal.loop-read-init
-loop-read-init c = record { unwritten = c.requires.unwritten; rest = λ all. all }
-
 pub change-change-requires-clause-unwritten : goal.change-change-requires-clause-unwritten
 change-change-requires-clause-unwritten c =
     Comparing-item c.args.self.now.written.items (world_of c.args.self.now.world).cells c.args.reads.now c.loop-read.read-index _ c.loop-read-test.true c.loop-read.invariant

@@ -2,11 +2,6 @@ use Rattle.std.proofs.Common.{◌≡◌, true, sym, ◌∙◌}
 use Rattle.std.proofs.lemmas.Bool.{false≢true}
 use Rattle.round_book.proofs.workspace.Workspace.is_marked.Goals as goal
 
-pub has_mark-requires-clause-inside : goal.has_mark-requires-clause-inside
-has_mark-requires-clause-inside c =
-    let within = c.is_inside.ensures.inside.0 c.if-not-is_inside.false in
-    record { column = within.0; row = within.1 }
-
 pub returns-then-not-is_inside : goal.returns-then-not-is_inside
 returns-then-not-is_inside c = (
   λ e. absurd (false≢true e),

@@ -1,12 +1,7 @@
-use Rattle.std.proofs.Common.{◌≡◌, ◌*◌, ◌∙◌, ap, arith}
+use Rattle.std.proofs.Common.{◌∙◌, ap, arith}
 use Rattle.round_book.specs.declared.workspace.Workspace.{Workspace}
 use Rattle.round_book.proofs.MarkLemmas.{Marking-end, Marking-step}
 use Rattle.round_book.proofs.workspace.Workspace.mark_all.Goals as goal
-
-pub mark-requires-clause-room : goal.mark-requires-clause-room
-mark-requires-clause-room c =
-    let cells : c.loop-at.self.world.width * c.loop-at.self.world.height ≡ c.args.self.now.world.width * c.args.self.now.world.height = ap (λ (w : Workspace). w.world.width * w.world.height) c.loop-at.invariant.rest in
-    omega (arith, cells, c.loop-at.invariant.count, c.loop-at.invariant.capacity, c.requires.room, c.loop-at-test.true)
 
 pub loop-at-preserved : goal.loop-at-preserved
 loop-at-preserved c = record {

@@ -1,11 +1,8 @@
-use Rattle.std.proofs.Common.{◌+◌, arith, sym, subst}
+use Rattle.std.proofs.Common.{◌+◌, sym, subst}
 use Rattle.std.specs.Mem.Slots.{slots_counts, slots_filled, slots_len}
 use Rattle.round_workers.specs.Inner.BoardPlaces.{AreTaken}
 use Rattle.round_workers.proofs.BoardEnd.{taken-more}
 use Rattle.round_workers.proofs.board.end.take_slot.Goals as goal
-
-pub take-requires : goal.take-requires
-take-requires c = (c.requires.inside, c.requires.taken.there c.args.i (omega arith) c.requires.inside)
 
 pub returns-clause-taken : goal.returns-clause-taken
 returns-clause-taken c = let slots = c.args.closed.now.slots in

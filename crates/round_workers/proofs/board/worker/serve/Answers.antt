@@ -1,4 +1,4 @@
-use Rattle.std.proofs.Common.{◌≡◌, ℕ, ◌+◌, ◌-◌, ◌<◌, ◌≤◌, List, length, slice_index_or, arith, sym, ap, ◌∙◌, subst, refl}
+use Rattle.std.proofs.Common.{◌≡◌, ℕ, ◌+◌, ◌-◌, ◌<◌, ◌≤◌, List, length, slice_index_or, arith, sym, ap, ◌∙◌, subst}
 use Rattle.round_book.specs.Machine.{times}
 use Rattle.round_book.specs.Window.{guess_for}
 use Rattle.round_book.proofs.SoloLemmas.{guess_for-le}
@@ -39,9 +39,6 @@ reach-requires g c =
     let is : slice_index_or c.args.task.now.guesses.now t 0 ≡ guess_for w (w.from + t) = ap (λ (l : List ℕ). slice_index_or l t 0) c.requires.guesses ∙ guesses_for-at w t 0 inside in
     let few = guess_for-le w (w.from + t) in let lasting = board.lasting in let a = board.first in let b = board.last in omega arith
 
-pub look_and_put-requires-clause-ticket : goal.look_and_put-requires-clause-ticket
-look_and_put-requires-clause-ticket g c = let l = c.if-ticket-turns.false in let b = c.turns.ensures in omega arith
-
 pub look_and_put-requires-clause-drew : goal.look_and_put-requires-clause-drew
 look_and_put-requires-clause-drew g c =
     let t : ℕ = c.draw-ticket.result in subst (λ (u : View). 1 ≤ times t u.drawn) (sym c.draw-ticket.ensures.drew) (new-drawn (known c.args.seat.now) _ c.requires.worker t c.draw-ticket.ensures.greater)
@@ -50,19 +47,10 @@ pub look_and_put-requires-clause-unput : goal.look_and_put-requires-clause-unput
 look_and_put-requires-clause-unput g c =
     let t : ℕ = c.draw-ticket.result in subst (λ (u : View). times t u.put ≡ 0) (sym c.draw-ticket.ensures.drew) (unput (known c.args.seat.now) _ c.requires.worker t c.draw-ticket.ensures.greater)
 
-pub look_and_put-requires-clause-seed : goal.look_and_put-requires-clause-seed
-look_and_put-requires-clause-seed g c = c.reach.ensures.seed ∙ c.requires.seed
-
 pub look_and_put-requires-clause-guess : goal.look_and_put-requires-clause-guess
 look_and_put-requires-clause-guess g c =
     let w = board_window c.args.task.now.board.now in let t : ℕ = c.draw-ticket.result in let inside : t < turns_in w = (let l = c.if-ticket-turns.false in let b = c.turns.ensures in omega arith) in
     c.reach.ensures.place ∙ (ap (λ (l : List ℕ). slice_index_or l t 0) c.requires.guesses ∙ guesses_for-at w t 0 inside)
-
-pub settle_with_book-requires-clause-opened : goal.settle_with_book-requires-clause-opened
-settle_with_book-requires-clause-opened g c = ap (λ (v : View). v.opened) c.look_and_put.ensures.put ∙ (ap (λ (v : View). v.opened) c.draw-ticket.ensures.drew ∙ c.requires.opened)
-
-pub settle_with_book-requires-clause-free : goal.settle_with_book-requires-clause-free
-settle_with_book-requires-clause-free g c = ap (λ (v : View). v.holds) c.look_and_put.ensures.put ∙ (ap (λ (v : View). v.holds) c.draw-ticket.ensures.drew ∙ c.requires.worker.free)
 
 pub returns-clause-worker : goal.returns-clause-worker
 returns-clause-worker g c =
@@ -78,42 +66,3 @@ returns-clause-served g c =
     let n = ap (λ z. turns_in (window_about z)) (sym c.requires.board.knows) in
     let inside : t < key.to - key.from = (let l = c.if-ticket-turns.false in let b = c.turns.ensures in omega arith) in
     more-served v _ _ _ _ t _ n c.requires.worker c.draw-ticket.ensures.drew c.draw-ticket.ensures.greater inside c.look_and_put.ensures.put c.settle_with_book.ensures.same c.settle_with_book.ensures.tried
-
-pub returns-clause-seed : goal.returns-clause-seed
-returns-clause-seed g c = c.look_and_put.ensures.seed ∙ c.reach.ensures.seed
-
-pub draw-ticket-requires-clause-board : goal.draw-ticket-requires-clause-board
-draw-ticket-requires-clause-board g c = c.requires.board
-
-pub draw-ticket-requires-clause-early : goal.draw-ticket-requires-clause-early
-draw-ticket-requires-clause-early g c = c.requires.early
-
-pub returns-then-ticket-turns-clause-board : goal.returns-then-ticket-turns-clause-board
-returns-then-ticket-turns-clause-board g c = c.draw-ticket.ensures.board
-
-pub returns-then-ticket-turns-clause-seed : goal.returns-then-ticket-turns-clause-seed
-returns-then-ticket-turns-clause-seed g c = refl
-
-pub returns-then-ticket-turns-clause-room : goal.returns-then-ticket-turns-clause-room
-returns-then-ticket-turns-clause-room g c = refl
-
-pub turn_of-turn-requires : goal.turn_of-turn-requires
-turn_of-turn-requires g c = let l = c.if-ticket-turns.false in let b = c.turns.ensures in omega arith
-
-pub look_and_put-requires-clause-board : goal.look_and_put-requires-clause-board
-look_and_put-requires-clause-board g c = c.draw-ticket.ensures.board
-
-pub look_and_put-requires-clause-field : goal.look_and_put-requires-clause-field
-look_and_put-requires-clause-field g c = c.requires.field
-
-pub settle_with_book-requires-clause-board : goal.settle_with_book-requires-clause-board
-settle_with_book-requires-clause-board g c = c.look_and_put.ensures.board
-
-pub settle_with_book-requires-clause-field : goal.settle_with_book-requires-clause-field
-settle_with_book-requires-clause-field g c = c.requires.field
-
-pub returns-clause-board : goal.returns-clause-board
-returns-clause-board g c = c.settle_with_book.ensures.board
-
-pub returns-clause-room : goal.returns-clause-room
-returns-clause-room g c = c.push_reserved.ensures.capacity

@@ -33,15 +33,6 @@ destination-requires-clause-inner c = acting-inner (acting (goal.at.destination-
 pub destination-requires-clause-near : goal.destination-requires-clause-near
 destination-requires-clause-near c = acting-near (acting (goal.at.destination-requires-clause-near c).After-instruction-instruction)
 
-pub go-requires-clause-goes : goal.go-requires-clause-goes
-go-requires-clause-goes c = record {
-  ant = c.args.actor.ant.now;
-  found = c.requires.found;
-  holds = c.requires.holds;
-  ready = c.requires.ready;
-  way = ap (destination (world_of c.args.base.now).cells c.args.actor.place c.args.actor.ant.now) (sym c.instruction-instruction.ensures.instruction) ∙ sym c.destination.ensures ∙ c.in-Some.is;
-}
-
 pub stay-requires-clause-inner : goal.stay-requires-clause-inner
 stay-requires-clause-inner c = acting-inner (acting (goal.at.stay-requires-clause-inner c).After-instruction-instruction)
 

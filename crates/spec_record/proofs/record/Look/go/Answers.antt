@@ -1,10 +1,8 @@
 -- the look at an ant that goes
-use Rattle.std.proofs.Common.{◌≡◌, ◌≤◌, ℕ, ◌+◌, false, List, [], ◌∷◌, Some, refl, sym, ◌∙◌, ap, ap₂, subst, arith}
+use Rattle.std.proofs.Common.{◌≡◌, ◌≤◌, ℕ, false, List, [], ◌∷◌, Some, refl, sym, ◌∙◌, ap, ap₂, subst, arith}
 use Rattle.hex_geometry.proofs.Places.{inner_inside}
 use Rattle.cell_world.specs.declared.ant.Ant.{Ant}
 use Rattle.cell_world.specs.declared.cell.Cell.{Cell}
-use Rattle.ant_random.specs.Stream.{SeedAndPlace}
-use Rattle.cell_world.specs.Cell.{one_if}
 use Rattle.cell_world.specs.Colour.{foe_of}
 use Rattle.cell_world.specs.declared.part.Part.TheVariants as part
 use Rattle.cell_world.specs.Grid.{world_of}
@@ -120,36 +118,8 @@ returns-clause-look c =
 pub note_checks-requires-clause-alone : goal.note_checks-requires-clause-alone
 note_checks-requires-clause-alone c = own (goal.at.note_checks-requires-clause-alone c).After-push
 
-pub fight-requires-clause-fit : goal.fight-requires-clause-fit
-fight-requires-clause-fit c = c.requires.fit
-
-pub fight-requires-clause-id : goal.fight-requires-clause-id
-fight-requires-clause-id c = c.requires.id
-
-pub fight-requires-clause-place : goal.fight-requires-clause-place
-fight-requires-clause-place c = c.requires.place
-
-pub fight-requires-clause-valid : goal.fight-requires-clause-valid
-fight-requires-clause-valid c = c.requires.valid
-
-pub fight-requires-clause-goes : goal.fight-requires-clause-goes
-fight-requires-clause-goes c = c.requires.goes
-
 pub fight-requires-clause-begun : goal.fight-requires-clause-begun
 fight-requires-clause-begun c =
     let at = (goal.at.fight-requires-clause-begun c).After-note_checks in
     let recorded : List Sighting → LookValue = λ reads. record { turn = c.args.id; guess = c.args.stream.now.place; drew = false; reads = reads; writes = []; killed = [] } in
     ap (λ (l : LookValue). record l { reads = c.note_checks.new.list.items }) (c.self.view_is ∙ c.begin.ensures ∙ ap (blank_look c.args.id) c.place.ensures) ∙ ap recorded (noted at)
-
-pub returns-then-not-are_none_of-clause-look : goal.returns-then-not-are_none_of-clause-look
-returns-then-not-are_none_of-clause-look c = c.fight.ensures.look
-
-pub returns-then-not-are_none_of-clause-stream : goal.returns-then-not-are_none_of-clause-stream
-returns-then-not-are_none_of-clause-stream c = c.fight.ensures.stream
-
-pub returns-clause-stream : goal.returns-clause-stream
-returns-clause-stream c =
-    let none : one_if c.self.inside.drew ≡ 0 = ap (λ (l : LookValue). one_if l.drew) (c.self.view_is ∙ c.begin.ensures) in
-    let still : c.args.stream.now.place ≡ c.args.stream.now.place + one_if c.self.inside.drew = omega (arith, none) in
-    let at : ℕ → SeedAndPlace = λ place. record { seed = c.args.stream.now.seed; place = place } in
-    ap at still

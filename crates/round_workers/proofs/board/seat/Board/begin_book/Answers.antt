@@ -1,4 +1,4 @@
-use Rattle.std.proofs.Common.{Some, sym, ap, ◌∙◌, subst}
+use Rattle.std.proofs.Common.{Some, sym, ap, subst}
 use Rattle.std.specs.Prelude.{IsSomeAnd}
 use Rattle.round_book.specs.Book.{StandsFor}
 use Rattle.round_workers.specs.declared.board.view.BoardSlot.TheVariants.{Nothing, TheBook}
@@ -14,12 +14,6 @@ exchange-requires-clause-out c = let it = c.take_book_step-found.ensures.tells.h
 pub book_room-requires : goal.book_room-requires
 book_room-requires c = let it = c.take_book_step-found.ensures.tells.home c.if-found-ne-HOME.false in
     some-there _ (Some it.0) (ap book_room (sym (lay-in _ _ 0 (TheBook (Some it.0)) _ _ _ it.2 c.exchange.ensures.lay)))
-
-pub returns-then-found-ne-HOME-clause-held_by_another : goal.returns-then-found-ne-HOME-clause-held_by_another
-returns-then-found-ne-HOME-clause-held_by_another c = (c.take_book_step-found.ensures.tells.out c.if-found-ne-HOME.true).1
-
-pub returns-clause-table : goal.returns-clause-table
-returns-clause-table c = c.exchange.ensures.table ∙ c.take_book_step-found.ensures.table
 
 pub returns-clause-stands : goal.returns-clause-stands
 returns-clause-stands c = let it = c.take_book_step-found.ensures.tells.home c.if-found-ne-HOME.false in

@@ -22,9 +22,6 @@ returns-then-found-ne-FULL-clause-not_full c =
 pub returns-then-found-ne-FULL-clause-nothing : goal.returns-then-found-ne-FULL-clause-nothing
 returns-then-found-ne-FULL-clause-nothing c = ap (λ (m : At). m.1) (c.take_look_step-found.ensures.tells.other c.if-found-ne-FULL.true)
 
-pub returns-clause-table : goal.returns-clause-table
-returns-clause-table c = c.exchange.ensures.table ∙ c.take_look_step-found.ensures.table
-
 pub returns-clause-look : goal.returns-clause-look
 returns-clause-look c = let hit = c.take_look_step-found.ensures.tells.full c.if-found-ne-FULL.false in
     let there = ap look_room (sym (lay-in _ _ (c.args.ticket + 1) (OneLook (Some (look_at_ticket c.args.hand.now.me.0 c.args.ticket))) _ _ _ hit c.exchange.ensures.lay)) in

@@ -1,12 +1,9 @@
 use Rattle.std.proofs.Common.{◌+◌, ap, ◌∙◌}
 use Rattle.atomic_table.specs.Table.{rest}
-use Rattle.round_workers.specs.declared.board.view.BoardSlot.TheVariants.{Nothing, Spare}
+use Rattle.round_workers.specs.declared.board.view.BoardSlot.TheVariants.{Spare}
 use Rattle.round_workers.specs.BoardPlays.{has_taken}
 use Rattle.round_workers.proofs.BoardMoves.{At, hand_after, slot-held}
 use Rattle.round_workers.proofs.board.seat.Board.end_take.Goals as goal
-
-pub exchange-requires-clause-out : goal.exchange-requires-clause-out
-exchange-requires-clause-out c = (Nothing, c.requires.out)
 
 pub has_taken_step-requires-clause-hand : goal.has_taken_step-requires-clause-hand
 has_taken_step-requires-clause-hand c = hand_after _ _ _ c.exchange.ensures.table (ap (λ (m : At). m.0.about) c.exchange.ensures.lies) c.requires.hand
@@ -16,9 +13,6 @@ has_taken_step-requires-clause-taking c = ap (λ (m : At). m.0.phase) c.exchange
 
 pub has_taken_step-requires-clause-spare : goal.has_taken_step-requires-clause-spare
 has_taken_step-requires-clause-spare c = (c.args.room, slot-held _ _ (c.args.ticket + 1) (Spare c.args.room) _ c.exchange.ensures.lies)
-
-pub returns-clause-table : goal.returns-clause-table
-returns-clause-table c = c.has_taken_step.ensures.table ∙ c.exchange.ensures.table
 
 pub returns-clause-has_taken : goal.returns-clause-has_taken
 returns-clause-has_taken c = c.has_taken_step.ensures.has_taken ∙ ap (λ (m : At). (has_taken m.0 c.args.ticket, rest m.1)) c.exchange.ensures.lies

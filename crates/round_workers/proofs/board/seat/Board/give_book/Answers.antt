@@ -1,9 +1,6 @@
-use Rattle.std.proofs.Common.{None, sym, ap, ◌∙◌, [], subst}
-use Rattle.std.specs.Prelude.{IsSomeAnd}
-use Rattle.round_book.specs.Book.{StandsFor}
+use Rattle.std.proofs.Common.{None, sym, ap, ◌∙◌, []}
 use Rattle.round_workers.specs.declared.board.view.BoardSlot.TheVariants.{Nothing, TheBook}
 use Rattle.round_workers.specs.Inner.BoardPlaces.{book_room}
-use Rattle.round_workers.specs.BoardSeats.{board_window}
 use Rattle.round_workers.specs.BoardView.{out_with}
 use Rattle.round_workers.proofs.BoardMoves.{At, hand_after, lay-in, slot-held, some-there, swapped}
 use Rattle.round_workers.proofs.board.seat.Board.give_book.Goals as goal
@@ -27,6 +24,3 @@ end_book-requires-clause-holds c = let me = c.args.seat.now.hand.me in let out =
 pub end_book-requires-clause-out : goal.end_book-requires-clause-out
 end_book-requires-clause-out c = let me = c.args.seat.now.hand.me in let out = c.args.seat.now.at_rest.out ∙ ap out_with c.requires.holds in
     slot-held _ me.0 0 Nothing [] (swapped _ _ me.0 0 (TheBook None) Nothing [] (λ i. (me.0, out i)) c.exchange-place.ensures.lies)
-
-pub end_book-requires-clause-stands : goal.end_book-requires-clause-stands
-end_book-requires-clause-stands c = subst (λ content. IsSomeAnd content (StandsFor (board_window c.args.self.now))) (sym c.put.ensures) c.requires.stands

@@ -17,6 +17,3 @@ swap-requires c =
       subst (λ (out : List (ℕ × BoardSlot)). Allows (IsKept key) slots c.args.hand.now.id (me.0, out) (j + 2) (λ _. 2) (tells_has_put (step slots (j + 2) 2 0 maybe.none) (me.0, out))) (sym c.requires.look)
           (has-put key slots c.args.hand.now.id me.0 c.requires.hand.knows j inside (rest me.1) _ refl c.requires.putting),
     )
-
-pub returns-clause-has_put : goal.returns-clause-has_put
-returns-clause-has_put c = c.swap.ensures.2.1 c.args.ticket refl

@@ -1,4 +1,4 @@
-use Rattle.std.proofs.Common.{ℕ, List, ◌+◌, arith, refl, sym, subst}
+use Rattle.std.proofs.Common.{ℕ, List, ◌+◌, arith, sym, subst}
 use mathlib.Core.Option as maybe
 use Rattle.atomic_table.specs.Table.{Allows, rest, step}
 use Rattle.round_workers.specs.declared.board.view.BoardSlot.{BoardSlot}
@@ -17,6 +17,3 @@ swap-requires c =
       subst (λ (out : List (ℕ × BoardSlot)). Allows (IsKept key) slots c.args.hand.now.id (me.0, out) (j + 2) (λ _. 3) (tells_has_taken (step slots (j + 2) 3 0 maybe.none) (me.0, out))) (sym c.requires.spare.1)
           (has-taken key slots c.args.hand.now.id me.0 c.requires.hand.knows j inside (rest me.1) c.requires.spare.0 c.requires.taking),
     )
-
-pub returns-clause-has_taken : goal.returns-clause-has_taken
-returns-clause-has_taken c = c.swap.ensures.2.1 c.args.ticket refl

@@ -8,11 +8,6 @@ use Rattle.round_workers.proofs.BoardWorkers.{look-so}
 use Rattle.round_workers.proofs.BoardMoves.{At, hand_after, put-done, put-rests, slot-held}
 use Rattle.round_workers.proofs.board.seat.Board.look_and_put.Goals as goal
 
-pub look_at-requires-clause-id : goal.look_at-requires-clause-id
-look_at-requires-clause-id c =
-    let board = c.args.self.now in let same : c.args.field.now.world.ids ≡ (basis_of board).world.value.ids = ap (λ (w : Window). w.base.ids) c.requires.field.same in
-    let ids = board.ids in let inside = c.requires.ticket in let a = board.first in let b = board.last in let turn = c.turn_of-turn.ensures in omega arith
-
 pub look_at-requires-clause-place : goal.look_at-requires-clause-place
 look_at-requires-clause-place c =
     let board = c.args.self.now in let few = guess_for-le (board_window board) ((basis_of board).from + c.args.ticket) in let at = c.requires.guess in

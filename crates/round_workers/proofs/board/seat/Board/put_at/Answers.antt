@@ -1,4 +1,4 @@
-use Rattle.std.proofs.Common.{Some, ◌+◌, ap, ◌∙◌}
+use Rattle.std.proofs.Common.{◌+◌, ap, ◌∙◌}
 use Rattle.round_workers.specs.declared.board.view.BoardSlot.TheVariants.{Nothing}
 use Rattle.round_workers.proofs.BoardMoves.{At, hand_after, put-done, put-rests, slot-held}
 use Rattle.round_workers.proofs.board.seat.Board.put_at.Goals as goal
@@ -11,9 +11,6 @@ end_put-requires-clause-putting c = ap (λ (m : At). m.0.phase) c.begin_put-room
 
 pub end_put-requires-clause-out : goal.end_put-requires-clause-out
 end_put-requires-clause-out c = slot-held _ _ (c.args.ticket + 1) Nothing _ c.begin_put-room.ensures.puts
-
-pub end_put-requires-clause-look : goal.end_put-requires-clause-look
-end_put-requires-clause-look c = c.put.ensures ∙ ap Some c.requires.look
 
 pub invariant_of-seat : goal.invariant_of-seat
 invariant_of-seat c = record { at_rest = put-rests c.args.seat.now.hand.me _ _ c.args.ticket c.begin_put-room.ensures.puts c.end_put.ensures.has_put c.args.seat.now.at_rest }

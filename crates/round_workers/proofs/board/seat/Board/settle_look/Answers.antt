@@ -1,20 +1,12 @@
-use Rattle.std.proofs.Common.{◌≡◌, Some, ℕ, ◌+◌, ◌-◌, arith, sym, subst, ap, ap₂, ◌∙◌}
+use Rattle.std.proofs.Common.{◌≡◌, Some, ℕ, ◌+◌, ◌-◌, arith, sym, ap, ap₂, ◌∙◌}
 use Rattle.atomic_table.specs.Table.{rest}
 use Rattle.round_book.specs.Window.{Window, look_for}
 use Rattle.round_workers.specs.declared.board.view.BoardSlot.TheVariants.{Nothing}
 use Rattle.round_workers.specs.BoardPlays.{has_taken, took_look}
-use Rattle.round_workers.specs.BoardSeats.{IsMiss, basis_of, board_window}
+use Rattle.round_workers.specs.BoardSeats.{basis_of, board_window}
 use Rattle.round_workers.proofs.BoardMoves.{At, hand_after, slot-held}
 use Rattle.round_workers.proofs.BoardWorkers.{for-on, on-for, window_at}
 use Rattle.round_workers.proofs.board.seat.Board.settle_look.Goals as goal
-
-pub begin_take-requires-clause-ticket : goal.begin_take-requires-clause-ticket
-begin_take-requires-clause-ticket c =
-    let board = c.args.self.now in let begins : c.args.book.now.from ≡ (basis_of board).from = c.requires.stands.stands.from in
-    let a = board.first in let b = board.last in let left = c.requires.left in let begun = c.requires.stands.begun in let next = c.next.ensures.next in omega arith
-
-pub returns-in_default-clause-not_full : goal.returns-in_default-clause-not_full
-returns-in_default-clause-not_full c = λ missed. subst (λ (j : ℕ). IsMiss j c.args.hand.now.me.0 c.begin_take.new.hand.me.0) (ap₂ (λ (a b : ℕ). a - b) c.next.ensures.next (sym c.args.self.now.first)) c.in_default.ensures.not_full
 
 pub settle_by-requires-clause-stands : goal.settle_by-requires-clause-stands
 settle_by-requires-clause-stands c = on-for c.args.field.now (board_window c.args.self.now) c.requires.can.lent c.args.book.now c.requires.stands
@@ -46,29 +38,3 @@ returns-clause-out c = let ticket : ℕ = c.next.result - c.args.self.now.from i
 
 pub returns-clause-stands : goal.returns-clause-stands
 returns-clause-stands c = for-on c.args.field.now (board_window c.args.self.now) c.requires.can.lent c.args.book.now c.settle_by.new.book c.requires.stands c.settle_by.ensures.same c.settle_by.ensures.stands
-
-pub begin_take-requires-clause-hand : goal.begin_take-requires-clause-hand
-begin_take-requires-clause-hand c = c.requires.can.seated
-
-pub begin_take-requires-clause-rests : goal.begin_take-requires-clause-rests
-begin_take-requires-clause-rests c = c.requires.can.rests
-
-pub returns-in_default-clause-table : goal.returns-in_default-clause-table
-returns-in_default-clause-table c = c.begin_take.ensures.table
-
-pub returns-in_default-clause-out : goal.returns-in_default-clause-out
-returns-in_default-clause-out c = c.in_default.ensures.nothing
-
-pub returns-in_default-clause-stands : goal.returns-in_default-clause-stands
-returns-in_default-clause-stands c = c.requires.stands
-
-pub end_take-requires-clause-ticket : goal.end_take-requires-clause-ticket
-end_take-requires-clause-ticket c =
-    let board = c.args.self.now in let begins : c.args.book.now.from ≡ (basis_of board).from = c.requires.stands.stands.from in
-    let a = board.first in let b = board.last in let left = c.requires.left in let begun = c.requires.stands.begun in let next = c.next.ensures.next in omega arith
-
-pub returns-clause-table : goal.returns-clause-table
-returns-clause-table c = c.end_take.ensures.table ∙ c.begin_take.ensures.table
-
-pub returns-clause-next : goal.returns-clause-next
-returns-clause-next c = λ was_there. c.settle_by.ensures.next

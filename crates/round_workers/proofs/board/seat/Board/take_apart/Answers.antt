@@ -1,7 +1,5 @@
-use Rattle.std.proofs.Common.{Some, ◌≡◌, ℕ, ◌+◌, ◌-◌, ◌<◌, ◌≤◌, [], ◌∷◌, length, length-append, arith, refl, sym, subst, ap, ◌∙◌}
+use Rattle.std.proofs.Common.{Some, ◌≡◌, ℕ, ◌+◌, ◌-◌, ◌<◌, [], ◌∷◌, length, length-append, arith, sym, subst, ap, ◌∙◌}
 use lib.ListN.{get_elem?}
-use Rattle.std.specs.Vec.{vec_capacity}
-use Rattle.std.specs.Mem.Slots.{slots_len}
 use Rattle.round_workers.specs.BoardSeats.{basis_of, known, board_window}
 use Rattle.round_workers.specs.BoardLaws.{IsWhereClosed, Way}
 use Rattle.round_workers.specs.BoardTotals.{once_below}
@@ -45,10 +43,6 @@ returns-clause-reached c =
     let last = lasts key c.args.seat.hand.id v c.requires.board.knows c.requires.first c.requires.whole c.args.seat.at_rest.resting c.requires.opened c.requires.free _ _ c.close_with-closed.ensures.values.2 in
     subst (λ n. Way (board_window c.args.self) (IsWhereClosed (board_window c.args.self) n v.put)) (index-at _ 0 _ c.word-drawn.ensures) last.reached
 
-pub push_reserved-requires : goal.push_reserved-requires
-push_reserved-requires c =
-    let long = c.loop-ticket.invariant.placed in let same = c.loop-ticket.invariant.capacity in let room : c.args.self.to - c.args.self.from ≤ vec_capacity c.args.self.places = c.args.self.wide in let inside = c.loop-ticket-test.true in omega arith
-
 pub loop-ticket-preserved : goal.loop-ticket-preserved
 loop-ticket-preserved c =
     let key = basis_of c.args.self in let v = known c.args.seat in
@@ -65,32 +59,3 @@ loop-ticket-preserved c =
       capacity = c.push_reserved.ensures.capacity ∙ old.capacity;
       looks = places-more (board_window c.args.self) v _ _ t c.take_slot-in-loop-ticket.result was c.push_reserved.ensures.items (look-at-slot key v _ _ t _ last (omega arith) here) old.looks;
     }
-
-pub returns-clause-turns : goal.returns-clause-turns
-returns-clause-turns c =
-    let a : (basis_of c.args.self).from ≡ c.args.self.from = c.args.self.first in let b : (basis_of c.args.self).to ≡ c.args.self.to = c.args.self.last in
-    let long = c.loop-ticket.invariant.placed in let e : c.args.self.to - c.args.self.from ≤ c.loop-ticket.ticket = c.loop-ticket-test.false in let f : c.loop-ticket.ticket ≤ c.args.self.to - c.args.self.from = c.loop-ticket.auto.ticket-end in omega arith
-
-pub returns-clause-looks : goal.returns-clause-looks
-returns-clause-looks c k h =
-    let a : (basis_of c.args.self).from ≡ c.args.self.from = c.args.self.first in let b : (basis_of c.args.self).to ≡ c.args.self.to = c.args.self.last in
-    let e : c.args.self.to - c.args.self.from ≤ c.loop-ticket.ticket = c.loop-ticket-test.false in c.loop-ticket.invariant.looks k (omega arith)
-
-pub free-requires : goal.free-requires
-free-requires c k h =
-    let e : c.args.self.to - c.args.self.from ≤ c.loop-ticket.ticket = c.loop-ticket-test.false in
-    let long : slots_len c.loop-ticket.closed.slots ≡ c.args.self.to - c.args.self.from + 1 = c.loop-ticket.invariant.len ∙ (c.take_slot.ensures.len ∙ (c.close_with-closed.ensures.counts.1 ∙ c.args.self.slots)) in
-    c.loop-ticket.invariant.taken.taken k (omega arith)
-
-pub loop-ticket-init : goal.loop-ticket-init
-loop-ticket-init c = record {
-  items = refl;
-  len = refl;
-  taken = c.take_slot.ensures.taken;
-  placed = ap length c.args.self.unplaced;
-  capacity = refl;
-  looks = λ k below. absurd (omega arith);
-}
-
-pub returns-clause-roomy : goal.returns-clause-roomy
-returns-clause-roomy c = let board = c.args.self in subst (λ (z : ℕ × ℕ). z.1 - z.0 ≤ vec_capacity board.room) (λ i. (sym board.first i, sym board.last i)) board.roomy

@@ -20,15 +20,6 @@ returns-clause-board c =
     let done = swapped _ _ _ 0 Nothing (TheBook c.take-book.new.self) me.1 c.in-Some.ensures.takes c.exchange.ensures.lies in
     record { table = c.exchange.ensures.table ∙ (c.begin_book.ensures.table ∙ c.requires.board.table); knows = ap (λ (m : At). m.0.about) done ∙ c.requires.board.knows }
 
-pub begin_book-requires-clause-hand : goal.begin_book-requires-clause-hand
-begin_book-requires-clause-hand c = c.requires.board
-
-pub begin_book-requires-clause-opened : goal.begin_book-requires-clause-opened
-begin_book-requires-clause-opened c = c.requires.opened
-
-pub begin_book-requires-clause-free : goal.begin_book-requires-clause-free
-begin_book-requires-clause-free c = c.requires.free
-
 pub returns-in_default-clause-board : goal.returns-in_default-clause-board
 returns-in_default-clause-board c = record { table = c.begin_book.ensures.table ∙ c.requires.board.table; knows = ap (λ (m : At). m.0.about) c.in_default.ensures.held_by_another ∙ c.requires.board.knows }
 

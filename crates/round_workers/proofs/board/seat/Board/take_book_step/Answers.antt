@@ -9,6 +9,3 @@ compare_exchange-requires c = let wide = c.args.self.now.words in let me = c.arg
   omega arith,
   takes-book (basis_of c.args.self.now) _ _ me.0 c.requires.hand.knows me.1 c.requires.opened c.requires.free,
 )
-
-pub returns-clause-tells : goal.returns-clause-tells
-returns-clause-tells c = c.compare_exchange.ensures.2.1

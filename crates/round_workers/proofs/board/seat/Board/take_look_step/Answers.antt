@@ -1,4 +1,4 @@
-use Rattle.std.proofs.Common.{arith, refl}
+use Rattle.std.proofs.Common.{arith}
 use Rattle.round_workers.specs.BoardSeats.{basis_of}
 use Rattle.round_workers.proofs.BoardLooks.{takes-look}
 use Rattle.round_workers.proofs.board.seat.Board.take_look_step.Goals as goal
@@ -9,6 +9,3 @@ compare_exchange-requires c = let wide = c.args.self.now.words in let a = c.args
   omega arith,
   takes-look (basis_of c.args.self.now) _ _ me.0 c.requires.hand.knows c.args.ticket inside me.1 c.requires.rests,
 )
-
-pub returns-clause-tells : goal.returns-clause-tells
-returns-clause-tells c = c.compare_exchange.ensures.2.1 c.args.ticket refl

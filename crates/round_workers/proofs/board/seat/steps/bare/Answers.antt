@@ -1,7 +1,6 @@
 use Rattle.std.proofs.Common.{◌++◌, ◌∷◌, [], ◌∙◌, ap, arith}
 use Rattle.round_workers.specs.declared.board.view.BoardSlot.TheVariants.{TheBook}
 use Rattle.round_workers.proofs.BoardStart.{bare-first, bare-more}
-use Rattle.std.proofs.lemmas.Result.{IfOk-from_err}
 use Rattle.round_workers.proofs.board.seat.steps.bare.Goals as goal
 
 pub loop-init : goal.loop-init
@@ -14,15 +13,3 @@ loop-preserved c = record {
   room = (let a = c.spare.ensures.fewer in let b = c.spare.ensures.capacity in let d = c.loop.invariant.room in omega arith);
   few = (let a = c.push_reserved-in-loop.ensures.len in let b = c.loop.invariant.few in omega arith);
 }
-
-pub returns-in_err-slots-clause-bare : goal.returns-in_err-slots-clause-bare
-returns-in_err-slots-clause-bare c = IfOk-from_err c.from_residual.result _ c.from_residual.ensures.0
-
-pub returns-in_err-slots-clause-room : goal.returns-in_err-slots-clause-room
-returns-in_err-slots-clause-room c = IfOk-from_err c.from_residual.result _ c.from_residual.ensures.0
-
-pub returns-in_err-book-clause-bare : goal.returns-in_err-book-clause-bare
-returns-in_err-book-clause-bare c = IfOk-from_err c.from_residual-in_err-book.result _ c.from_residual-in_err-book.ensures.0
-
-pub returns-in_err-book-clause-room : goal.returns-in_err-book-clause-room
-returns-in_err-book-clause-room c = IfOk-from_err c.from_residual-in_err-book.result _ c.from_residual-in_err-book.ensures.0
