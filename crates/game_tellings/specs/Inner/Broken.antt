@@ -1,0 +1,34 @@
+-- The lines of a game's events as they are pushed: each behind the LF of the line before, and not before its own.
+use Rattle.std.specs.Prelude.{ℕ, List, [], flat_map, Option, Some, None, codes, decimal}
+use Rattle.ant_base.specs.Layout.{text_of_option, ◌+++◌}
+use Rattle.cell_world.specs.declared.ant.Ant.{Ant}
+use Rattle.cell_world.specs.declared.ant.PlacedAnt.{PlacedAnt}
+use Rattle.cell_world.specs.declared.score.Score.{Score}
+use Rattle.game_tellings.specs.declared.death.Watch.{Watch}
+use Rattle.game_tellings.specs.Events.{ant_words, place_words}
+use Rattle.game_tellings.specs.Inner.Watch.{killed_among}
+
+-- lines, each behind an LF
+abbrev pub broken : List (List ℕ) → List ℕ
+broken lines = flat_map (λ words. codes "\n" +++ words) lines
+
+-- the words of the round and of this ant, whose turn it is, behind an LF
+abbrev pub broken_turn : ℕ → Ant → List ℕ
+broken_turn round actor = codes "\nround " +++ decimal round +++ codes ", " +++ ant_words (Some actor) +++ codes ": "
+
+-- the words of an ant that dies in its turn
+abbrev pub broken_death : ℕ → Ant → PlacedAnt → List ℕ
+broken_death round actor killed = broken_turn round actor +++ ant_words (Some killed.ant) +++ codes " dies on " +++ place_words (Some killed.place)
+
+-- the words of the score after its turn
+abbrev pub broken_score : ℕ → Ant → Score → List ℕ
+broken_score round actor score = broken_turn round actor +++ codes "score: red " +++ decimal score.red +++ codes " black " +++ decimal score.black
+
+-- the words of a killed ant that was watched
+abbrev pub watched_death : ℕ → Ant → Watch → ℕ → List ℕ
+watched_death round actor watch id = text_of_option (broken_death round actor) (killed_among watch.stepped watch.near id)
+
+-- the words of the killed, where any were watched
+abbrev pub watched_deaths : ℕ → Ant → Option Watch → List ℕ → List ℕ
+watched_deaths round actor None killed = []
+watched_deaths round actor (Some watch) killed = flat_map (watched_death round actor watch) killed

@@ -1,0 +1,116 @@
+// A world whose score is known at each time.
+ghost use Rattle.std.specs.Prelude.{◌≡◌, ◌+◌, ◌-◌, ◌≤◌};
+ghost use Rattle.cell_world.specs.declared.ant.Colour.TheVariants.{Red, Black};
+ghost use Rattle.cell_world.specs.Grid.{IsWorld, world_of};
+ghost use Rattle.cell_world.specs.Limits.{most_weight};
+ghost use Rattle.cell_world.specs.Score.{hill_food_in, score_of};
+
+use cell_world::{Ant, Cell, Colour, Ground, PlacedAnt, Score, World};
+use hex_geometry::Pos;
+use std::marker::Model;
+
+// A world and its score, which goes on with each cell that is set. A contract sees the world alone.
+#[derive(Drop)]
+pub(crate) struct ScoredWorld {
+    world: World,
+    score: Score,
+}
+
+impl Model for ScoredWorld {
+    ghost use Rattle.std.specs.Prelude.{◌≡◌};
+    ghost use Rattle.cell_world.specs.Grid.{Grid, world_of};
+    ghost use Rattle.cell_world.specs.Score.{score_of};
+
+    ghost Value = { Grid };
+
+    ghost view = { λ scored. scored.world };
+
+    ghost invariant = { λ scored. scored.score ≡ score_of (world_of scored.world) };
+}
+
+impl ScoredWorld {
+    // The world, whose cells are gone over once.
+    pub(crate) fn of(world: World) -> ScoredWorld
+        ensures { result ≡ world }
+    {
+        let score = world.score();
+        ScoredWorld { world, score }
+    }
+
+    // The score as it is, without going over any cell.
+    #[inline]
+    pub(crate) fn score(&self) -> Score
+        ensures { result ≡ score_of (world_of self.now) }
+    {
+        self.score
+    }
+
+    // How many ids were ever made.
+    #[inline]
+    pub(crate) fn ant_count(&self) -> u32
+        ensures ids { result ≡ self.now.ids }
+        ensures world { IsWorld self.now }
+    {
+        self.world.ant_count()
+    }
+}
+
+// A world can take any number of changes: its room is always 9, the most that a turn needs.
+impl Ground for ScoredWorld {
+    ghost world = { world_of };
+
+    ghost room = { λ _. 9 };
+
+    #[inline]
+    fn cell_at(&mut self, p: Pos) -> Cell {
+        self.world.cell_at(p)
+    }
+
+    #[inline]
+    fn place_of(&mut self, id: u32) -> Option<Pos> {
+        self.world.place_of(id)
+    }
+
+    #[inline]
+    fn set(&mut self, p: Pos, cell: Cell) {
+        let before = self.world.cell(p);
+        self.score = Score {
+            red: food_after(self.score.red, &before, &cell, Colour::Red),
+            black: food_after(self.score.black, &before, &cell, Colour::Black),
+        };
+        self.world.set(p, cell);
+    }
+
+    #[inline]
+    fn ant_of(&mut self, id: u32) -> Option<PlacedAnt> {
+        self.world.ant_of(id)
+    }
+
+    #[inline]
+    fn set_mind(&mut self, p: Pos, ant: Ant) {
+        self.world.set_mind(p, ant);
+    }
+}
+
+// The food on a colour's hill, where one cell of the world becomes another.
+#[inline]
+fn food_after(food: u32, before: &Cell, after: &Cell, colour: Colour) -> u32
+    requires part { hill_food_in colour before.now ≤ food }
+    requires light { food ≤ most_weight }
+    requires light_after { hill_food_in colour after.now ≤ most_weight }
+    ensures { result ≡ food - hill_food_in colour before.now + hill_food_in colour after.now }
+{
+    food - hill_food(before, colour) + hill_food(after, colour)
+}
+
+// The food on a cell, where it is of this colour's hill.
+#[inline]
+fn hill_food(cell: &Cell, colour: Colour) -> u32
+    ensures { result ≡ hill_food_in colour cell.now }
+{
+    if cell.is_hill_of(colour) {
+        cell.food
+    } else {
+        0
+    }
+}
