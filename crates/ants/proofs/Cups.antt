@@ -16,7 +16,7 @@ use Rattle.brain_read.proofs.SoundnessLemmas.{brain_of}
 use Rattle.cell_world.specs.Grid.{Grid, world_of}
 use Rattle.cell_world.specs.Score.{score_of}
 use Rattle.cell_world.specs.declared.score.Score.{Score}
-use Rattle.command_words.specs.Command.{CupWithin}
+use Rattle.ants.specs.Setups.{CupWithin}
 use Rattle.command_words.specs.Words.{texts}
 use Rattle.command_words.specs.Slots.{AllDiffer}
 use Rattle.match_run.specs.Run.{most_rounds, world_after}

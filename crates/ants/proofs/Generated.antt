@@ -9,9 +9,9 @@ use Rattle.ant_turn.specs.Minds.{Fits}
 use Rattle.ant_turn.proofs.FitLemmas.{Fits-opening}
 use Rattle.cell_world.specs.Grid.{Grid, world_of}
 use Rattle.cell_world.specs.Opening.{opening}
-use Rattle.command_words.specs.Command.{PlainCommand}
-use Rattle.command_words.specs.Command.PlainCommand.{GenCommand}
-use Rattle.command_words.specs.declared.command.GenShape.{GenShape}
+use Rattle.ants.specs.Job.{Job, LacksRoom, files_of}
+use Rattle.ants.specs.Jobs.{gen_job}
+use Rattle.ants.specs.declared.commands.setups.GenShape.{GenShape}
 use Rattle.world_gen.specs.declared.shape.Shape.{Shape}
 use Rattle.world_gen.specs.Generated.{IsGenerated}
 use Rattle.world_gen.specs.Placing.{HasNoRoom}
@@ -22,7 +22,7 @@ use Rattle.ants.specs.declared.stop.CommandStop.TheVariants as stop
 use Rattle.ants.specs.Files.{AreAccepted, File}
 use Rattle.ants.specs.Inner.Plans.{IsGenerating}
 use Rattle.ants.specs.Inner.Reading.{CarriesOut, ending_of, push_ending}
-use Rattle.ants.specs.Outputs.{LacksRoom, contest_shape, files_of, sample_minds, shape_named}
+use Rattle.ants.specs.Outputs.{contest_shape, sample_minds, shape_named}
 use Rattle.ants.proofs.Readings.{carries_pushed, carries_wanting, ending_stopped, reads_none}
 use Rattle.ants.proofs.SampleWorked.{sample_brain-sound}
 
@@ -46,7 +46,7 @@ fits_generated seed shape world generated =
     subst (λ (g : Grid). Fits (world_of g) sample_minds) (sym generated.is) (Fits-opening shape.width shape.height generated.kinds sample_minds sample_brain-sound.some sample_brain-sound.some)
 
 -- no world came, for want of room or of memory
-pub carries_ungenerated : {U : Type 0} (command : PlainCommand) (seed : ℕ) (shape : Shape) (shelf : ShelfState) (out : SinkState) (result : Result U CommandStop) (why : CommandStop) → files_of command ≡ []
+pub carries_ungenerated : {U : Type 0} (command : Job) (seed : ℕ) (shape : Shape) (shelf : ShelfState) (out : SinkState) (result : Result U CommandStop) (why : CommandStop) → files_of command ≡ []
     → ((element : ℕ) → HasNoRoom seed shape element → LacksRoom command element) → IsErrAnd result (λ other. other ≡ why)
     → IsGenerating seed shape (Err why) → CarriesOut command shelf shelf out out (ending_of result)
 carries_ungenerated command seed shape shelf out result (stop.Read name) no_file room same none = absurd none
@@ -62,7 +62,7 @@ carries_ungenerated command seed shape shelf out result stop.Memory no_file room
 
 -- the world's text was pushed last
 pub carries_generated : {U : Type 0} (seed : ℕ) (shape : GenShape) (shelf : ShelfState) (out new_out : SinkState) (world : Grid) (result : Result U CommandStop) (last : Result (Unit {0}) Failed) → ending_of result ≡ push_ending last → IsGenerated seed (shape_named shape) world
-    → Pushed out new_out (canonical_text world.width world.height (kinds_of world)) last → CarriesOut (GenCommand seed shape) shelf shelf out new_out (ending_of result)
+    → Pushed out new_out (canonical_text world.width world.height (kinds_of world)) last → CarriesOut (gen_job seed shape) shelf shelf out new_out (ending_of result)
 carries_generated seed shape shelf out new_out world result last same generated pushed =
-    carries_pushed (GenCommand seed shape) shelf shelf out new_out [] result last same (reads_none shelf) (canonical_text world.width world.height (kinds_of world))
+    carries_pushed (gen_job seed shape) shelf shelf out new_out [] result last same (reads_none shelf) (canonical_text world.width world.height (kinds_of world))
     (record { value = tt; read = refl; told = record { world = world; generated = generated; told = refl } }) pushed

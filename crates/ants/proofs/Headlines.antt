@@ -4,8 +4,11 @@ use Rattle.ant_base.specs.Fetched.{Fetched}
 use Rattle.ant_base.specs.Shelf.{FetchesEach}
 use Rattle.ant_base.specs.Sink.{NothingWaits, PushedAll}
 use Rattle.command_words.proofs.WordLaws as words_laws
-use Rattle.command_words.specs.Command.{IsCommand, PlainCommand, RunSetup}
-use Rattle.command_words.specs.Command.PlainCommand.{RunCommand}
+use Rattle.command_words.specs.Command.{IsCommand, PlainAsked}
+use Rattle.ants.specs.Setups.{RunSetup, setup_of}
+use Rattle.ants.specs.Jobs.{job_by, job_of, run_job}
+use Rattle.command_words.specs.declared.table.CommandKind.{CommandKind}
+use Rattle.command_words.specs.declared.table.CommandKind.TheVariants.{Run}
 use Rattle.ant_turn.specs.Rounds.{start_of}
 use Rattle.cell_world.specs.Grid.{world_of}
 use Rattle.dump_print.specs.declared.totals.Totals.{Totals}
@@ -13,7 +16,8 @@ use Rattle.match_run.specs.Counts.{counts_text, totals_of, whole_text}
 use Rattle.match_run.specs.Run.{run_text}
 use Rattle.ants.specs.Files.{AreAccepted, FileContent}
 use Rattle.ants.specs.Headline.{Headline, NamesTheReason, NamesTheWord, PrintsItsOutput, PrintsTheGame, TellsItsCounts, KeepsPromise}
-use Rattle.ants.specs.Outputs.{IsJobText, ReadGame, game_contents, game_files, match_output, minds_named}
+use Rattle.ants.specs.Job.{IsJobText}
+use Rattle.ants.specs.Outputs.{ReadGame, game_contents, game_files, match_output, minds_named}
 use Rattle.ants.specs.Outside.{Outside}
 use Rattle.ants.specs.Endings.{IsDone}
 use Rattle.ants.specs.Run.{Ends, Reports}
@@ -88,17 +92,19 @@ game_of world red black setup before after (a ∷ b ∷ c ∷ fetches) read text
     (game, record { told = refl })
 
 game_done : (world red black : List ℕ) (setup : RunSetup) (before after : Outside) (fetches : List Fetched) (contents : List FileContent) (text : List ℕ) → FetchesEach before.shelf after.shelf fetches
-    → AreAccepted (game_files world red black) fetches contents → IsJobText (RunCommand world red black setup) contents text → PushedAll before.out after.out text
+    → AreAccepted (game_files world red black) fetches contents → IsJobText (run_job world red black setup) contents text → PushedAll before.out after.out text
     → after.err ≡ before.err → PrintsAll world red black setup before after
 game_done world red black setup before after fetches contents text fetched are is written silent =
     game_of world red black setup before after fetches is.value text fetched (subst (AreAccepted (game_files world red black) fetches) is.read are) is.told written
     (written.flushed (ends is.told (lf_match setup is.value))) silent
 
-game : (words : List (List ℕ)) (before after : Outside) → HasEnded words before after Done → (world red black : List ℕ) (setup : RunSetup) → IsCommand words (RunCommand world red black setup) → PrintsAll world red black setup before after
-game words before after it world red black setup is =
-    let done : IsDone (RunCommand world red black setup) before after it.fetches =
-    subst (λ (command : PlainCommand). IsDone command before after it.fetches) (words_laws.one_command words it.ends.command (RunCommand world red black setup) it.ends.is_command is) it.ends.done in
-    game_done world red black setup before after it.fetches done.contents done.text it.fetched done.accepted done.is_text done.written it.reports
+game : (words : List (List ℕ)) (before after : Outside) → HasEnded words before after Done → (asked : PlainAsked) → IsCommand words asked → asked.kind ≡ Run
+    → PrintsAll (asked.file 0) (asked.file 1) (asked.file 2) (setup_of asked) before after
+game words before after it asked is kind =
+    let done : IsDone (run_job (asked.file 0) (asked.file 1) (asked.file 2) (setup_of asked)) before after it.fetches =
+    subst (λ (k : CommandKind). IsDone (job_by k asked) before after it.fetches) kind
+    (subst (λ (command : PlainAsked). IsDone (job_of command) before after it.fetches) (words_laws.one_command words it.ends.command asked it.ends.is_command is) it.ends.done) in
+    game_done (asked.file 0) (asked.file 1) (asked.file 2) (setup_of asked) before after it.fetches done.contents done.text it.fetched done.accepted done.is_text done.written it.reports
 
 no_command : (words : List (List ℕ)) (before after : Outside) (word : ℕ) → HasEnded words before after (RefusedWord word) → NamesTheWord words before after
 no_command words before after word it = record {

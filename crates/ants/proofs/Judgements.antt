@@ -7,7 +7,7 @@ use Rattle.ant_base.specs.Fetched.{Fetched}
 use Rattle.ant_base.specs.Shelf.{IsTold, longest}
 use Rattle.ant_base.specs.declared.shelf.FetchFault.TheVariants as answer
 use Rattle.ants.specs.declared.stop.FileFault.{FileFault}
-use Rattle.ants.specs.declared.stop.FileFault.TheVariants.{TooLong, World, Brain, Breaks, Labelled, Save, AlreadyAt}
+use Rattle.ants.specs.declared.stop.FileFault.TheVariants.{TooLong}
 use Rattle.ants.specs.Files.{AreAccepted, FileContent, File, IsAccepted, IsNoText, IsRefused, Refuses, StopsAt}
 use Rattle.ants.specs.Verdict.{AreThere, IsJudged, IsRefusedAs, Judged, JudgesOnce, FilesVerdict}
 use Rattle.ants.specs.Verdict.FilesVerdict.{AllAccepted, FirstRefused}
@@ -23,54 +23,9 @@ one_text_fault at file first second a b one two is also =
 -- a file is refused with one fault
 one_fault : (at : At) (file : File) (first second : Fetched) (a b : FileFault) → IsTold (Some at) first → IsTold (Some at) second → IsRefused file first a → IsRefused file second b → a ≡ b
 one_fault at file first second TooLong TooLong one two is also = refl
-one_fault at file first second TooLong (World b) one two is also = absurd (never_bytes at file.name also.bytes second first two one also.got is)
-one_fault at file first second TooLong (Brain b) one two is also = absurd (never_bytes at file.name also.bytes second first two one also.got is)
-one_fault at file first second TooLong (Breaks b) one two is also = absurd (never_bytes at file.name also.bytes second first two one also.got is)
-one_fault at file first second TooLong (Labelled b) one two is also = absurd (never_bytes at file.name also.bytes second first two one also.got is)
-one_fault at file first second (World a) TooLong one two is also = absurd (never_bytes at file.name is.bytes first second one two is.got also)
-one_fault at file first second (Brain a) TooLong one two is also = absurd (never_bytes at file.name is.bytes first second one two is.got also)
-one_fault at file first second (Breaks a) TooLong one two is also = absurd (never_bytes at file.name is.bytes first second one two is.got also)
-one_fault at file first second (Labelled a) TooLong one two is also = absurd (never_bytes at file.name is.bytes first second one two is.got also)
-one_fault at file first second (World a) (World b) one two is also = one_text_fault at file first second (World a) (World b) one two is also
-one_fault at file first second (World a) (Brain b) one two is also = one_text_fault at file first second (World a) (Brain b) one two is also
-one_fault at file first second (World a) (Breaks b) one two is also = one_text_fault at file first second (World a) (Breaks b) one two is also
-one_fault at file first second (World a) (Labelled b) one two is also = one_text_fault at file first second (World a) (Labelled b) one two is also
-one_fault at file first second (Brain a) (World b) one two is also = one_text_fault at file first second (Brain a) (World b) one two is also
-one_fault at file first second (Brain a) (Brain b) one two is also = one_text_fault at file first second (Brain a) (Brain b) one two is also
-one_fault at file first second (Brain a) (Breaks b) one two is also = one_text_fault at file first second (Brain a) (Breaks b) one two is also
-one_fault at file first second (Brain a) (Labelled b) one two is also = one_text_fault at file first second (Brain a) (Labelled b) one two is also
-one_fault at file first second (Breaks a) (World b) one two is also = one_text_fault at file first second (Breaks a) (World b) one two is also
-one_fault at file first second (Breaks a) (Brain b) one two is also = one_text_fault at file first second (Breaks a) (Brain b) one two is also
-one_fault at file first second (Breaks a) (Breaks b) one two is also = one_text_fault at file first second (Breaks a) (Breaks b) one two is also
-one_fault at file first second (Breaks a) (Labelled b) one two is also = one_text_fault at file first second (Breaks a) (Labelled b) one two is also
-one_fault at file first second (Labelled a) (World b) one two is also = one_text_fault at file first second (Labelled a) (World b) one two is also
-one_fault at file first second (Labelled a) (Brain b) one two is also = one_text_fault at file first second (Labelled a) (Brain b) one two is also
-one_fault at file first second (Labelled a) (Breaks b) one two is also = one_text_fault at file first second (Labelled a) (Breaks b) one two is also
-one_fault at file first second (Labelled a) (Labelled b) one two is also = one_text_fault at file first second (Labelled a) (Labelled b) one two is also
-one_fault at file first second TooLong (Save b) one two is also = absurd (never_bytes at file.name also.bytes second first two one also.got is)
-one_fault at file first second TooLong (AlreadyAt b) one two is also = absurd (never_bytes at file.name also.bytes second first two one also.got is)
-one_fault at file first second (Save a) TooLong one two is also = absurd (never_bytes at file.name is.bytes first second one two is.got also)
-one_fault at file first second (AlreadyAt a) TooLong one two is also = absurd (never_bytes at file.name is.bytes first second one two is.got also)
-one_fault at file first second (World a) (Save b) one two is also = one_text_fault at file first second (World a) (Save b) one two is also
-one_fault at file first second (World a) (AlreadyAt b) one two is also = one_text_fault at file first second (World a) (AlreadyAt b) one two is also
-one_fault at file first second (Brain a) (Save b) one two is also = one_text_fault at file first second (Brain a) (Save b) one two is also
-one_fault at file first second (Brain a) (AlreadyAt b) one two is also = one_text_fault at file first second (Brain a) (AlreadyAt b) one two is also
-one_fault at file first second (Breaks a) (Save b) one two is also = one_text_fault at file first second (Breaks a) (Save b) one two is also
-one_fault at file first second (Breaks a) (AlreadyAt b) one two is also = one_text_fault at file first second (Breaks a) (AlreadyAt b) one two is also
-one_fault at file first second (Labelled a) (Save b) one two is also = one_text_fault at file first second (Labelled a) (Save b) one two is also
-one_fault at file first second (Labelled a) (AlreadyAt b) one two is also = one_text_fault at file first second (Labelled a) (AlreadyAt b) one two is also
-one_fault at file first second (Save a) (World b) one two is also = one_text_fault at file first second (Save a) (World b) one two is also
-one_fault at file first second (Save a) (Brain b) one two is also = one_text_fault at file first second (Save a) (Brain b) one two is also
-one_fault at file first second (Save a) (Breaks b) one two is also = one_text_fault at file first second (Save a) (Breaks b) one two is also
-one_fault at file first second (Save a) (Labelled b) one two is also = one_text_fault at file first second (Save a) (Labelled b) one two is also
-one_fault at file first second (Save a) (Save b) one two is also = one_text_fault at file first second (Save a) (Save b) one two is also
-one_fault at file first second (Save a) (AlreadyAt b) one two is also = one_text_fault at file first second (Save a) (AlreadyAt b) one two is also
-one_fault at file first second (AlreadyAt a) (World b) one two is also = one_text_fault at file first second (AlreadyAt a) (World b) one two is also
-one_fault at file first second (AlreadyAt a) (Brain b) one two is also = one_text_fault at file first second (AlreadyAt a) (Brain b) one two is also
-one_fault at file first second (AlreadyAt a) (Breaks b) one two is also = one_text_fault at file first second (AlreadyAt a) (Breaks b) one two is also
-one_fault at file first second (AlreadyAt a) (Labelled b) one two is also = one_text_fault at file first second (AlreadyAt a) (Labelled b) one two is also
-one_fault at file first second (AlreadyAt a) (Save b) one two is also = one_text_fault at file first second (AlreadyAt a) (Save b) one two is also
-one_fault at file first second (AlreadyAt a) (AlreadyAt b) one two is also = one_text_fault at file first second (AlreadyAt a) (AlreadyAt b) one two is also
+one_fault at file first second TooLong b one two is also = absurd (never_bytes at file.name also.bytes second first two one also.got is)
+one_fault at file first second a TooLong one two is also = absurd (never_bytes at file.name is.bytes first second one two is.got also)
+one_fault at file first second a b one two is also = one_text_fault at file first second a b one two is also
 
 -- files are accepted as the same contents
 same_contents : (at : At) (files : List File) (first second : List Fetched) (a b : List FileContent) → AllByRecursion (IsTold (Some at)) first → AllByRecursion (IsTold (Some at)) second → AreAccepted files first a → AreAccepted files second b → a ≡ b

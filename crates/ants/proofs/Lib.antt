@@ -1,10 +1,12 @@
 -- Texts: what each command writes, that it is one, is there, and ends in LF.
+pub mod SetupLemmas
 pub mod Cups
 pub mod Viewed
 pub mod TextEnds
 pub mod ReadContents
 pub mod Texts
 pub mod JobTexts
+pub mod WorkerLaws
 -- What is fetched and judged, file by file.
 pub mod Readings
 pub mod ToldCups
@@ -22,6 +24,8 @@ pub mod Workloads
 pub mod LabelledGames
 pub mod ResumedGames
 pub mod Headlines
+mod FirstWorlds
 -- Worked values.
 pub mod HelpWorked
 pub mod WorkedStops
+pub mod WorkedJobs

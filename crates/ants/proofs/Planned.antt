@@ -6,16 +6,16 @@ use Rattle.ant_base.specs.Sink.{PushedAll, SinkState}
 use Rattle.ant_turn.specs.Minds.{Minds}
 use Rattle.ant_turn.specs.Sheet.{Sheet}
 use Rattle.cell_world.specs.Grid.{world_of}
-use Rattle.command_words.specs.Command.PlainCommand.{RunCommand}
-use Rattle.command_words.specs.Command.{RunSetup}
-use Rattle.match_run.specs.declared.fault.PlayFault.{PlayFault}
+use Rattle.ants.specs.Jobs.{run_job}
+use Rattle.ants.specs.Setups.{RunSetup}
+use Rattle.ant_base.specs.declared.push_fault.PushFault.{PushFault}
 use Rattle.match_run.specs.Counts.{whole_text}
 use Rattle.match_run.specs.Dumps.{chooses}
 use Rattle.match_run.specs.Play.{StoppedBy}
 use Rattle.match_save.specs.Saved.{save_text}
 use Rattle.match_save.specs.Saves.{saved_after}
-use Rattle.ants.specs.declared.run.PlannedGame.{PlannedGame}
-use Rattle.ants.specs.declared.run.Setting.{Setting}
+use Rattle.ants.specs.declared.commands.run.PlannedGame.{PlannedGame}
+use Rattle.ants.specs.declared.commands.run.Setting.{Setting}
 use Rattle.ants.specs.declared.stop.CommandStop.{CommandStop}
 use Rattle.ants.specs.Inner.Plans.{Plans, game_read, minds_in, setting_contents, stop_of, text_in}
 use Rattle.ants.specs.Inner.Reading.{CarriesOut, ReadsFiles, ending_of}
@@ -57,16 +57,16 @@ module _ (setup : RunSetup) (game : PlannedGame) (setting : Setting) (plans : Pl
 
   module _ (world red black : List ℕ) (shelf new_shelf : ShelfState) (out new_out : SinkState) (reads : ReadsFiles shelf new_shelf (game_files world red black) (Contents (setting_contents setting))) where
     -- its files were read, and its whole text was written
-    pub carries_game : PushedAll out new_out (text_in setting game) → CarriesOut (RunCommand world red black setup) shelf new_shelf out new_out None
+    pub carries_game : PushedAll out new_out (text_in setting game) → CarriesOut (run_job world red black setup) shelf new_shelf out new_out None
     carries_game pushed =
-        carries_done (RunCommand world red black setup) shelf new_shelf out new_out (setting_contents setting) reads
+        carries_done (run_job world red black setup) shelf new_shelf out new_out (setting_contents setting) reads
         (match_output setup (game_read setting)) (tells setting (match_output setup))
         (subst (PushedAll out new_out) output_planned pushed)
 
     -- its files were read, and its play stopped
-    pub carries_game_stopped : {U : Type 0} (result : Result U CommandStop) (fault : PlayFault) → IsErrAnd result (λ other. other ≡ stop_of fault) → StoppedBy out new_out (text_in setting game) fault
-        → CarriesOut (RunCommand world red black setup) shelf new_shelf out new_out (ending_of result)
+    pub carries_game_stopped : {U : Type 0} (result : Result U CommandStop) (fault : PushFault) → IsErrAnd result (λ other. other ≡ stop_of fault) → StoppedBy out new_out (text_in setting game) fault
+        → CarriesOut (run_job world red black setup) shelf new_shelf out new_out (ending_of result)
     carries_game_stopped result fault same pushed =
-        carries_fault (RunCommand world red black setup) shelf new_shelf out new_out (setting_contents setting) result fault same reads
+        carries_fault (run_job world red black setup) shelf new_shelf out new_out (setting_contents setting) result fault same reads
         (match_output setup (game_read setting)) (tells setting (match_output setup))
         (subst (λ text. StoppedBy out new_out text fault) output_planned pushed) (λ front. tt)

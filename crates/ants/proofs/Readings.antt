@@ -9,9 +9,11 @@ use Rattle.ant_base.specs.Shelf.{FetchesEach, ShelfState}
 use Rattle.ant_base.specs.Sink.{SinkState, Pushed, PushedAll, PushedFront}
 use Rattle.ant_base.specs.declared.sink.Failed.{Failed}
 use Rattle.command_words.proofs.WordLaws.{within_limits}
-use Rattle.command_words.specs.Command.{PlainCommand, IsCommand, IsRefusedAt}
-use Rattle.match_run.specs.declared.fault.PlayFault.{PlayFault}
-use Rattle.match_run.specs.declared.fault.PlayFault.TheVariants as play
+use Rattle.command_words.specs.Command.{IsCommand, IsRefusedAt, PlainAsked}
+use Rattle.ants.specs.Jobs.{job_of}
+use Rattle.ants.specs.Job.{IsJobText, Job, WritesInPlay, files_of}
+use Rattle.ant_base.specs.declared.push_fault.PushFault.{PushFault}
+use Rattle.ant_base.specs.declared.push_fault.PushFault.TheVariants as play
 use Rattle.match_run.specs.Play.{PushedBy, PushedProperPrefix, StoppedBy}
 use Rattle.ants.specs.declared.stop.FileFault.{FileFault}
 use Rattle.ants.specs.declared.stop.FileFault.TheVariants.{TooLong, World, Brain, Breaks, Labelled, Save, AlreadyAt}
@@ -22,9 +24,8 @@ use Rattle.ants.specs.Inner.Plans.{play_ending, stop_of}
 use Rattle.ants.specs.Inner.Reading.{CarriesOut, CarriesOutWords, ComesTo, EndsBy, ReadOutcome, ReadingStops, ReadsFiles, ending_of, outcome_of, push_ending}
 use Rattle.ants.specs.Inner.Reading.ReadOutcome.{Contents, Stopped}
 use Rattle.ants.specs.Laws.{TellsNoLabel}
-use Rattle.ants.specs.Outputs.{files_of, IsJobText}
 use Rattle.ants.specs.Verdict.{IsRefusedAs}
-use Rattle.ants.specs.Endings.{IsDone, IsUnsure, StopsFor, WritesInPlay}
+use Rattle.ants.specs.Endings.{IsDone, IsUnsure, StopsFor}
 use Rattle.ants.specs.Run.{Ends}
 use Rattle.ants.specs.Outside.{Outside, outside_of}
 use Rattle.ants.specs.FaultLines.{Reason, ending_by, reason_of}
@@ -159,7 +160,7 @@ refused_text file fetch bytes (Labelled fault) got refuses = record { bytes = by
 refused_text file fetch bytes (Save fault) got refuses = record { bytes = bytes; got = got; refuses = refuses }
 refused_text file fetch bytes (AlreadyAt round) got refuses = record { bytes = bytes; got = got; refuses = refuses }
 
-stops_for : (command : PlainCommand) (shelf new_shelf : ShelfState) (fetches : List Fetched) (out err new_err : SinkState) (reason : Reason) → ReadingStops shelf new_shelf (files_of command) fetches reason
+stops_for : (command : Job) (shelf new_shelf : ShelfState) (fetches : List Fetched) (out err new_err : SinkState) (reason : Reason) → ReadingStops shelf new_shelf (files_of command) fetches reason
     → StopsFor command (outside_of shelf out err) (outside_of new_shelf out new_err) fetches reason
 stops_for command shelf new_shelf fetches out err new_err (AtFile name) stops = record { stopped = stops.stopped; rose = stops.rose; unwritten = refl }
 stops_for command shelf new_shelf fetches out err new_err AtOutput stops = absurd stops
@@ -168,39 +169,39 @@ stops_for command shelf new_shelf fetches out err new_err (AtRoom element) stops
 stops_for command shelf new_shelf fetches out err new_err AtMemory stops = inl (record { begun = stops; unwritten = refl })
 
 -- a command stopped at its files, with nothing written
-pub carries_stopped : (command : PlainCommand) (shelf new_shelf : ShelfState) (out : SinkState) (reason : Reason) → ReadsFiles shelf new_shelf (files_of command) (Stopped reason) → CarriesOut command shelf new_shelf out out (Some reason)
+pub carries_stopped : (command : Job) (shelf new_shelf : ShelfState) (out : SinkState) (reason : Reason) → ReadsFiles shelf new_shelf (files_of command) (Stopped reason) → CarriesOut command shelf new_shelf out out (Some reason)
 carries_stopped command shelf new_shelf out reason reads =
     record { fetches = reads.fetches; fetched = reads.fetched; ends = λ err new_err. stops_for command shelf new_shelf reads.fetches out err new_err reason reads.comes }
 
 -- a command's files were read, and its whole text was written
-pub carries_done : (command : PlainCommand) (shelf new_shelf : ShelfState) (out new_out : SinkState) (contents : List FileContent) → ReadsFiles shelf new_shelf (files_of command) (Contents contents)
+pub carries_done : (command : Job) (shelf new_shelf : ShelfState) (out new_out : SinkState) (contents : List FileContent) → ReadsFiles shelf new_shelf (files_of command) (Contents contents)
     → (text : List ℕ) → IsJobText command contents text → PushedAll out new_out text → CarriesOut command shelf new_shelf out new_out None
 carries_done command shelf new_shelf out new_out contents reads text is pushed =
     record { fetches = reads.fetches; fetched = reads.fetched; ends = λ err new_err. record { contents = contents; accepted = reads.comes; text = text; is_text = is; written = pushed } }
 
 -- a command's files were read, and a prefix of its text was written
-pub carries_cut : (command : PlainCommand) (shelf new_shelf : ShelfState) (out new_out : SinkState) (contents : List FileContent) → ReadsFiles shelf new_shelf (files_of command) (Contents contents)
+pub carries_cut : (command : Job) (shelf new_shelf : ShelfState) (out new_out : SinkState) (contents : List FileContent) → ReadsFiles shelf new_shelf (files_of command) (Contents contents)
     → (text : List ℕ) → IsJobText command contents text → PushedFront out new_out text → CarriesOut command shelf new_shelf out new_out (Some AtOutput)
 carries_cut command shelf new_shelf out new_out contents reads text is pushed =
     record { fetches = reads.fetches; fetched = reads.fetched; ends = λ err new_err. record { contents = contents; accepted = reads.comes; text = text; is_text = is; cut = pushed } }
 
 -- a command's files were read, and a proper prefix of its text was written before memory was wanting
-pub carries_broken : (command : PlainCommand) (shelf new_shelf : ShelfState) (out new_out : SinkState) (contents : List FileContent) → ReadsFiles shelf new_shelf (files_of command) (Contents contents)
+pub carries_broken : (command : Job) (shelf new_shelf : ShelfState) (out new_out : SinkState) (contents : List FileContent) → ReadsFiles shelf new_shelf (files_of command) (Contents contents)
     → (text : List ℕ) → IsJobText command contents text → (broken : PushedProperPrefix out new_out text) → WritesInPlay command contents broken.front
     → CarriesOut command shelf new_shelf out new_out (Some AtMemory)
 carries_broken command shelf new_shelf out new_out contents reads text is pushed in_play =
     record { fetches = reads.fetches; fetched = reads.fetched; ends = λ err new_err. inr (record { contents = contents; accepted = reads.comes; text = text; is_text = is; broken = pushed; in_play = in_play }) }
 
 -- memory was wanting before a file was fetched
-pub carries_nothing : (command : PlainCommand) (shelf : ShelfState) (out : SinkState) → CarriesOut command shelf shelf out out (Some AtMemory)
+pub carries_nothing : (command : Job) (shelf : ShelfState) (out : SinkState) → CarriesOut command shelf shelf out out (Some AtMemory)
 carries_nothing command shelf out = record { fetches = []; fetched = fetches_none shelf; ends = λ err new_err. inl (record { begun = begun_none (files_of command); unwritten = refl }) }
 
 -- what was written ends in LF, or has no bytes
-last_byte : (words : List (List ℕ)) (command : PlainCommand) (before after : Outside) (fetches : List Fetched) → IsCommand words command → (done : IsDone command before after fetches)
+last_byte : (words : List (List ℕ)) (command : PlainAsked) (before after : Outside) (fetches : List Fetched) → IsCommand words command → (done : IsDone (job_of command) before after fetches)
     → (ends_in_lf done.text ≡ true) ⊎ TellsNoLabel command done.text
 last_byte words command before after fetches is done = texts_end_in_lf command fetches done.contents done.text (within_limits words command is) done.accepted done.is_text
 
-ends_as : (words : List (List ℕ)) (command : PlainCommand) (before after : Outside) (fetches : List Fetched) (stop : Option Reason) → IsCommand words command → EndsBy command before after fetches stop
+ends_as : (words : List (List ℕ)) (command : PlainAsked) (before after : Outside) (fetches : List Fetched) (stop : Option Reason) → IsCommand words command → EndsBy (job_of command) before after fetches stop
     → Ends words before after fetches (ending_by stop)
 ends_as words command before after fetches None is ends =
     record {
@@ -213,8 +214,8 @@ ends_as words command before after fetches None is ends =
 ends_as words command before after fetches (Some reason) is ends = record { command = command; is_command = is; stopped = ends }
 
 -- words that are a command were carried out as it was
-pub carries_words : (words : List (List ℕ)) (command : PlainCommand) (shelf new_shelf : ShelfState) (out new_out : SinkState) (stop : Option Reason) → IsCommand words command
-    → CarriesOut command shelf new_shelf out new_out stop → CarriesOutWords words shelf new_shelf out new_out (ending_by stop)
+pub carries_words : (words : List (List ℕ)) (command : PlainAsked) (shelf new_shelf : ShelfState) (out new_out : SinkState) (stop : Option Reason) → IsCommand words command
+    → CarriesOut (job_of command) shelf new_shelf out new_out stop → CarriesOutWords words shelf new_shelf out new_out (ending_by stop)
 carries_words words command shelf new_shelf out new_out stop is carried =
     record {
       fetches = carried.fetches;
@@ -249,19 +250,19 @@ ending_stopped (Ok done) why same = absurd same
 ending_stopped (Err other) why same = ap (λ s. Some (reason_of s)) (sym same)
 
 -- a command that answers with the stop of its files
-pub carries_stop : {U : Type 0} (command : PlainCommand) (shelf new_shelf : ShelfState) (out : SinkState) (result : Result U CommandStop) (why : CommandStop) → IsErrAnd result (λ other. other ≡ why)
+pub carries_stop : {U : Type 0} (command : Job) (shelf new_shelf : ShelfState) (out : SinkState) (result : Result U CommandStop) (why : CommandStop) → IsErrAnd result (λ other. other ≡ why)
     → ReadsFiles shelf new_shelf (files_of command) (Stopped (reason_of why)) → CarriesOut command shelf new_shelf out out (ending_of result)
 carries_stop command shelf new_shelf out result why same reads =
     subst (CarriesOut command shelf new_shelf out out) (ending_stopped result why same) (carries_stopped command shelf new_shelf out (reason_of why) reads)
 
 -- a command that answers with a failed output
-carries_failure : {U : Type 0} (command : PlainCommand) (shelf new_shelf : ShelfState) (out new_out : SinkState) (contents : List FileContent) (result : Result U CommandStop) → IsErrAnd result (λ other. other ≡ stop.Write)
+carries_failure : {U : Type 0} (command : Job) (shelf new_shelf : ShelfState) (out new_out : SinkState) (contents : List FileContent) (result : Result U CommandStop) → IsErrAnd result (λ other. other ≡ stop.Write)
     → ReadsFiles shelf new_shelf (files_of command) (Contents contents) → (text : List ℕ) → IsJobText command contents text → PushedFront out new_out text → CarriesOut command shelf new_shelf out new_out (ending_of result)
 carries_failure command shelf new_shelf out new_out contents result same reads text is pushed =
     subst (CarriesOut command shelf new_shelf out new_out) (ending_stopped result stop.Write same) (carries_cut command shelf new_shelf out new_out contents reads text is pushed)
 
 -- a command that pushes its text last, and answers as that went
-pub carries_pushed : {U : Type 0} (command : PlainCommand) (shelf new_shelf : ShelfState) (out new_out : SinkState) (contents : List FileContent) (result : Result U CommandStop) (last : Result (Unit {0}) Failed) → ending_of result ≡ push_ending last
+pub carries_pushed : {U : Type 0} (command : Job) (shelf new_shelf : ShelfState) (out new_out : SinkState) (contents : List FileContent) (result : Result U CommandStop) (last : Result (Unit {0}) Failed) → ending_of result ≡ push_ending last
     → ReadsFiles shelf new_shelf (files_of command) (Contents contents) → (text : List ℕ) → IsJobText command contents text → Pushed out new_out text last → CarriesOut command shelf new_shelf out new_out (ending_of result)
 carries_pushed command shelf new_shelf out new_out contents result (Ok done) same reads text is pushed =
     subst (CarriesOut command shelf new_shelf out new_out) (sym same) (carries_done command shelf new_shelf out new_out contents reads text is pushed)
@@ -269,7 +270,7 @@ carries_pushed command shelf new_shelf out new_out contents result (Err failed) 
     subst (CarriesOut command shelf new_shelf out new_out) (sym same) (carries_cut command shelf new_shelf out new_out contents reads text is pushed)
 
 -- a command that answers with the fault of a play
-pub carries_fault : {U : Type 0} (command : PlainCommand) (shelf new_shelf : ShelfState) (out new_out : SinkState) (contents : List FileContent) (result : Result U CommandStop) (fault : PlayFault) → IsErrAnd result (λ other. other ≡ stop_of fault)
+pub carries_fault : {U : Type 0} (command : Job) (shelf new_shelf : ShelfState) (out new_out : SinkState) (contents : List FileContent) (result : Result U CommandStop) (fault : PushFault) → IsErrAnd result (λ other. other ≡ stop_of fault)
     → ReadsFiles shelf new_shelf (files_of command) (Contents contents) → (text : List ℕ) → IsJobText command contents text → StoppedBy out new_out text fault → ((front : List ℕ) → WritesInPlay command contents front)
     → CarriesOut command shelf new_shelf out new_out (ending_of result)
 carries_fault command shelf new_shelf out new_out contents result play.WriteFault same reads text is pushed in_play = carries_failure command shelf new_shelf out new_out contents result same reads text is pushed
@@ -277,7 +278,7 @@ carries_fault command shelf new_shelf out new_out contents result play.OutOfMemo
     subst (CarriesOut command shelf new_shelf out new_out) (ending_stopped result stop.Memory same) (carries_broken command shelf new_shelf out new_out contents reads text is pushed (in_play pushed.front))
 
 -- a command that plays a game last, and answers as that went
-pub carries_played : {U V : Type 0} (command : PlainCommand) (shelf new_shelf : ShelfState) (out new_out : SinkState) (contents : List FileContent) (result : Result U CommandStop) (last : Result V PlayFault) → ending_of result ≡ play_ending last
+pub carries_played : {U V : Type 0} (command : Job) (shelf new_shelf : ShelfState) (out new_out : SinkState) (contents : List FileContent) (result : Result U CommandStop) (last : Result V PushFault) → ending_of result ≡ play_ending last
     → ReadsFiles shelf new_shelf (files_of command) (Contents contents) → (text : List ℕ) → IsJobText command contents text → PushedBy out new_out text last → ((front : List ℕ) → WritesInPlay command contents front)
     → CarriesOut command shelf new_shelf out new_out (ending_of result)
 carries_played command shelf new_shelf out new_out contents result (Ok done) same reads text is pushed in_play =
@@ -288,11 +289,11 @@ carries_played command shelf new_shelf out new_out contents result (Err play.Out
     subst (CarriesOut command shelf new_shelf out new_out) (sym same) (carries_broken command shelf new_shelf out new_out contents reads text is pushed (in_play pushed.front))
 
 -- a command that answers out of memory before a file was fetched
-pub carries_wanting : {U : Type 0} (command : PlainCommand) (shelf : ShelfState) (out : SinkState) (result : Result U CommandStop) → IsErrAnd result (λ other. other ≡ stop.Memory) → CarriesOut command shelf shelf out out (ending_of result)
+pub carries_wanting : {U : Type 0} (command : Job) (shelf : ShelfState) (out : SinkState) (result : Result U CommandStop) → IsErrAnd result (λ other. other ≡ stop.Memory) → CarriesOut command shelf shelf out out (ending_of result)
 carries_wanting command shelf out result same = subst (CarriesOut command shelf shelf out out) (ending_stopped result stop.Memory same) (carries_nothing command shelf out)
 
 -- a command that answers out of memory after its files were read
-pub carries_wanting_later : {U : Type 0} (command : PlainCommand) (shelf new_shelf : ShelfState) (out : SinkState) (contents : List FileContent) (result : Result U CommandStop) → IsErrAnd result (λ other. other ≡ stop.Memory)
+pub carries_wanting_later : {U : Type 0} (command : Job) (shelf new_shelf : ShelfState) (out : SinkState) (contents : List FileContent) (result : Result U CommandStop) → IsErrAnd result (λ other. other ≡ stop.Memory)
     → ReadsFiles shelf new_shelf (files_of command) (Contents contents) → CarriesOut command shelf new_shelf out out (ending_of result)
 carries_wanting_later command shelf new_shelf out contents result same reads =
     carries_stop command shelf new_shelf out result stop.Memory same (reads_wanting shelf new_shelf (files_of command) contents reads)

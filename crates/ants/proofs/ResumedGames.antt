@@ -10,7 +10,7 @@ use Rattle.brain_read.specs.Forms.{HasBound, IsInRange}
 use Rattle.brain_read.specs.Grammar.{AreLines, IsBrainText}
 use Rattle.brain_read.proofs.SoundnessLemmas.{brain_of}
 use Rattle.cell_world.specs.Grid.{world_of}
-use Rattle.command_words.specs.Command.{RunSetup, SetupWithin}
+use Rattle.ants.specs.Setups.{RunSetup, SetupWithin}
 use Rattle.dump_print.specs.Texts.{seed_text}
 use Rattle.line_tokens.specs.TokenLines.{TokenLine, lines_with_tokens}
 use Rattle.match_run.specs.Counts.{whole_text}
@@ -26,10 +26,11 @@ use Rattle.world_read.specs.Opened.{OpensAs}
 use Rattle.ants.specs.Files.{AreAccepted, Reads}
 use Rattle.ants.specs.Files.FileContent.{SaveContent}
 use Rattle.ants.specs.Files.FileKind.{SaveFile}
-use Rattle.ants.specs.Outputs.{ReadGame, Tells, chosen_rounds, files_of, game_contents, game_files, is_text_of, match_output, minds_named, resume_output, save_contents, save_output}
+use Rattle.ants.specs.Outputs.{ReadGame, Tells, chosen_rounds, game_contents, game_files, is_text_of, match_output, minds_named, resume_output, save_contents, save_output}
+use Rattle.ants.specs.Job.{files_of}
 use Rattle.ants.specs.Verdict.{IsJudged}
 use Rattle.ants.specs.Verdict.FilesVerdict.{AllAccepted}
-use Rattle.command_words.specs.Command.PlainCommand.{ResumeCommand}
+use Rattle.ants.specs.Jobs.{resume_job}
 use Rattle.ants.proofs.ReadContents.{read_game, read_save}
 use Rattle.ants.specs.Laws.{IsGameOf, IsSavedAs, SavesAreResumed, front_output, resumed_setup, saved_setup}
 
@@ -164,7 +165,7 @@ short world red black setup game round workers text is early told =
 -- so a shelf that holds it gives it, and it is accepted
 fetched : (world red black save : List ℕ) (setup : RunSetup) (game : ReadGame) (round workers others : ℕ) (text : List ℕ) (at : List ℕ → Option (List ℕ)) → IsGameOf world red black setup game
     → round ≤ setup.rounds → text ≡ save_output (saved_setup setup round workers) game → at save ≡ Some text
-    → (saved : SavedValue) × IsJudged at (files_of (ResumeCommand save (resumed_setup setup others))) (AllAccepted (SaveContent saved ∷ []))
+    → (saved : SavedValue) × IsJudged at (files_of (resume_job save (resumed_setup setup others))) (AllAccepted (SaveContent saved ∷ []))
 fetched world red black save setup game round workers others text at is early told there =
     let read = accepted world red black setup game round workers text is early told in (
       read.0,

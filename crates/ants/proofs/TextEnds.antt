@@ -32,7 +32,7 @@ use Rattle.cell_world.specs.declared.cell.Cell.{Cell}
 use Rattle.cell_world.specs.declared.kind.Kind.{Kind}
 use Rattle.cell_world.specs.declared.kind.Kind.TheVariants.{Rock}
 use Rattle.cell_world.specs.declared.score.Score.{Score}
-use Rattle.command_words.specs.Command.{ResumeSetup, RunSetup, TraceSetup}
+use Rattle.ants.specs.Setups.{ResumeSetup, RunSetup, TraceSetup}
 use Rattle.dump_print.specs.Texts.{cell_line, cell_words, cells_text, dump_text, row_text, score_text, seed_text, seed_words, stats_text}
 use Rattle.dump_print.specs.declared.totals.Totals.{Totals}
 use Rattle.line_tokens.specs.Fields.{LineField, field_text, further_text, line_text}
@@ -52,8 +52,9 @@ use Rattle.tournament.specs.Told.{IsToldCupText, cup_played, games_text}
 use Rattle.tournament.specs.declared.standing.Line.{Line}
 use Rattle.world_read.specs.Bytes.{byte_of}
 use Rattle.world_read.specs.Canonical.{canonical_text, cell_text, line_of_row, space_if}
-use Rattle.ants.specs.declared.workload.Summary.{Summary}
-use Rattle.ants.specs.Help.{file_lines, game_lines, game_option_lines, head_lines, help_text, print_option_lines, status_lines, version_text, world_option_lines}
+use Rattle.ants.specs.declared.commands.workload.Summary.{Summary}
+use Rattle.ants.specs.Help.{head_lines, help_text, tail_lines, version_text}
+use Rattle.command_words.specs.Help.{table_text}
 use Rattle.ants.specs.Outputs.{ReadGame, traced_sheet, trace_output, chosen_rounds, match_output, minds_named, resume_output, save_output, show_output, summary_lines, workload_text}
 
 -- a text that ends in LF
@@ -295,9 +296,8 @@ lf_workload seed rounds summary =
     lf_last (summary_lines seed rounds summary) (score_text summary.score +++ stats_text summary.totals) (lf_last (score_text summary.score) (stats_text summary.totals) (lf_stats summary.totals))
 
 pub lf_help : EndsInLf help_text
-unfolding help_text status_lines
-lf_help =
-    lf_last head_lines _ (lf_last game_lines _ (lf_last file_lines _ (lf_last game_option_lines _ (lf_last world_option_lines _ (lf_last print_option_lines status_lines (record { is = refl }))))))
+unfolding help_text tail_lines
+lf_help = lf_last head_lines _ (lf_last table_text tail_lines (record { is = refl }))
 
 pub lf_version : EndsInLf version_text
 unfolding version_text

@@ -1,6 +1,7 @@
 -- The bytes of a file of each kind: they are read in one way or refused in one way, and never both.
 use Rattle.std.proofs.Common.{◌≡◌, ◌⊎◌, inl, inr, ℕ, ◌≤◌, Bool, true, false, List, Result, Ok, Err, refl, sym, ◌∙◌, ap, subst, arith}
 use Rattle.std.proofs.lemmas.Bool.{cases_lt}
+use Rattle.ant_base.specs.Answers.{IsFaultOr}
 use Rattle.ant_asm.proofs.HasAssembled.{one-reading, some-reading}
 use Rattle.ant_asm.proofs.Expansion.{no-fault}
 use Rattle.ant_asm.proofs.LabelsRead.{has-labels, labels-fault, one-labels}
@@ -13,22 +14,21 @@ use Rattle.ant_asm.specs.Text.{IsAsmFault}
 use Rattle.ant_asm.specs.declared.fault.AsmFault.{AsmFault}
 use Rattle.ant_asm.specs.declared.fault.AsmFault.TheVariants as labelled
 use Rattle.brain_read.proofs.FaultyLemmas as whole
-use Rattle.brain_read.specs.Answers as brain_answers
+use Rattle.brain_read.specs.Faulty.{IsBrainFault}
 use Rattle.brain_read.specs.declared.instr.Instr.{Instr}
 use Rattle.brain_read.specs.declared.fault.BrainFault.{BrainFault}
 use Rattle.brain_read.specs.declared.fault.BrainFault.TheVariants as brain
 use Rattle.break_view.proofs.FaultyLemmas as break_whole
-use Rattle.break_view.specs.Answers as break_answers
+use Rattle.break_view.specs.Faulty.{IsBreakFault}
 use Rattle.break_view.specs.declared.fault.BreakFault.{BreakFault}
 use Rattle.break_view.specs.declared.fault.BreakFault.TheVariants as breaks
 use Rattle.cell_world.specs.Grid.{Grid}
 use Rattle.match_save.proofs.SaveVerdicts.{every_verdict}
-use Rattle.match_save.specs.Answers as save_answers
+use Rattle.match_save.specs.Faulty.{IsSaveFault}
 use Rattle.match_save.specs.Saved.{IsSaveText, SavedValue}
 use Rattle.match_save.specs.declared.fault.SaveFault.{SaveFault}
 use Rattle.match_save.specs.declared.fault.SaveFault.TheVariants as save
 use Rattle.world_read.proofs.AnswersLemmas as told
-use Rattle.world_read.specs.Answers as world_answers
 use Rattle.world_read.specs.Faulty.{IsWorldFault}
 use Rattle.world_read.specs.Opened.{OpensAs}
 use Rattle.world_read.specs.Inner.Reading.{world_of_text}
@@ -61,77 +61,14 @@ never_past bytes rounds round saved reads past =
 
 -- bytes are never both read and refused
 pub never_both : (kind : FileKind) (bytes : List ℕ) (content : FileContent) (fault : FileFault) → Reads kind bytes content → Refuses kind bytes fault → ⊥
-never_both WorldFile bytes content TooLong reads refuses = refuses
-never_both WorldFile bytes content (Brain fault) reads refuses = refuses
-never_both WorldFile bytes content (Breaks fault) reads refuses = refuses
-never_both WorldFile bytes content (Labelled fault) reads refuses = refuses
 never_both WorldFile bytes (WorldContent grid) (World fault) reads refuses = never_wrong bytes grid fault reads refuses
-never_both WorldFile bytes (BrainContent list) (World fault) reads refuses = reads
-never_both WorldFile bytes (BreakContent items) (World fault) reads refuses = reads
-never_both WorldFile bytes (LabelledContent made places) (World fault) reads refuses = reads
-never_both WorldFile bytes (LabelsContent labels) (World fault) reads refuses = reads
-never_both WorldFile bytes content (Save fault) reads refuses = refuses
-never_both WorldFile bytes content (AlreadyAt round) reads refuses = refuses
-never_both WorldFile bytes (SaveContent saved) (World fault) reads refuses = reads
-never_both BrainFile bytes content TooLong reads refuses = refuses
-never_both BrainFile bytes content (World fault) reads refuses = refuses
-never_both BrainFile bytes content (Breaks fault) reads refuses = refuses
-never_both BrainFile bytes content (Labelled fault) reads refuses = refuses
-never_both BrainFile bytes (WorldContent grid) (Brain fault) reads refuses = reads
 never_both BrainFile bytes (BrainContent list) (Brain fault) reads refuses = whole.never_both bytes list fault reads refuses
-never_both BrainFile bytes (BreakContent items) (Brain fault) reads refuses = reads
-never_both BrainFile bytes (LabelledContent made places) (Brain fault) reads refuses = reads
-never_both BrainFile bytes (LabelsContent labels) (Brain fault) reads refuses = reads
-never_both BrainFile bytes content (Save fault) reads refuses = refuses
-never_both BrainFile bytes content (AlreadyAt round) reads refuses = refuses
-never_both BrainFile bytes (SaveContent saved) (Brain fault) reads refuses = reads
-never_both BreakFile bytes content TooLong reads refuses = refuses
-never_both BreakFile bytes content (World fault) reads refuses = refuses
-never_both BreakFile bytes content (Brain fault) reads refuses = refuses
-never_both BreakFile bytes content (Labelled fault) reads refuses = refuses
-never_both BreakFile bytes (WorldContent grid) (Breaks fault) reads refuses = reads
-never_both BreakFile bytes (BrainContent list) (Breaks fault) reads refuses = reads
 never_both BreakFile bytes (BreakContent items) (Breaks fault) reads refuses = break_whole.never_both bytes items fault reads refuses
-never_both BreakFile bytes (LabelledContent made places) (Breaks fault) reads refuses = reads
-never_both BreakFile bytes (LabelsContent labels) (Breaks fault) reads refuses = reads
-never_both BreakFile bytes content (Save fault) reads refuses = refuses
-never_both BreakFile bytes content (AlreadyAt round) reads refuses = refuses
-never_both BreakFile bytes (SaveContent saved) (Breaks fault) reads refuses = reads
-never_both (LabelledFile labels) bytes content TooLong reads refuses = refuses
-never_both (LabelledFile labels) bytes content (World fault) reads refuses = refuses
-never_both (LabelledFile labels) bytes content (Brain fault) reads refuses = refuses
-never_both (LabelledFile labels) bytes content (Breaks fault) reads refuses = refuses
-never_both (LabelledFile false) bytes (WorldContent grid) (Labelled fault) reads refuses = reads
-never_both (LabelledFile false) bytes (BrainContent list) (Labelled fault) reads refuses = reads
-never_both (LabelledFile false) bytes (BreakContent items) (Labelled fault) reads refuses = reads
 never_both (LabelledFile false) bytes (LabelledContent made places) (Labelled fault) reads refuses = no-fault bytes made places reads fault refuses
-never_both (LabelledFile false) bytes (LabelsContent labels) (Labelled fault) reads refuses = reads
-never_both (LabelledFile false) bytes (SaveContent saved) (Labelled fault) reads refuses = reads
-never_both (LabelledFile true) bytes (WorldContent grid) (Labelled fault) reads refuses = reads
-never_both (LabelledFile true) bytes (BrainContent list) (Labelled fault) reads refuses = reads
-never_both (LabelledFile true) bytes (BreakContent items) (Labelled fault) reads refuses = reads
-never_both (LabelledFile true) bytes (LabelledContent made places) (Labelled fault) reads refuses = reads
-never_both (LabelledFile labels) bytes content (Save fault) reads refuses = refuses
-never_both (LabelledFile labels) bytes content (AlreadyAt round) reads refuses = refuses
 never_both (LabelledFile true) bytes (LabelsContent labels) (Labelled fault) reads refuses = labels-fault bytes labels reads fault refuses
-never_both (LabelledFile true) bytes (SaveContent saved) (Labelled fault) reads refuses = reads
-never_both (SaveFile rounds) bytes content TooLong reads refuses = refuses
-never_both (SaveFile rounds) bytes content (World fault) reads refuses = refuses
-never_both (SaveFile rounds) bytes content (Brain fault) reads refuses = refuses
-never_both (SaveFile rounds) bytes content (Breaks fault) reads refuses = refuses
-never_both (SaveFile rounds) bytes content (Labelled fault) reads refuses = refuses
-never_both (SaveFile rounds) bytes (WorldContent other) (Save fault) reads refuses = reads
-never_both (SaveFile rounds) bytes (BrainContent other) (Save fault) reads refuses = reads
-never_both (SaveFile rounds) bytes (BreakContent other) (Save fault) reads refuses = reads
-never_both (SaveFile rounds) bytes (LabelledContent made places) (Save fault) reads refuses = reads
-never_both (SaveFile rounds) bytes (LabelsContent labels) (Save fault) reads refuses = reads
 never_both (SaveFile rounds) bytes (SaveContent saved) (Save fault) reads refuses = every_verdict.never_both bytes saved fault reads.0 refuses
-never_both (SaveFile rounds) bytes (WorldContent other) (AlreadyAt round) reads refuses = reads
-never_both (SaveFile rounds) bytes (BrainContent other) (AlreadyAt round) reads refuses = reads
-never_both (SaveFile rounds) bytes (BreakContent other) (AlreadyAt round) reads refuses = reads
-never_both (SaveFile rounds) bytes (LabelledContent made places) (AlreadyAt round) reads refuses = reads
-never_both (SaveFile rounds) bytes (LabelsContent labels) (AlreadyAt round) reads refuses = reads
 never_both (SaveFile rounds) bytes (SaveContent saved) (AlreadyAt round) reads refuses = never_past bytes rounds round saved reads refuses
+never_both kind bytes content fault reads refuses = assumption
 
 one_world : (bytes : List ℕ) (a b : Grid) → OpensAs bytes a → OpensAs bytes b → a ≡ b
 one_world bytes a b first second =
@@ -155,145 +92,24 @@ one_labelled bytes a b first second x y =
 -- bytes are read in one way
 pub one_reading : (kind : FileKind) (bytes : List ℕ) (a b : FileContent) → Reads kind bytes a → Reads kind bytes b → a ≡ b
 one_reading WorldFile bytes (WorldContent a) (WorldContent b) first second = ap WorldContent (one_world bytes a b first second)
-one_reading WorldFile bytes (WorldContent a) (BrainContent b) first second = absurd second
-one_reading WorldFile bytes (WorldContent a) (BreakContent b) first second = absurd second
-one_reading WorldFile bytes (WorldContent a) (LabelledContent made places) first second = absurd second
-one_reading WorldFile bytes (WorldContent a) (LabelsContent labels) first second = absurd second
-one_reading WorldFile bytes (BrainContent a) b first second = absurd first
-one_reading WorldFile bytes (BreakContent a) b first second = absurd first
-one_reading WorldFile bytes (LabelledContent made places) b first second = absurd first
-one_reading WorldFile bytes (LabelsContent labels) b first second = absurd first
-one_reading WorldFile bytes (WorldContent a) (SaveContent b) first second = absurd second
-one_reading WorldFile bytes (SaveContent a) b first second = absurd first
 one_reading BrainFile bytes (BrainContent a) (BrainContent b) first second = ap BrainContent (whole.one_brain bytes a b first second)
-one_reading BrainFile bytes (BrainContent a) (WorldContent b) first second = absurd second
-one_reading BrainFile bytes (BrainContent a) (BreakContent b) first second = absurd second
-one_reading BrainFile bytes (BrainContent a) (LabelledContent made places) first second = absurd second
-one_reading BrainFile bytes (BrainContent a) (LabelsContent labels) first second = absurd second
-one_reading BrainFile bytes (WorldContent a) b first second = absurd first
-one_reading BrainFile bytes (BreakContent a) b first second = absurd first
-one_reading BrainFile bytes (LabelledContent made places) b first second = absurd first
-one_reading BrainFile bytes (LabelsContent labels) b first second = absurd first
-one_reading BrainFile bytes (BrainContent a) (SaveContent b) first second = absurd second
-one_reading BrainFile bytes (SaveContent a) b first second = absurd first
 one_reading BreakFile bytes (BreakContent a) (BreakContent b) first second = ap BreakContent (break_whole.one_list bytes a b first second)
-one_reading BreakFile bytes (BreakContent a) (WorldContent b) first second = absurd second
-one_reading BreakFile bytes (BreakContent a) (BrainContent b) first second = absurd second
-one_reading BreakFile bytes (BreakContent a) (LabelledContent made places) first second = absurd second
-one_reading BreakFile bytes (BreakContent a) (LabelsContent labels) first second = absurd second
-one_reading BreakFile bytes (WorldContent a) b first second = absurd first
-one_reading BreakFile bytes (BrainContent a) b first second = absurd first
-one_reading BreakFile bytes (LabelledContent made places) b first second = absurd first
-one_reading BreakFile bytes (LabelsContent labels) b first second = absurd first
-one_reading BreakFile bytes (BreakContent a) (SaveContent b) first second = absurd second
-one_reading BreakFile bytes (SaveContent a) b first second = absurd first
 one_reading (LabelledFile false) bytes (LabelledContent made places) (LabelledContent other others) first second = one_labelled bytes made other places others first second
-one_reading (LabelledFile false) bytes (LabelledContent made places) (LabelsContent labels) first second = absurd second
-one_reading (LabelledFile false) bytes (LabelsContent labels) b first second = absurd first
-one_reading (LabelledFile false) bytes (LabelledContent made places) (WorldContent b) first second = absurd second
-one_reading (LabelledFile false) bytes (LabelledContent made places) (BrainContent b) first second = absurd second
-one_reading (LabelledFile false) bytes (LabelledContent made places) (BreakContent b) first second = absurd second
-one_reading (LabelledFile false) bytes (WorldContent a) b first second = absurd first
-one_reading (LabelledFile false) bytes (BrainContent a) b first second = absurd first
-one_reading (LabelledFile false) bytes (BreakContent a) b first second = absurd first
-one_reading (LabelledFile false) bytes (LabelledContent made places) (SaveContent b) first second = absurd second
-one_reading (LabelledFile false) bytes (SaveContent a) b first second = absurd first
 one_reading (LabelledFile true) bytes (LabelsContent labels) (LabelsContent others) first second = ap LabelsContent (one-labels bytes labels others first second)
-one_reading (LabelledFile true) bytes (LabelsContent labels) (LabelledContent made places) first second = absurd second
-one_reading (LabelledFile true) bytes (LabelledContent made places) b first second = absurd first
-one_reading (LabelledFile true) bytes (LabelsContent labels) (WorldContent b) first second = absurd second
-one_reading (LabelledFile true) bytes (LabelsContent labels) (BrainContent b) first second = absurd second
-one_reading (LabelledFile true) bytes (LabelsContent labels) (BreakContent b) first second = absurd second
-one_reading (LabelledFile true) bytes (WorldContent a) b first second = absurd first
-one_reading (LabelledFile true) bytes (BrainContent a) b first second = absurd first
-one_reading (LabelledFile true) bytes (BreakContent a) b first second = absurd first
-one_reading (LabelledFile true) bytes (LabelsContent labels) (SaveContent b) first second = absurd second
-one_reading (LabelledFile true) bytes (SaveContent a) b first second = absurd first
 one_reading (SaveFile rounds) bytes (SaveContent a) (SaveContent b) first second = ap SaveContent (every_verdict.one_save bytes a b first.0 second.0)
-one_reading (SaveFile rounds) bytes (SaveContent a) (WorldContent b) first second = absurd second
-one_reading (SaveFile rounds) bytes (SaveContent a) (BrainContent b) first second = absurd second
-one_reading (SaveFile rounds) bytes (SaveContent a) (BreakContent b) first second = absurd second
-one_reading (SaveFile rounds) bytes (SaveContent a) (LabelledContent made places) first second = absurd second
-one_reading (SaveFile rounds) bytes (SaveContent a) (LabelsContent labels) first second = absurd second
-one_reading (SaveFile rounds) bytes (WorldContent a) b first second = absurd first
-one_reading (SaveFile rounds) bytes (BrainContent a) b first second = absurd first
-one_reading (SaveFile rounds) bytes (BreakContent a) b first second = absurd first
-one_reading (SaveFile rounds) bytes (LabelledContent made places) b first second = absurd first
-one_reading (SaveFile rounds) bytes (LabelsContent labels) b first second = absurd first
+one_reading kind bytes a b first second = absurd assumption
 
 -- bytes are refused in one way
 pub one_refusal : (kind : FileKind) (bytes : List ℕ) (a b : FileFault) → Refuses kind bytes a → Refuses kind bytes b → a ≡ b
 one_refusal WorldFile bytes (World a) (World b) first second = ap World (one_world_fault bytes a b first second)
-one_refusal WorldFile bytes (World a) TooLong first second = absurd second
-one_refusal WorldFile bytes (World a) (Brain b) first second = absurd second
-one_refusal WorldFile bytes (World a) (Breaks b) first second = absurd second
-one_refusal WorldFile bytes (World a) (Labelled b) first second = absurd second
-one_refusal WorldFile bytes TooLong b first second = absurd first
-one_refusal WorldFile bytes (Brain a) b first second = absurd first
-one_refusal WorldFile bytes (Breaks a) b first second = absurd first
-one_refusal WorldFile bytes (Labelled a) b first second = absurd first
-one_refusal WorldFile bytes (World a) (Save b) first second = absurd second
-one_refusal WorldFile bytes (World a) (AlreadyAt b) first second = absurd second
-one_refusal WorldFile bytes (Save a) b first second = absurd first
-one_refusal WorldFile bytes (AlreadyAt a) b first second = absurd first
 one_refusal BrainFile bytes (Brain a) (Brain b) first second = ap Brain (whole.one_fault bytes a b first second)
-one_refusal BrainFile bytes (Brain a) TooLong first second = absurd second
-one_refusal BrainFile bytes (Brain a) (World b) first second = absurd second
-one_refusal BrainFile bytes (Brain a) (Breaks b) first second = absurd second
-one_refusal BrainFile bytes (Brain a) (Labelled b) first second = absurd second
-one_refusal BrainFile bytes TooLong b first second = absurd first
-one_refusal BrainFile bytes (World a) b first second = absurd first
-one_refusal BrainFile bytes (Breaks a) b first second = absurd first
-one_refusal BrainFile bytes (Labelled a) b first second = absurd first
-one_refusal BrainFile bytes (Brain a) (Save b) first second = absurd second
-one_refusal BrainFile bytes (Brain a) (AlreadyAt b) first second = absurd second
-one_refusal BrainFile bytes (Save a) b first second = absurd first
-one_refusal BrainFile bytes (AlreadyAt a) b first second = absurd first
 one_refusal BreakFile bytes (Breaks a) (Breaks b) first second = ap Breaks (break_whole.one_fault bytes a b first second)
-one_refusal BreakFile bytes (Breaks a) TooLong first second = absurd second
-one_refusal BreakFile bytes (Breaks a) (World b) first second = absurd second
-one_refusal BreakFile bytes (Breaks a) (Brain b) first second = absurd second
-one_refusal BreakFile bytes (Breaks a) (Labelled b) first second = absurd second
-one_refusal BreakFile bytes TooLong b first second = absurd first
-one_refusal BreakFile bytes (World a) b first second = absurd first
-one_refusal BreakFile bytes (Brain a) b first second = absurd first
-one_refusal BreakFile bytes (Labelled a) b first second = absurd first
-one_refusal BreakFile bytes (Breaks a) (Save b) first second = absurd second
-one_refusal BreakFile bytes (Breaks a) (AlreadyAt b) first second = absurd second
-one_refusal BreakFile bytes (Save a) b first second = absurd first
-one_refusal BreakFile bytes (AlreadyAt a) b first second = absurd first
 one_refusal (LabelledFile labels) bytes (Labelled a) (Labelled b) first second = ap Labelled (program_text.one_fault lines_decide bytes a b first second)
-one_refusal (LabelledFile labels) bytes (Labelled a) TooLong first second = absurd second
-one_refusal (LabelledFile labels) bytes (Labelled a) (World b) first second = absurd second
-one_refusal (LabelledFile labels) bytes (Labelled a) (Brain b) first second = absurd second
-one_refusal (LabelledFile labels) bytes (Labelled a) (Breaks b) first second = absurd second
-one_refusal (LabelledFile labels) bytes TooLong b first second = absurd first
-one_refusal (LabelledFile labels) bytes (World a) b first second = absurd first
-one_refusal (LabelledFile labels) bytes (Brain a) b first second = absurd first
-one_refusal (LabelledFile labels) bytes (Breaks a) b first second = absurd first
-one_refusal (LabelledFile labels) bytes (Labelled a) (Save b) first second = absurd second
-one_refusal (LabelledFile labels) bytes (Labelled a) (AlreadyAt b) first second = absurd second
-one_refusal (LabelledFile labels) bytes (Save a) b first second = absurd first
-one_refusal (LabelledFile labels) bytes (AlreadyAt a) b first second = absurd first
 one_refusal (SaveFile rounds) bytes (Save a) (Save b) first second = ap Save (every_verdict.one_fault bytes a b first second)
 one_refusal (SaveFile rounds) bytes (Save a) (AlreadyAt b) first second = absurd (every_verdict.never_both bytes second.saved a second.is first)
-one_refusal (SaveFile rounds) bytes (Save a) TooLong first second = absurd second
-one_refusal (SaveFile rounds) bytes (Save a) (World b) first second = absurd second
-one_refusal (SaveFile rounds) bytes (Save a) (Brain b) first second = absurd second
-one_refusal (SaveFile rounds) bytes (Save a) (Breaks b) first second = absurd second
-one_refusal (SaveFile rounds) bytes (Save a) (Labelled b) first second = absurd second
 one_refusal (SaveFile rounds) bytes (AlreadyAt a) (Save b) first second = absurd (every_verdict.never_both bytes first.saved b first.is second)
 one_refusal (SaveFile rounds) bytes (AlreadyAt a) (AlreadyAt b) first second = ap AlreadyAt (sym first.at ∙ ap (λ (s : SavedValue). s.round) (every_verdict.one_save bytes first.saved second.saved first.is second.is) ∙ second.at)
-one_refusal (SaveFile rounds) bytes (AlreadyAt a) TooLong first second = absurd second
-one_refusal (SaveFile rounds) bytes (AlreadyAt a) (World b) first second = absurd second
-one_refusal (SaveFile rounds) bytes (AlreadyAt a) (Brain b) first second = absurd second
-one_refusal (SaveFile rounds) bytes (AlreadyAt a) (Breaks b) first second = absurd second
-one_refusal (SaveFile rounds) bytes (AlreadyAt a) (Labelled b) first second = absurd second
-one_refusal (SaveFile rounds) bytes TooLong b first second = absurd first
-one_refusal (SaveFile rounds) bytes (World a) b first second = absurd first
-one_refusal (SaveFile rounds) bytes (Brain a) b first second = absurd first
-one_refusal (SaveFile rounds) bytes (Breaks a) b first second = absurd first
-one_refusal (SaveFile rounds) bytes (Labelled a) b first second = absurd first
+one_refusal kind bytes a b first second = absurd assumption
 
 some_world : (bytes : List ℕ) → ((grid : Grid) × OpensAs bytes grid) ⊎ ((fault : WorldFault) × IsWorldFault bytes fault)
 some_world bytes = go (world_of_text bytes) refl
@@ -325,68 +141,37 @@ some_reading (SaveFile rounds) bytes = elim (every_verdict.some bytes) [ inl is 
 -- bytes are never refused as too long: such a file gives no bytes
 pub never_long : (kind : FileKind) (bytes : List ℕ) → Refuses kind bytes TooLong → ⊥
 never_long WorldFile bytes refuses = refuses
-never_long BrainFile bytes refuses = refuses
-never_long BreakFile bytes refuses = refuses
-never_long (LabelledFile labels) bytes refuses = refuses
-never_long (SaveFile rounds) bytes refuses = refuses
+never_long kind bytes refuses = refuses
 
 -- the fault of a world's text stops the reading of its file
-pub world_stops : (name bytes : List ℕ) (fault : WorldFault) → world_answers.IsFaultOf bytes fault → TextStops WorldFile bytes name (world_reason name fault)
-world_stops name bytes world.BadWidth is = (refl, is)
-world_stops name bytes world.BadHeight is = (refl, is)
-world_stops name bytes (world.MissingRow row) is = (refl, is)
-world_stops name bytes (world.BadCell row column) is = (refl, is)
-world_stops name bytes (world.ShortRow row) is = (refl, is)
-world_stops name bytes (world.LongRow row) is = (refl, is)
-world_stops name bytes world.ExtraRow is = (refl, is)
-world_stops name bytes (world.OpenRim x y) is = (refl, is)
-world_stops name bytes (world.TooManyAnts count) is = (refl, is)
+pub world_stops : (name bytes : List ℕ) (fault : WorldFault) → IsFaultOr world.OutOfMemory (IsWorldFault bytes) fault → TextStops WorldFile bytes name (world_reason name fault)
 world_stops name bytes world.OutOfMemory is = tt
+world_stops name bytes fault (inl is) = (refl, is)
+world_stops name bytes fault (inr want) = absurd (cc)
 
 -- the fault of a brain's text stops the reading of its file
-pub brain_stops : (name bytes : List ℕ) (fault : BrainFault) → brain_answers.IsFaultOf bytes fault → TextStops BrainFile bytes name (brain_reason name fault)
-brain_stops name bytes (brain.BadByte line) is = (refl, is)
-brain_stops name bytes (brain.UnknownWord line) is = (refl, is)
-brain_stops name bytes (brain.MissingToken line) is = (refl, is)
-brain_stops name bytes (brain.BadNumber line) is = (refl, is)
-brain_stops name bytes (brain.ExtraToken line) is = (refl, is)
-brain_stops name bytes (brain.TooMany line) is = (refl, is)
-brain_stops name bytes brain.Empty is = (refl, is)
-brain_stops name bytes (brain.NoSuchState line state) is = (refl, is)
+pub brain_stops : (name bytes : List ℕ) (fault : BrainFault) → IsFaultOr brain.OutOfMemory (IsBrainFault bytes) fault → TextStops BrainFile bytes name (brain_reason name fault)
 brain_stops name bytes brain.OutOfMemory is = tt
+brain_stops name bytes fault (inl is) = (refl, is)
+brain_stops name bytes fault (inr want) = absurd (cc)
 
 -- the fault of a text of breaks stops the reading of its file
-pub break_stops : (name bytes : List ℕ) (fault : BreakFault) → break_answers.IsFaultOf bytes fault → TextStops BreakFile bytes name (break_reason name fault)
-break_stops name bytes (breaks.UnknownWord line) is = (refl, is)
-break_stops name bytes (breaks.MissingToken line) is = (refl, is)
-break_stops name bytes (breaks.BadNumber line) is = (refl, is)
-break_stops name bytes (breaks.ExtraToken line) is = (refl, is)
-break_stops name bytes (breaks.TooMany line) is = (refl, is)
+pub break_stops : (name bytes : List ℕ) (fault : BreakFault) → IsFaultOr breaks.OutOfMemory (IsBreakFault bytes) fault → TextStops BreakFile bytes name (break_reason name fault)
 break_stops name bytes breaks.OutOfMemory is = tt
+break_stops name bytes fault (inl is) = (refl, is)
+break_stops name bytes fault (inr want) = absurd (cc)
 
 -- the fault of a labelled program's text stops the reading of its file
-pub labelled_stops : (labels : Bool) (name bytes : List ℕ) (fault : AsmFault) → labelled_answers.IsFaultOf bytes fault → TextStops (LabelledFile labels) bytes name (labelled_reason name fault)
-labelled_stops labels name bytes (labelled.BadByte line) is = (refl, is)
-labelled_stops labels name bytes (labelled.UnknownWord line) is = (refl, is)
-labelled_stops labels name bytes (labelled.MissingToken line) is = (refl, is)
-labelled_stops labels name bytes (labelled.BadNumber line) is = (refl, is)
-labelled_stops labels name bytes (labelled.ExtraToken line) is = (refl, is)
-labelled_stops labels name bytes (labelled.BadName line) is = (refl, is)
-labelled_stops labels name bytes (labelled.Misplaced line) is = (refl, is)
-labelled_stops labels name bytes (labelled.Twice line) is = (refl, is)
-labelled_stops labels name bytes (labelled.NoBlock line) is = (refl, is)
-labelled_stops labels name bytes (labelled.WrongCount line) is = (refl, is)
-labelled_stops labels name bytes (labelled.TooMany line) is = (refl, is)
-labelled_stops labels name bytes (labelled.EmptyBlock line) is = (refl, is)
-labelled_stops labels name bytes labelled.Empty is = (refl, is)
-labelled_stops labels name bytes (labelled.NoLabel line) is = (refl, is)
+pub labelled_stops : (labels : Bool) (name bytes : List ℕ) (fault : AsmFault) → IsFaultOr labelled.OutOfMemory (IsAsmFault bytes) fault → TextStops (LabelledFile labels) bytes name (labelled_reason name fault)
 labelled_stops labels name bytes labelled.OutOfMemory is = tt
+labelled_stops labels name bytes fault (inl is) = (refl, is)
+labelled_stops labels name bytes fault (inr want) = absurd (cc)
 
 -- the fault of a save's text stops the reading of its file
-pub save_stops : (name bytes : List ℕ) (rounds : ℕ) (fault : SaveFault) → save_answers.IsFaultOf bytes fault → TextStops (SaveFile rounds) bytes name (save_reason name fault)
-save_stops name bytes rounds (save.BadLine line) is = (refl, is)
-save_stops name bytes rounds save.BadState is = (refl, is)
+pub save_stops : (name bytes : List ℕ) (rounds : ℕ) (fault : SaveFault) → IsFaultOr save.OutOfMemory (IsSaveFault bytes) fault → TextStops (SaveFile rounds) bytes name (save_reason name fault)
 save_stops name bytes rounds save.OutOfMemory is = tt
+save_stops name bytes rounds fault (inl is) = (refl, is)
+save_stops name bytes rounds fault (inr want) = absurd (cc)
 
 -- a save is read where few of its rounds are done
 pub save_up_to : (name bytes : List ℕ) (rounds : ℕ) (saved : SavedValue) (result : Result SavedValue CommandStop) → IsSaveText bytes saved → IsUpTo rounds name saved result → ReadsText SaveContent (SaveFile rounds) bytes name result

@@ -2,18 +2,18 @@
 use Rattle.std.proofs.Common.{◌≡◌, ℕ, ◌≤◌, List, ◌++◌, length, true, refl, sym, subst, Result, Ok, Err}
 use Rattle.ant_base.specs.Shelf.{ShelfState}
 use Rattle.ant_base.specs.Sink.{SinkState}
-use Rattle.command_words.specs.Command.{PlainCommand}
-use Rattle.command_words.specs.Command.PlainCommand.{CupCommand}
+use Rattle.ants.specs.Job.{Job}
+use Rattle.ants.specs.Jobs.{cup_job}
 use Rattle.match_run.specs.Play.{PushedProperPrefix}
 use Rattle.tournament.proofs.SortedLines.{has_standing}
 use Rattle.tournament.proofs.ToldLemmas.{told_text-front}
 use Rattle.tournament.specs.Games.{all_played}
 use Rattle.tournament.specs.Text.{standing_text}
 use Rattle.tournament.specs.Told.{IsToldCupText, Told, cup_played, games_text}
-use Rattle.tournament.specs.declared.fault.CupFault.{CupFault}
-use Rattle.tournament.specs.declared.fault.CupFault.TheVariants as fault
+use Rattle.ant_base.specs.declared.push_fault.PushFault.{PushFault}
+use Rattle.ant_base.specs.declared.push_fault.PushFault.TheVariants as fault
 use Rattle.ants.specs.declared.stop.CommandStop.{CommandStop}
-use Rattle.ants.specs.Inner.Plans.{cup_ending}
+use Rattle.ants.specs.Inner.Plans.{play_ending}
 use Rattle.ants.specs.Inner.Reading.{CarriesOut, ReadsFiles, ending_of}
 use Rattle.ants.specs.Inner.Reading.ReadOutcome.{Contents}
 use Rattle.ants.specs.Outputs.{ReadCup, cup_files, roster_contents, score_between}
@@ -21,8 +21,8 @@ use Rattle.ants.proofs.Readings.{carries_broken, carries_cut, carries_done}
 use Rattle.ants.proofs.TextEnds.{lf_last, lf_some, lf_standing}
 
 module _ (worlds brains : List (List ℕ)) (seed rounds workers : ℕ) (cup : ReadCup) (shelf new_shelf : ShelfState) (out new_out : SinkState) where
-  abbrev command : PlainCommand
-  command = CupCommand worlds brains seed rounds workers true
+  abbrev command : Job
+  command = cup_job worlds brains seed rounds workers true
 
   -- a text of the cup, of which the lines of the games on its first worlds are a proper prefix
   record Front (told : ℕ) : Type 0 where
@@ -48,7 +48,7 @@ module _ (worlds brains : List (List ℕ)) (seed rounds workers : ℕ) (cup : Re
       }
 
   -- its files were read, and its games were told; or the output failed, or memory was wanting behind the lines of its first worlds
-  pub carries_cup : {U : Type 0} (result : Result U CommandStop) (last : Result (Unit {0}) CupFault) → ending_of result ≡ cup_ending last
+  pub carries_cup : {U : Type 0} (result : Result U CommandStop) (last : Result (Unit {0}) PushFault) → ending_of result ≡ play_ending last
       → ReadsFiles shelf new_shelf (cup_files worlds brains) (Contents (roster_contents cup)) → 1 ≤ length brains
       → Told out new_out worlds brains (score_between cup.worlds cup.players seed rounds) last → CarriesOut command shelf new_shelf out new_out (ending_of result)
   carries_cup result (Ok done) same reads some told =

@@ -8,16 +8,16 @@ use Rattle.ant_base.specs.Faults.{Rose}
 use Rattle.ant_base.specs.Shelf.{AreSure, IsContent, IsTold, IsTooLong, ShelfState, Told, longest}
 use Rattle.ant_base.specs.declared.shelf.FetchFault.TheVariants as answer
 use Rattle.command_words.proofs.WordLaws as words_laws
-use Rattle.command_words.specs.Command.{PlainCommand, IsCommand}
-use Rattle.command_words.specs.Command.PlainCommand.{GenCommand, WorkloadCommand}
-use Rattle.world_gen.proofs.Unique.{one_outcome}
+use Rattle.command_words.specs.Command.{IsCommand, PlainAsked}
+use Rattle.ants.proofs.JobTexts.{laws_of}
+use Rattle.ants.specs.Jobs.{job_of}
+use Rattle.ants.specs.Job.{HasRoom, Job, LacksRoom, files_of}
 use Rattle.ants.specs.declared.status.Status.{Status}
 use Rattle.ants.specs.declared.status.Status.TheVariants as status
 use Rattle.ants.specs.declared.stop.FileFault.{FileFault}
 use Rattle.ants.specs.declared.stop.FileFault.TheVariants.{TooLong, World, Brain, Breaks, Labelled, Save, AlreadyAt}
 use Rattle.ants.specs.Files.{AreAccepted, AreBegun, AreInOrder, FileContent, File, IsAccepted, IsFetched, IsNoText, IsRefused, Reads, Refuses, StopsAt}
 use Rattle.ants.specs.Inner.Reading.{EndsBy}
-use Rattle.ants.specs.Outputs.{HasRoom, IsJobText, LacksRoom, contest_shape, files_of, shape_named}
 use Rattle.ants.specs.Verdict.{IsRefusedAs, Judged, FilesVerdict}
 use Rattle.ants.specs.Verdict.FilesVerdict.{AllAccepted, FirstRefused}
 use Rattle.ants.specs.Outside.{Outside}
@@ -186,7 +186,7 @@ in_order_begun (file ∷ files) (fetch ∷ fetches) begun =
       | inr later ↦ in_order_then file files fetch fetches (accepted_name file fetch later.0 later.1) (in_order_begun files fetches later.2)
     ]
 
-in_order_by : (command : PlainCommand) (before after : Outside) (fetches : List Fetched) (stop : Option Reason) → EndsBy command before after fetches stop → AreInOrder (files_of command) fetches
+in_order_by : (command : Job) (before after : Outside) (fetches : List Fetched) (stop : Option Reason) → EndsBy command before after fetches stop → AreInOrder (files_of command) fetches
 in_order_by command before after fetches None ends = in_order_accepted (files_of command) fetches ends.contents ends.accepted
 in_order_by command before after fetches (Some (AtFile name)) ends = in_order_stopped (IsUnsure before.shelf name) (files_of command) fetches (λ file fetch is. ap (λ (f : Fetched). f.name) is.failed) ends.stopped
 in_order_by command before after fetches (Some AtOutput) ends = in_order_accepted (files_of command) fetches ends.contents ends.accepted
@@ -202,21 +202,21 @@ same_rest [] a b same = same
 same_rest (x ∷ front) a b same = same_rest front a b (cc)
 
 -- how the words' command ended
-record EndsAs (command : PlainCommand) (before after : Outside) (fetches : List Fetched) (ending : Ending) : Type 0 where
+record EndsAs (command : PlainAsked) (before after : Outside) (fetches : List Fetched) (ending : Ending) : Type 0 where
   stop : Option Reason
   is : ending ≡ ending_by stop
-  ends : EndsBy command before after fetches stop
+  ends : EndsBy (job_of command) before after fetches stop
 
-as_command : (words : List (List ℕ)) (command : PlainCommand) (before after : Outside) (fetches : List Fetched) (ending : Ending) → IsCommand words command → Ends words before after fetches ending
+as_command : (words : List (List ℕ)) (command : PlainAsked) (before after : Outside) (fetches : List Fetched) (ending : Ending) → IsCommand words command → Ends words before after fetches ending
     → EndsAs command before after fetches ending
 as_command words command before after fetches Done is ends =
-    record { stop = None; is = refl; ends = subst (λ (c : PlainCommand). EndsBy c before after fetches None) (words_laws.one_command words ends.command command ends.is_command is) ends.done }
+    record { stop = None; is = refl; ends = subst (λ (c : PlainAsked). EndsBy (job_of c) before after fetches None) (words_laws.one_command words ends.command command ends.is_command is) ends.done }
 as_command words command before after fetches (RefusedWord word) is ends = absurd (words_laws.never_both words command word is ends.refused)
 as_command words command before after fetches (Stopped reason) is ends =
-    record { stop = Some reason; is = refl; ends = subst (λ (c : PlainCommand). EndsBy c before after fetches (Some reason)) (words_laws.one_command words ends.command command ends.is_command is) ends.stopped }
+    record { stop = Some reason; is = refl; ends = subst (λ (c : PlainAsked). EndsBy (job_of c) before after fetches (Some reason)) (words_laws.one_command words ends.command command ends.is_command is) ends.stopped }
 
 -- the status of a run whose words are a command
-status_by : (words : List (List ℕ)) (command : PlainCommand) (before after : Outside) (ended : Status) → (run : IsRun words before after ended) → (it : EndsAs command before after run.fetches run.ending)
+status_by : (words : List (List ℕ)) (command : PlainAsked) (before after : Outside) (ended : Status) → (run : IsRun words before after ended) → (it : EndsAs command before after run.fetches run.ending)
     → ended ≡ ending_status (ending_by it.stop)
 status_by words command before after ended run it = run.is_status ∙ ap ending_status it.is
 
@@ -225,10 +225,10 @@ pub orderly_run : (words : List (List ℕ)) (before after : Outside) (ended : St
 orderly_run words before after ended run = λ command is fetches logged.
     let it = as_command words command before after run.fetches run.ending is run.ends in
     let same = same_rest before.shelf.log run.fetches fetches (sym run.fetched.log ∙ logged) in
-    subst (AreInOrder (files_of command)) same (in_order_by command before after run.fetches it.stop it.ends)
+    subst (AreInOrder (files_of (job_of command))) same (in_order_by (job_of command) before after run.fetches it.stop it.ends)
 
 -- a run whose files are all accepted is done, or wants memory
-complete_by : (at : At) (command : PlainCommand) (before after : Outside) (fetches told : List Fetched) (contents : List FileContent) (stop : Option Reason) → AllByRecursion (IsTold (Some at)) fetches
+complete_by : (at : At) (command : Job) (before after : Outside) (fetches told : List Fetched) (contents : List FileContent) (stop : Option Reason) → AllByRecursion (IsTold (Some at)) fetches
     → AllByRecursion (IsTold (Some at)) told → AreAccepted (files_of command) told contents → HasRoom command → EndsBy command before after fetches stop → ¬ Rose before.shelf.faults after.shelf.faults → ¬ Rose before.out.faults after.out.faults
     → (ending_status (ending_by stop) ≡ status.Done) ⊎ (ending_status (ending_by stop) ≡ status.Memory)
 complete_by at command before after fetches told contents None one two are room ends shelf_held out_held = inl refl
@@ -247,26 +247,14 @@ pub complete_run : (words : List (List ℕ)) (before after : Outside) (ended : S
 complete_run words before after ended run = λ contents is room shelf_held out_held.
     let it = as_command words is.command before after run.fetches run.ending is.is_command run.ends in
     subst (λ (s : Status). (s ≡ status.Done) ⊎ (s ≡ status.Memory)) (sym (status_by words is.command before after ended run it))
-    (complete_by is.at is.command before after run.fetches is.judged.fetches contents it.stop (told_of_run words before after ended is.at run is.told) is.judged.told is.judged.judged room it.ends shelf_held out_held)
-
--- a text that is written of a generated world is none where an element has no room
-text_has_room : (command : PlainCommand) (contents : List FileContent) (text : List ℕ) (element : ℕ) → IsJobText command contents text → LacksRoom command element → ⊥
-text_has_room (GenCommand seed shape) contents text element is lacks = one_outcome.none seed (shape_named shape) is.told.generated.placed element is.told.generated.placing lacks
-text_has_room (WorkloadCommand seed rounds workers) contents text element is lacks = one_outcome.none seed contest_shape is.told.generated.placed element is.told.generated.placing lacks
-text_has_room other contents text element is lacks = lacks
-
--- a command that lacks room fetches nothing
-lacks_no_file : (command : PlainCommand) (element : ℕ) → LacksRoom command element → files_of command ≡ []
-lacks_no_file (GenCommand seed shape) element lacks = refl
-lacks_no_file (WorkloadCommand seed rounds workers) element lacks = refl
-lacks_no_file other element lacks = absurd lacks
+    (complete_by is.at (job_of is.command) before after run.fetches is.judged.fetches contents it.stop (told_of_run words before after ended is.at run is.told) is.judged.told is.judged.judged room it.ends shelf_held out_held)
 
 -- a run of which an element has no room ends so, or wants memory
-crowding_by : (command : PlainCommand) (before after : Outside) (fetches : List Fetched) (element : ℕ) (stop : Option Reason) → LacksRoom command element → EndsBy command before after fetches stop
+crowding_by : (command : PlainAsked) (before after : Outside) (fetches : List Fetched) (element : ℕ) (stop : Option Reason) → LacksRoom (job_of command) element → EndsBy (job_of command) before after fetches stop
     → (ending_status (ending_by stop) ≡ status.Input) ⊎ (ending_status (ending_by stop) ≡ status.Memory)
-crowding_by command before after fetches element None lacks ends = absurd (text_has_room command ends.contents ends.text element ends.is_text lacks)
-crowding_by command before after fetches element (Some (AtFile name)) lacks ends = absurd (subst (λ files. StopsAt (IsUnsure before.shelf name) files fetches) (lacks_no_file command element lacks) ends.stopped)
-crowding_by command before after fetches element (Some AtOutput) lacks ends = absurd (text_has_room command ends.contents ends.text element ends.is_text lacks)
+crowding_by command before after fetches element None lacks ends = absurd (((laws_of command).crowded element lacks).1 ends.contents ends.text ends.is_text)
+crowding_by command before after fetches element (Some (AtFile name)) lacks ends = absurd (subst (λ files. StopsAt (IsUnsure before.shelf name) files fetches) ((laws_of command).crowded element lacks).0 ends.stopped)
+crowding_by command before after fetches element (Some AtOutput) lacks ends = absurd (((laws_of command).crowded element lacks).1 ends.contents ends.text ends.is_text)
 crowding_by command before after fetches element (Some (AtInput name fault)) lacks ends = inl refl
 crowding_by command before after fetches element (Some (AtRoom other)) lacks ends = inl refl
 crowding_by command before after fetches element (Some AtMemory) lacks ends = inr refl
@@ -278,7 +266,7 @@ crowding_run words before after ended run = λ command element is lacks.
     (crowding_by command before after run.fetches element it.stop lacks it.ends)
 
 -- a run of which a file is refused ends so, or wants memory
-refusing_by : (at : At) (command : PlainCommand) (before after : Outside) (fetches told : List Fetched) (name : List ℕ) (fault : FileFault) (stop : Option Reason) → AllByRecursion (IsTold (Some at)) fetches
+refusing_by : (at : At) (command : Job) (before after : Outside) (fetches told : List Fetched) (name : List ℕ) (fault : FileFault) (stop : Option Reason) → AllByRecursion (IsTold (Some at)) fetches
     → AllByRecursion (IsTold (Some at)) told → StopsAt (IsRefusedAs name fault) (files_of command) told → EndsBy command before after fetches stop → ¬ Rose before.shelf.faults after.shelf.faults
     → (ending_status (ending_by stop) ≡ status.Input) ⊎ (ending_status (ending_by stop) ≡ status.Memory)
 refusing_by at command before after fetches told name fault None one two stops ends shelf_held =
@@ -294,10 +282,10 @@ pub refusing_run : (words : List (List ℕ)) (before after : Outside) (ended : S
 refusing_run words before after ended run = λ name fault is shelf_held.
     let it = as_command words is.command before after run.fetches run.ending is.is_command run.ends in
     subst (λ (s : Status). (s ≡ status.Input) ⊎ (s ≡ status.Memory)) (sym (status_by words is.command before after ended run it))
-    (refusing_by is.at is.command before after run.fetches is.judged.fetches name fault it.stop (told_of_run words before after ended is.at run is.told) is.judged.told is.judged.judged it.ends shelf_held)
+    (refusing_by is.at (job_of is.command) before after run.fetches is.judged.fetches name fault it.stop (told_of_run words before after ended is.at run is.told) is.judged.told is.judged.judged it.ends shelf_held)
 
 -- no run ends at a file that was not read where the shelf is sure of the files up to the verdict
-read_by : (at : At) (command : PlainCommand) (before after : Outside) (fetches told : List Fetched) (verdict : FilesVerdict) (stop : Option Reason) → AllByRecursion (IsTold (Some at)) fetches
+read_by : (at : At) (command : Job) (before after : Outside) (fetches told : List Fetched) (verdict : FilesVerdict) (stop : Option Reason) → AllByRecursion (IsTold (Some at)) fetches
     → AllByRecursion (IsTold (Some at)) told → Judged (files_of command) told verdict → AreSure before.shelf told → EndsBy command before after fetches stop → ending_status (ending_by stop) ≢ status.Read
 read_by at command before after fetches told verdict None one two judged sure ends = λ same. cc
 read_by at command before after fetches told verdict (Some (AtFile name)) one two judged sure ends = λ same. sure_judged at before.shelf name (files_of command) fetches told verdict one two sure ends.stopped judged
@@ -309,7 +297,7 @@ read_by at command before after fetches told verdict (Some AtMemory) one two jud
 pub read_run : (words : List (List ℕ)) (before after : Outside) (ended : Status) → IsRun words before after ended → NeverUnread words before ended
 read_run words before after ended run = λ verdict is sure same.
     let it = as_command words is.command before after run.fetches run.ending is.is_command run.ends in
-    read_by is.at is.command before after run.fetches is.judged.fetches verdict it.stop (told_of_run words before after ended is.at run is.told) is.judged.told is.judged.judged sure it.ends
+    read_by is.at (job_of is.command) before after run.fetches is.judged.fetches verdict it.stop (told_of_run words before after ended is.at run is.told) is.judged.told is.judged.judged sure it.ends
     (sym (status_by words is.command before after ended run it) ∙ same)
 
 -- no stop of a command has the status of a refused word

@@ -8,13 +8,14 @@ use Rattle.cell_world.specs.Grid.{world_of}
 use Rattle.cell_world.specs.Score.{alive_of, score_of}
 use Rattle.cell_world.specs.World.{World}
 use Rattle.cell_world.specs.declared.ant.Colour.TheVariants.{Red, Black}
-use Rattle.command_words.specs.Table.{default_window}
+use Rattle.command_words.specs.Table.{default_of}
+use Rattle.command_words.specs.declared.table.Choice.TheVariants.{Window}
 use Rattle.dump_print.specs.declared.totals.Totals.{Totals}
 use Rattle.match_run.specs.Counts.{totals_of}
 use Rattle.match_run.specs.Game.{GameValue}
 use Rattle.match_run.specs.Run.{world_after}
 use Rattle.world_gen.specs.Food.{food_on}
-use Rattle.ants.specs.declared.workload.Summary.{Summary}
+use Rattle.ants.specs.declared.commands.workload.Summary.{Summary}
 use Rattle.ants.specs.Outputs.{sample_minds, summary_of}
 use Rattle.ants.specs.Sample.{sample_brain}
 
@@ -32,9 +33,9 @@ told w end totals = record { ants = w.ids; food = food_on w; red = alive_of end 
 
 -- what is told of a game after its rounds
 pub summary_of-played : (seed rounds : ℕ) (w : World) (minds : Minds) (game : GameValue) → minds ≡ sample_minds → world_of game.field.world ≡ world_after minds seed w rounds
-    → game.totals ≡ totals_of minds seed default_window (start_of w) rounds
+    → game.totals ≡ totals_of minds seed (default_of Window) (start_of w) rounds
     → record { ants = w.ids; food = food_on w; red = alive_of (world_of game.field.world) Red; black = alive_of (world_of game.field.world) Black; score = score_of (world_of game.field.world); totals = game.totals } ≡ summary_of seed rounds w
 unfolding summary_of
 summary_of-played seed rounds w minds game same end totals =
     ap₂ (told w) end totals
-    ∙ ap (λ (m : Minds). told w (world_after m seed w rounds) (totals_of m seed default_window (start_of w) rounds)) same
+    ∙ ap (λ (m : Minds). told w (world_after m seed w rounds) (totals_of m seed (default_of Window) (start_of w) rounds)) same

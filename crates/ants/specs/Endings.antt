@@ -1,23 +1,21 @@
 -- How a command ends, by the fetches that it made.
-use Rattle.std.specs.Prelude.{◌≡◌, ◌⊎◌, ℕ, true, false, List, Err}
+use Rattle.std.specs.Prelude.{◌≡◌, ◌⊎◌, ℕ, false, List, Err}
 use Rattle.ant_base.specs.Faults.{Rose}
 use Rattle.ant_base.specs.Fetched.{Fetched}
 use Rattle.ant_base.specs.Shelf.{ShelfState}
 use Rattle.ant_base.specs.Sink.{PushedAll, PushedFront}
 use Rattle.ant_base.specs.declared.shelf.FetchFault.TheVariants as answer
-use Rattle.command_words.specs.Command.{PlainCommand}
-use Rattle.command_words.specs.Command.PlainCommand.{CupCommand, ResumeCommand, RunCommand}
+use Rattle.ants.specs.Job.{IsJobText, Job, LacksRoom, WritesInPlay, files_of}
 use Rattle.match_run.specs.Play.{PushedProperPrefix}
 use Rattle.ants.specs.declared.stop.FileFault.{FileFault}
 use Rattle.ants.specs.Files.{File, FileContent, AreAccepted, AreBegun, StopsAt}
-use Rattle.ants.specs.Outputs.{files_of, IsJobText, LacksRoom, Tells, TellsFirstWorlds, roster_contents}
 use Rattle.ants.specs.Verdict.{IsRefusedAs}
 use Rattle.ants.specs.Outside.{Outside}
 use Rattle.ants.specs.FaultLines.{Reason}
 use Rattle.ants.specs.FaultLines.Reason.{AtFile, AtOutput, AtInput, AtRoom, AtMemory}
 
 -- all files were accepted, and the whole text was written
-pub record IsDone (command : PlainCommand) (before after : Outside) (fetches : List Fetched) : Type 0 where
+pub record IsDone (command : Job) (before after : Outside) (fetches : List Fetched) : Type 0 where
   pub contents : List FileContent
   pub accepted : AreAccepted (files_of command) fetches contents
   pub text : List ℕ
@@ -25,7 +23,7 @@ pub record IsDone (command : PlainCommand) (before after : Outside) (fetches : L
   pub written : PushedAll before.out after.out text
 
 -- all files were accepted, and a prefix of the text was written before the output failed
-pub record IsCut (command : PlainCommand) (before after : Outside) (fetches : List Fetched) : Type 0 where
+pub record IsCut (command : Job) (before after : Outside) (fetches : List Fetched) : Type 0 where
   pub contents : List FileContent
   pub accepted : AreAccepted (files_of command) fetches contents
   pub text : List ℕ
@@ -39,38 +37,30 @@ pub record IsUnsure (shelf : ShelfState) (name : List ℕ) (file : File) (fetch 
   pub unsure : shelf.sure name ≡ false
 
 -- a file was not read: its fetch failed, the shelf's count of faults rose, each file before it was accepted, and nothing was written
-pub record IsUnread (command : PlainCommand) (before after : Outside) (fetches : List Fetched) (name : List ℕ) : Type 0 where
+pub record IsUnread (command : Job) (before after : Outside) (fetches : List Fetched) (name : List ℕ) : Type 0 where
   pub stopped : StopsAt (IsUnsure before.shelf name) (files_of command) fetches
   pub rose : Rose before.shelf.faults after.shelf.faults
   pub unwritten : after.out ≡ before.out
 
 -- a file was refused, each file before it was accepted, and nothing was written
-pub record IsBadInput (command : PlainCommand) (before after : Outside) (fetches : List Fetched) (name : List ℕ) (fault : FileFault) : Type 0 where
+pub record IsBadInput (command : Job) (before after : Outside) (fetches : List Fetched) (name : List ℕ) (fault : FileFault) : Type 0 where
   pub stopped : StopsAt (IsRefusedAs name fault) (files_of command) fetches
   pub unwritten : after.out ≡ before.out
 
 -- all files were accepted, an element of the world to be generated has no room, and nothing was written
-pub record IsCrowded (command : PlainCommand) (before after : Outside) (fetches : List Fetched) (element : ℕ) : Type 0 where
+pub record IsCrowded (command : Job) (before after : Outside) (fetches : List Fetched) (element : ℕ) : Type 0 where
   pub contents : List FileContent
   pub accepted : AreAccepted (files_of command) fetches contents
   pub lacks : LacksRoom command element
   pub unwritten : after.out ≡ before.out
 
 -- memory could not be had before the text was begun; no fetch failed or was too long, each file that was fetched, but perhaps the last, was accepted, and nothing was written
-pub record IsUnbegun (command : PlainCommand) (before after : Outside) (fetches : List Fetched) : Type 0 where
+pub record IsUnbegun (command : Job) (before after : Outside) (fetches : List Fetched) : Type 0 where
   pub begun : AreBegun (files_of command) fetches
   pub unwritten : after.out ≡ before.out
 
--- the command writes while it plays, and this may be what it has written by then: `run` and `resume` any part, a `cup` whose games are told
--- the lines of all games on its first worlds; every other has all memory that it needs before it writes
-abbrev pub WritesInPlay : PlainCommand → List FileContent → List ℕ → Type 0
-WritesInPlay (RunCommand world red black setup) contents front = Unit {0}
-WritesInPlay (ResumeCommand save setup) contents front = Unit {0}
-WritesInPlay (CupCommand worlds brains seed rounds workers true) contents front = Tells roster_contents (TellsFirstWorlds worlds brains seed rounds) contents front
-WritesInPlay command contents front = ⊥
-
 -- all files were accepted, and a proper prefix of the text was written before memory could not be had; only a command that writes while it plays ends so
-pub record IsBrokenOff (command : PlainCommand) (before after : Outside) (fetches : List Fetched) : Type 0 where
+pub record IsBrokenOff (command : Job) (before after : Outside) (fetches : List Fetched) : Type 0 where
   pub contents : List FileContent
   pub accepted : AreAccepted (files_of command) fetches contents
   pub text : List ℕ
@@ -79,11 +69,11 @@ pub record IsBrokenOff (command : PlainCommand) (before after : Outside) (fetche
   pub in_play : WritesInPlay command contents broken.front
 
 -- memory could not be had
-abbrev pub WantsMemory : PlainCommand → Outside → Outside → List Fetched → Type 0
+abbrev pub WantsMemory : Job → Outside → Outside → List Fetched → Type 0
 WantsMemory command before after fetches = IsUnbegun command before after fetches ⊎ IsBrokenOff command before after fetches
 
 -- how a command stopped
-abbrev pub StopsFor : PlainCommand → Outside → Outside → List Fetched → Reason → Type 0
+abbrev pub StopsFor : Job → Outside → Outside → List Fetched → Reason → Type 0
 StopsFor command before after fetches (AtFile name) = IsUnread command before after fetches name
 StopsFor command before after fetches AtOutput = IsCut command before after fetches
 StopsFor command before after fetches (AtInput name fault) = IsBadInput command before after fetches name fault

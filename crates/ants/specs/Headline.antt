@@ -11,15 +11,18 @@ use Rattle.brain_read.specs.Grammar.{IsBrainText}
 use Rattle.brain_read.specs.declared.instr.Instr.{Instr}
 use Rattle.cell_world.specs.Grid.{Grid, world_of}
 use Rattle.cell_world.specs.Score.{score_of}
-use Rattle.command_words.specs.Command.{IsCommand, IsRefusedAt, PlainCommand, RunSetup}
-use Rattle.command_words.specs.Command.PlainCommand.{RunCommand}
+use Rattle.command_words.specs.Command.{PlainAsked, IsCommand, IsRefusedAt}
+use Rattle.command_words.specs.declared.table.CommandKind.TheVariants.{Run}
+use Rattle.ants.specs.Setups.{RunSetup, setup_of}
+use Rattle.ants.specs.Jobs.{job_of}
 use Rattle.dump_print.specs.Texts.{score_text, seed_text}
 use Rattle.match_run.specs.Counts.{counts_text, totals_of}
 use Rattle.match_run.specs.Run.{dumps_text, world_after}
 use Rattle.world_read.specs.Opened.{OpensAs}
 use Rattle.ants.specs.declared.stop.FileFault.{FileFault}
 use Rattle.ants.specs.Files.{AreAccepted, FileContent}
-use Rattle.ants.specs.Outputs.{IsJobText, chosen_rounds, files_of, minds_named}
+use Rattle.ants.specs.Job.{IsJobText, files_of}
+use Rattle.ants.specs.Outputs.{chosen_rounds, minds_named}
 use Rattle.ants.specs.Outside.{Outside}
 use Rattle.ants.specs.Endings.{StopsFor}
 use Rattle.ants.specs.Run.{GotLine, IsNoCommand, IsRunTo}
@@ -29,17 +32,17 @@ use Rattle.ants.specs.FaultLines.Reason.{AtFile, AtInput, AtMemory, AtOutput, At
 -- status 0, by any command
 pub record PrintsItsOutput (words : List (List ℕ)) (before after : Outside) : Type 0 where
   -- the words are a command
-  pub command : PlainCommand
+  pub command : PlainAsked
   pub is_command : IsCommand words command
   -- these fetches were made, and no other
   pub fetches : List Fetched
   pub fetched : FetchesEach before.shelf after.shelf fetches
   -- they are of the command's files, each once and in order, and each was accepted by its grammar
   pub contents : List FileContent
-  pub accepted : AreAccepted (files_of command) fetches contents
+  pub accepted : AreAccepted (files_of (job_of command)) fetches contents
   -- the output got the command's text, and nothing else
   pub text : List ℕ
-  pub is_text : IsJobText command contents text
+  pub is_text : IsJobText (job_of command) contents text
   pub written : PushedAll before.out after.out text
   -- where the output can tell, all of it was flushed; and where the text has no bytes, nothing waits that didn't before
   pub flushed : text ≢ [] → NothingWaits after.out.waiting
@@ -90,18 +93,19 @@ pub record NamesTheWord (words : List (List ℕ)) (before after : Outside) : Typ
 
 -- each other status: the words are a command, which stopped for this reason, and the errors got its line
 pub record NamesTheReason (words : List (List ℕ)) (before after : Outside) (reason : Reason) : Type 0 where
-  pub command : PlainCommand
+  pub command : PlainAsked
   pub is_command : IsCommand words command
   pub fetches : List Fetched
   pub fetched : FetchesEach before.shelf after.shelf fetches
-  pub stopped : StopsFor command before after fetches reason
+  pub stopped : StopsFor (job_of command) before after fetches reason
   pub line : GotLine before.err after.err (fault_line reason)
 
 -- what a status says, and that there is no other
 pub record KeepsPromise (words : List (List ℕ)) (before after : Outside) (number : ℕ) : Type 0 where
   pub printed : number ≡ 0 → PrintsItsOutput words before after
-  pub game : number ≡ 0 → (world red black : List ℕ) (setup : RunSetup) → IsCommand words (RunCommand world red black setup)
-      → (printed_game : PrintsTheGame world red black setup before after) × TellsItsCounts world red black setup before after printed_game
+  pub game : number ≡ 0 → (asked : PlainAsked) → IsCommand words asked → asked.kind ≡ Run
+      → (printed_game : PrintsTheGame (asked.file 0) (asked.file 1) (asked.file 2) (setup_of asked) before after)
+      × TellsItsCounts (asked.file 0) (asked.file 1) (asked.file 2) (setup_of asked) before after printed_game
   pub no_command : number ≡ 2 → NamesTheWord words before after
   pub not_read : number ≡ 3 → (name : List ℕ) × NamesTheReason words before after (AtFile name)
   pub output_failed : number ≡ 4 → NamesTheReason words before after AtOutput

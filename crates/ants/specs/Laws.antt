@@ -1,5 +1,5 @@
 -- Laws on the texts of the commands.
-use Rattle.std.specs.Prelude.{◌≡◌, ◌⊎◌, ℕ, ◌+◌, ◌≤◌, Bool, true, false, List, [], ◌∷◌, ◌++◌, Option, Some}
+use Rattle.std.specs.Prelude.{◌≡◌, ◌≢◌, ◌⊎◌, ℕ, ◌+◌, ◌≤◌, true, false, List, [], ◌∷◌, ◌++◌, Option, Some, slice_get}
 use Rattle.ant_asm.specs.Assembled.{IsAssembled}
 use Rattle.ant_asm.specs.Match.{label_game, numbered_moment}
 use Rattle.ant_asm.specs.Places.{Address}
@@ -18,8 +18,15 @@ use Rattle.cell_world.specs.Score.{score_of}
 use Rattle.cell_world.specs.Valid.{Valid}
 use Rattle.cell_world.specs.declared.ant.Colour.{Colour}
 use Rattle.cell_world.specs.declared.kind.Kind.{Kind}
-use Rattle.command_words.specs.Command.{CommandWithin, PlainCommand, ResumeSetup, RunSetup}
-use Rattle.command_words.specs.Command.PlainCommand.{RunCommand, AsmCommand, CupCommand, ResumeCommand, SaveCommand, WorkloadCommand}
+use Rattle.command_words.specs.Command.{AskedWithin, PlainAsked}
+use Rattle.command_words.specs.Table.{number_place, places_of}
+use Rattle.command_words.specs.declared.limits.NumberKind.TheVariants.{WorkerCount}
+use Rattle.command_words.specs.declared.table.Choice.{Choice}
+use Rattle.command_words.specs.declared.table.NameList.{NameList}
+use Rattle.command_words.specs.declared.table.CommandKind.TheVariants.{Asm}
+use Rattle.command_words.specs.declared.table.Choice.TheVariants.{Far, Labels, Workers}
+use Rattle.ants.specs.Setups.{ResumeSetup, RunSetup, SetupWithin}
+use Rattle.ants.specs.Jobs.{job_of, resume_job, run_job, save_job}
 use Rattle.command_words.specs.Slots.DumpChoice.{NoDump}
 use Rattle.dump_print.specs.Texts.{seed_text}
 use Rattle.match_run.specs.Run.{dumps_text}
@@ -27,53 +34,54 @@ use Rattle.match_save.specs.Saved.{SavedValue}
 use Rattle.ants.specs.Files.{AreAccepted, FileContent, Reads}
 use Rattle.ants.specs.Files.FileContent.{SaveContent}
 use Rattle.ants.specs.Files.FileKind.{SaveFile}
-use Rattle.ants.specs.Outputs.{HasRoom, IsJobText, ReadGame, chosen_rounds, files_of, game_contents, game_files, minds_named, save_contents}
+use Rattle.ants.specs.Job.{HasRoom, IsJobText, files_of}
+use Rattle.ants.specs.Outputs.{ReadGame, chosen_rounds, game_contents, game_files, minds_named, save_contents}
 use Rattle.ants.specs.Verdict.{IsJudged}
 use Rattle.ants.specs.Verdict.FilesVerdict.{AllAccepted}
 
 -- a text without bytes, of `asm` with `--labels`: its program has no labels
-pub record TellsNoLabel (command : PlainCommand) (text : List ℕ) : Type 0 where
-  pub file : List ℕ
-  pub is : command ≡ AsmCommand file true
+pub record TellsNoLabel (command : PlainAsked) (text : List ℕ) : Type 0 where
+  pub is : command.kind ≡ Asm
+  pub labels : command.has Labels ≡ true
   pub empty : text ≡ []
 
 -- each output of a command whose numbers and names are within the limits, and whose files were accepted, ends in LF, or tells no label
 abbrev pub TextsEndInLf : Type 0
 TextsEndInLf =
-    (command : PlainCommand) (fetches : List Fetched) (contents : List FileContent) (text : List ℕ) → CommandWithin command
-    → AreAccepted (files_of command) fetches contents → IsJobText command contents text
+    (command : PlainAsked) (fetches : List Fetched) (contents : List FileContent) (text : List ℕ) → AskedWithin command
+    → AreAccepted (files_of (job_of command)) fetches contents → IsJobText (job_of command) contents text
     → (ends_in_lf text ≡ true) ⊎ TellsNoLabel command text
 
 -- a command has at most one output for the same contents of its files
 abbrev pub OneText : Type 0
-OneText = (command : PlainCommand) (contents : List FileContent) (text other : List ℕ) → IsJobText command contents text → IsJobText command contents other → text ≡ other
+OneText = (command : PlainAsked) (contents : List FileContent) (text other : List ℕ) → IsJobText (job_of command) contents text → IsJobText (job_of command) contents other → text ≡ other
 
--- the number of workers changes nothing of an output, nor does it whether they stand by for the whole game
+-- two command lines ask for the same, but for how many workers play, and for whether they stand by
+pub record AreAlikeButForWorkers (a b : PlainAsked) : Type 0 where
+  pub kind : a.kind ≡ b.kind
+  pub file : (place : ℕ) → a.file place ≡ b.file place
+  pub number : (place : ℕ) → slice_get (places_of a.kind) place ≢ Some (number_place WorkerCount) → a.number place ≡ b.number place
+  pub names : (list : NameList) → a.names list ≡ b.names list
+  pub option : (choice : Choice) → choice ≢ Workers → a.option choice ≡ b.option choice
+  pub dumps : a.dumps ≡ b.dumps
+  pub has : (choice : Choice) → choice ≢ Workers → choice ≢ Far → a.has choice ≡ b.has choice
+
+-- they read the same files and have the same outputs
 pub record WorkersChangeNothing : Type 0 where
-  pub run : (world red black : List ℕ) (setup : RunSetup) (workers : ℕ) (contents : List FileContent) (text : List ℕ)
-      → IsJobText (RunCommand world red black setup) contents text → IsJobText (RunCommand world red black (record setup { workers = workers })) contents text
-  pub far : (world red black : List ℕ) (setup : RunSetup) (standing : Bool) (contents : List FileContent) (text : List ℕ)
-      → IsJobText (RunCommand world red black setup) contents text → IsJobText (RunCommand world red black (record setup { far = standing })) contents text
-  pub save : (world red black : List ℕ) (setup : RunSetup) (workers : ℕ) (contents : List FileContent) (text : List ℕ)
-      → IsJobText (SaveCommand world red black setup) contents text → IsJobText (SaveCommand world red black (record setup { workers = workers })) contents text
-  pub resume : (save : List ℕ) (setup : ResumeSetup) (workers : ℕ) (contents : List FileContent) (text : List ℕ)
-      → IsJobText (ResumeCommand save setup) contents text → IsJobText (ResumeCommand save (record setup { workers = workers })) contents text
-  pub cup : (worlds brains : List (List ℕ)) (seed rounds workers others : ℕ) (games : Bool) (contents : List FileContent) (text : List ℕ)
-      → IsJobText (CupCommand worlds brains seed rounds workers games) contents text → IsJobText (CupCommand worlds brains seed rounds others games) contents text
-  pub workload : (seed rounds workers others : ℕ) (contents : List FileContent) (text : List ℕ)
-      → IsJobText (WorkloadCommand seed rounds workers) contents text → IsJobText (WorkloadCommand seed rounds others) contents text
+  pub files : (a b : PlainAsked) → AreAlikeButForWorkers a b → files_of (job_of a) ≡ files_of (job_of b)
+  pub text : (a b : PlainAsked) → AreAlikeButForWorkers a b → (contents : List FileContent) (text : List ℕ) → IsJobText (job_of a) contents text → IsJobText (job_of b) contents text
 
 -- without its counts the output of `run` is the same for every number of turns that a window has
 abbrev pub WindowsChangeCountsAlone : Type 0
 WindowsChangeCountsAlone =
     (world red black : List ℕ) (setup : RunSetup) (window : ℕ) (contents : List FileContent) (text : List ℕ) → setup.stats ≡ false
-    → IsJobText (RunCommand world red black setup) contents text → IsJobText (RunCommand world red black (record setup { window = window })) contents text
+    → IsJobText (run_job world red black setup) contents text → IsJobText (run_job world red black (record setup { window = window })) contents text
 
 -- a command within the limits whose files were accepted, and whose elements have room, has an output
 abbrev pub HasOutput : Type 0
 HasOutput =
-    (command : PlainCommand) (fetches : List Fetched) (contents : List FileContent) → CommandWithin command → AreAccepted (files_of command) fetches contents → HasRoom command
-    → (text : List ℕ) × IsJobText command contents text
+    (command : PlainAsked) (fetches : List Fetched) (contents : List FileContent) → AskedWithin command → AreAccepted (files_of (job_of command)) fetches contents → HasRoom (job_of command)
+    → (text : List ℕ) × IsJobText (job_of command) contents text
 
 -- the brain of a labelled program, minimised, plays the labelled game, whatever the opening world, the other brain, the numbers of the rules,
 -- the seed, the side and the number of rounds
@@ -106,7 +114,7 @@ front_output setup round game =
 
 -- a game of `run`, within the limits, whose files were accepted
 pub record IsGameOf (world red black : List ℕ) (setup : RunSetup) (game : ReadGame) : Type 0 where
-  pub within : CommandWithin (RunCommand world red black setup)
+  pub within : SetupWithin setup
   pub fetches : List Fetched
   pub accepted : AreAccepted (game_files world red black) fetches (game_contents game)
 
@@ -115,7 +123,7 @@ pub record IsSavedAs (world red black : List ℕ) (setup : RunSetup) (game : Rea
   pub early : round ≤ setup.rounds
   pub workers : ℕ
   pub text : List ℕ
-  pub is_text : IsJobText (SaveCommand world red black (saved_setup setup round workers)) (game_contents game) text
+  pub is_text : IsJobText (save_job world red black (saved_setup setup round workers)) (game_contents game) text
   pub reads : Reads (SaveFile setup.rounds) text (SaveContent saved)
 
 -- games are saved and gone on with, whoever plays before the save and after it
@@ -123,24 +131,24 @@ pub record SavesAreResumed : Type 0 where
   -- what `save` prints up to the last round is accepted
   pub accepted : (world red black : List ℕ) (setup : RunSetup) (game : ReadGame) (round workers : ℕ) (text : List ℕ)
       → IsGameOf world red black setup game → round ≤ setup.rounds
-      → IsJobText (SaveCommand world red black (saved_setup setup round workers)) (game_contents game) text
+      → IsJobText (save_job world red black (saved_setup setup round workers)) (game_contents game) text
       → (saved : SavedValue) × Reads (SaveFile setup.rounds) text (SaveContent saved)
   -- and it is no longer than a file may be: where it lies under the name of the save, `resume` accepts that file, whoever plays on
   pub fetched : (world red black save : List ℕ) (setup : RunSetup) (game : ReadGame) (round workers others : ℕ) (text : List ℕ) (at : List ℕ → Option (List ℕ))
       → IsGameOf world red black setup game → round ≤ setup.rounds
-      → IsJobText (SaveCommand world red black (saved_setup setup round workers)) (game_contents game) text
+      → IsJobText (save_job world red black (saved_setup setup round workers)) (game_contents game) text
       → at save ≡ Some text
-      → (saved : SavedValue) × IsJudged at (files_of (ResumeCommand save (resumed_setup setup others))) (AllAccepted (SaveContent saved ∷ []))
+      → (saved : SavedValue) × IsJudged at (files_of (resume_job save (resumed_setup setup others))) (AllAccepted (SaveContent saved ∷ []))
   -- what `run` prints is what it prints up to the saved round, and then what `resume` prints of the save
   pub goes_on : (world red black save : List ℕ) (setup : RunSetup) (game : ReadGame) (round workers : ℕ) (saved : SavedValue) (text rest : List ℕ)
       → IsGameOf world red black setup game → IsSavedAs world red black setup game round saved
-      → IsJobText (RunCommand world red black setup) (game_contents game) text
-      → IsJobText (ResumeCommand save (resumed_setup setup workers)) (save_contents saved) rest
+      → IsJobText (run_job world red black setup) (game_contents game) text
+      → IsJobText (resume_job save (resumed_setup setup workers)) (save_contents saved) rest
       → text ≡ front_output setup round game ++ rest
   -- so it doesn't matter after which round it was saved
   pub any_round : (world red black save other : List ℕ) (setup : RunSetup) (game : ReadGame) (round later workers others : ℕ) (saved changed : SavedValue) (rest last : List ℕ)
       → IsGameOf world red black setup game
       → IsSavedAs world red black setup game round saved → IsSavedAs world red black setup game later changed
-      → IsJobText (ResumeCommand save (resumed_setup setup workers)) (save_contents saved) rest
-      → IsJobText (ResumeCommand other (resumed_setup setup others)) (save_contents changed) last
+      → IsJobText (resume_job save (resumed_setup setup workers)) (save_contents saved) rest
+      → IsJobText (resume_job other (resumed_setup setup others)) (save_contents changed) last
       → front_output setup round game ++ rest ≡ front_output setup later game ++ last

@@ -2,7 +2,10 @@ pub mod Files
 pub mod Headline
 pub mod Help
 pub mod Inner
+pub mod Setups
+pub mod Job
 pub mod Outputs
+pub mod Jobs
 pub mod Verdict
 pub mod Laws
 pub mod Outside

@@ -21,9 +21,10 @@ use Rattle.cell_world.specs.Score.{alive_of, score_of}
 use Rattle.cell_world.specs.World.{World}
 use Rattle.cell_world.specs.declared.ant.Colour.TheVariants.{Red, Black}
 use Rattle.cell_world.specs.declared.score.Score.{Score}
-use Rattle.command_words.specs.declared.command.GenShape.{GenShape}
+use Rattle.ants.specs.declared.commands.setups.GenShape.{GenShape}
 use Rattle.command_words.specs.Slots.{DumpChoice}
-use Rattle.command_words.specs.Table.{default_blobs, default_rocks, default_side, default_window}
+use Rattle.command_words.specs.Table.{default_of}
+use Rattle.command_words.specs.declared.table.Choice.TheVariants.{Blobs, Height, Rocks, Width, Window}
 use Rattle.command_words.specs.Slots.DumpChoice.{NoDump, EveryDump, ChosenDumps}
 use Rattle.match_run.specs.Counts.{totals_of, whole_text}
 use Rattle.match_run.specs.Dumps.{has_round}
@@ -32,22 +33,19 @@ use Rattle.match_save.specs.Resumed.{rest_of}
 use Rattle.match_save.specs.Saved.{SavedValue, save_text}
 use Rattle.match_save.specs.Saves.{saved_after}
 use Rattle.dump_print.specs.Texts.{seed_text, dump_text, score_text, stats_text}
-use Rattle.command_words.specs.Command.{PlainCommand, ResumeSetup, RunSetup, TraceSetup}
-use Rattle.command_words.specs.Command.PlainCommand.{ShowCommand, BrainCommand, MinimiseCommand, RunCommand, GenCommand, CupCommand, ViewCommand, WorkloadCommand, HelpCommand, VersionCommand, AsmCommand, SaveCommand, ResumeCommand, TraceCommand, SameCommand}
+use Rattle.ants.specs.Setups.{ResumeSetup, RunSetup, TraceSetup}
 use Rattle.tournament.specs.Games.{all_played}
 use Rattle.tournament.specs.Text.{IsCupText}
 use Rattle.tournament.specs.Told.{IsToldCupText, games_text}
 use Rattle.world_gen.specs.declared.shape.Shape.{Shape}
 use Rattle.world_gen.specs.Food.{food_on}
 use Rattle.world_gen.specs.Generated.{IsGenerated}
-use Rattle.world_gen.specs.Placing.{HasNoRoom}
 use Rattle.world_read.specs.Canonical.{canonical_text}
 use Rattle.world_read.specs.Opened.{kinds_of}
-use Rattle.ants.specs.declared.workload.Summary.{Summary}
+use Rattle.ants.specs.declared.commands.workload.Summary.{Summary}
 use Rattle.ants.specs.Files.{File, FileContent}
 use Rattle.ants.specs.Files.FileKind.{WorldFile, BrainFile, BreakFile, LabelledFile, SaveFile}
 use Rattle.ants.specs.Files.FileContent.{WorldContent, BrainContent, BreakContent, LabelledContent, LabelsContent, SaveContent}
-use Rattle.ants.specs.Help.{help_text, version_text}
 use Rattle.ants.specs.Sample.{sample_brain}
 
 -- a file with a world, one with a brain, and one with breaks
@@ -75,24 +73,6 @@ game_files world red black = world_file world ∷ brain_file red ∷ brain_file 
 -- the files of a cup: its worlds, and then its brains; a name that stands twice is fetched twice
 abbrev pub cup_files : List (List ℕ) → List (List ℕ) → List File
 cup_files worlds brains = map world_file worlds ++ map brain_file brains
-
--- the files of a command, in the order in which they are fetched
-abbrev pub files_of : PlainCommand → List File
-files_of (ShowCommand world seed) = world_file world ∷ []
-files_of (BrainCommand file) = brain_file file ∷ []
-files_of (MinimiseCommand file states) = brain_file file ∷ []
-files_of (RunCommand world red black setup) = game_files world red black
-files_of (GenCommand seed shape) = []
-files_of (CupCommand worlds brains seed rounds workers games) = cup_files worlds brains
-files_of (ViewCommand world red black breaks seed rounds) = game_files world red black ++ break_file breaks ∷ []
-files_of (WorkloadCommand seed rounds workers) = []
-files_of HelpCommand = []
-files_of VersionCommand = []
-files_of (AsmCommand file labels) = labelled_file labels file ∷ []
-files_of (SaveCommand world red black setup) = game_files world red black
-files_of (ResumeCommand save setup) = save_file save setup.rounds ∷ []
-files_of (TraceCommand world red black id setup) = game_files world red black
-files_of (SameCommand first second) = brain_file first ∷ brain_file second ∷ []
 
 -- what was read of the files of a game
 pub record ReadGame : Type 0 where
@@ -263,7 +243,7 @@ pub record TellsGenerated (seed : ℕ) (shape : Shape) (text : List ℕ) : Type 
 
 -- the shape of a world of the contest: what `gen` makes without options
 abbrev pub contest_shape : Shape
-contest_shape = record { width = default_side; height = default_side; rocks = default_rocks; blobs = default_blobs }
+contest_shape = record { width = default_of Width; height = default_of Height; rocks = default_of Rocks; blobs = default_of Blobs }
 
 -- the task's sample brain on both sides, by the contest's rules
 abbrev pub sample_minds : Minds
@@ -278,7 +258,7 @@ summary_of seed rounds w = record {
   red = alive_of (world_after sample_minds seed w rounds) Red;
   black = alive_of (world_after sample_minds seed w rounds) Black;
   score = score_of (world_after sample_minds seed w rounds);
-  totals = totals_of sample_minds seed default_window (start_of w) rounds;
+  totals = totals_of sample_minds seed (default_of Window) (start_of w) rounds;
 }
 
 -- the first four lines of a workload, the last without its end
@@ -299,32 +279,12 @@ pub record TellsWorkload (seed rounds : ℕ) (text : List ℕ) : Type 0 where
   pub generated : IsGenerated seed contest_shape world
   pub told : text ≡ workload_text seed rounds (summary_of seed rounds (world_of world))
 
--- this element of the world that a command generates has no room
-abbrev pub LacksRoom : PlainCommand → ℕ → Type 0
-LacksRoom (GenCommand seed shape) element = HasNoRoom seed (shape_named shape) element
-LacksRoom (WorkloadCommand seed rounds workers) element = HasNoRoom seed contest_shape element
--- never: no other command generates a world
-LacksRoom command element = ⊥
+-- the output of `asm`: the brain, or what the labels lead to
+abbrev pub IsAsmOutput : Bool → List FileContent → List ℕ → Type 0
+IsAsmOutput false = Tells program_contents (is_text_of (λ program. brain_text program.brain))
+IsAsmOutput true = Tells labels_contents (is_text_of labels_text)
 
--- each element of the world that a command generates has room
-abbrev pub HasRoom : PlainCommand → Type 0
-HasRoom command = (element : ℕ) → ¬ LacksRoom command element
-
--- a text is the output of a command whose files were accepted as these contents
-abbrev pub IsJobText : PlainCommand → List FileContent → List ℕ → Type 0
-IsJobText (ShowCommand world seed) = Tells world_contents (is_text_of (show_output seed))
-IsJobText (BrainCommand file) = Tells brain_contents (is_text_of brain_text)
-IsJobText (MinimiseCommand file states) = Tells brain_contents (TellsMinimised states)
-IsJobText (RunCommand world red black setup) = Tells game_contents (is_text_of (match_output setup))
-IsJobText (CupCommand worlds brains seed rounds workers games) = Tells roster_contents (IsCupOutput games worlds brains seed rounds)
-IsJobText (ViewCommand world red black breaks seed rounds) = Tells view_contents (IsViewOutput seed rounds)
-IsJobText (GenCommand seed shape) = Tells no_contents (λ nothing. TellsGenerated seed (shape_named shape))
-IsJobText (WorkloadCommand seed rounds workers) = Tells no_contents (λ nothing. TellsWorkload seed rounds)
-IsJobText HelpCommand = Tells no_contents (is_text_of (λ nothing. help_text))
-IsJobText VersionCommand = Tells no_contents (is_text_of (λ nothing. version_text))
-IsJobText (AsmCommand file false) = Tells program_contents (is_text_of (λ program. brain_text program.brain))
-IsJobText (AsmCommand file true) = Tells labels_contents (is_text_of labels_text)
-IsJobText (SaveCommand world red black setup) = Tells game_contents (is_text_of (save_output setup))
-IsJobText (ResumeCommand save setup) = Tells save_contents (is_text_of (resume_output setup))
-IsJobText (TraceCommand world red black id setup) = Tells game_contents (is_text_of (trace_output id setup))
-IsJobText (SameCommand first second) = Tells pair_contents TellsSame
+-- what a `cup` has written that tells its games: the lines of all games on its first worlds
+abbrev pub CupInPlay : Bool → List (List ℕ) → List (List ℕ) → ℕ → ℕ → List FileContent → List ℕ → Type 0
+CupInPlay false worlds brains seed rounds contents front = ⊥
+CupInPlay true worlds brains seed rounds contents front = Tells roster_contents (TellsFirstWorlds worlds brains seed rounds) contents front

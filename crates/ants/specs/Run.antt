@@ -5,12 +5,13 @@ use Rattle.ant_base.specs.Fetched.{Fetched}
 use Rattle.ant_base.specs.Shelf.{AreSure, FetchesEach, ShelfState}
 use Rattle.ant_base.specs.Sink.{NothingWaits, Pushed, SinkState}
 use Rattle.ant_base.specs.declared.sink.Failed.{Failed}
-use Rattle.command_words.specs.Command.{PlainCommand, IsCommand, IsRefusedAt}
+use Rattle.command_words.specs.Command.{PlainAsked, IsCommand, IsRefusedAt}
+use Rattle.ants.specs.Jobs.{job_of}
 use Rattle.ants.specs.declared.status.Status.{Status}
 use Rattle.ants.specs.declared.status.Status.TheVariants as status
 use Rattle.ants.specs.declared.stop.FileFault.{FileFault}
 use Rattle.ants.specs.Files.{AreInOrder, FileContent}
-use Rattle.ants.specs.Outputs.{HasRoom, LacksRoom, files_of}
+use Rattle.ants.specs.Job.{HasRoom, LacksRoom, files_of}
 use Rattle.ants.specs.Verdict.{IsJudged, FilesVerdict}
 use Rattle.ants.specs.Verdict.FilesVerdict.{AllAccepted, FirstRefused}
 use Rattle.ants.specs.Outside.{Outside}
@@ -22,17 +23,17 @@ use Rattle.ants.specs.FaultLines.Ending.{Done, RefusedWord, Stopped}
 -- the words are a command, which is done; where the output can tell, nothing waits to be flushed behind a text, and a text without bytes
 -- leaves nothing to wait
 pub record IsFinished (words : List (List ℕ)) (before after : Outside) (fetches : List Fetched) : Type 0 where
-  pub command : PlainCommand
+  pub command : PlainAsked
   pub is_command : IsCommand words command
-  pub done : IsDone command before after fetches
+  pub done : IsDone (job_of command) before after fetches
   pub flushed : done.text ≢ [] → NothingWaits after.out.waiting
   pub kept : NothingWaits before.out.waiting → NothingWaits after.out.waiting
 
 -- the words are a command, which stopped for this reason
 pub record IsStopped (words : List (List ℕ)) (before after : Outside) (fetches : List Fetched) (reason : Reason) : Type 0 where
-  pub command : PlainCommand
+  pub command : PlainAsked
   pub is_command : IsCommand words command
-  pub stopped : StopsFor command before after fetches reason
+  pub stopped : StopsFor (job_of command) before after fetches reason
 
 -- the words are no command, of which this word is the refused one; nothing was fetched or written
 pub record IsRefusedByWords (words : List (List ℕ)) (before after : Outside) (fetches : List Fetched) (word : ℕ) : Type 0 where
@@ -75,27 +76,27 @@ pub record IsRunTo (words : List (List ℕ)) (before after : Outside) (number : 
 -- where the words are a command, the fetches of a run are those of its first files, in order and each once
 abbrev pub IsOrderly : List (List ℕ) → Outside → Outside → Type 0
 IsOrderly words before after =
-    (command : PlainCommand) → IsCommand words command → (fetches : List Fetched) → after.shelf.log ≡ before.shelf.log ++ fetches → AreInOrder (files_of command) fetches
+    (command : PlainAsked) → IsCommand words command → (fetches : List Fetched) → after.shelf.log ≡ before.shelf.log ++ fetches → AreInOrder (files_of (job_of command)) fetches
 
 -- the words are a command, whose files are judged so by the contents that the shelf tells
 pub record IsJudgedCommand (words : List (List ℕ)) (shelf : ShelfState) (verdict : FilesVerdict) : Type 0 where
-  pub command : PlainCommand
+  pub command : PlainAsked
   pub is_command : IsCommand words command
   pub at : List ℕ → Option (List ℕ)
   pub told : shelf.files ≡ Some at
-  pub judged : IsJudged at (files_of command) verdict
+  pub judged : IsJudged at (files_of (job_of command)) verdict
 
 -- where each file is accepted, each element of a world to be generated has room, and neither the shelf nor the output failed, a run is
 -- done, or wants memory
 abbrev pub IsComplete : List (List ℕ) → Outside → Outside → Status → Type 0
 IsComplete words before after ended =
-    (contents : List FileContent) (is : IsJudgedCommand words before.shelf (AllAccepted contents)) → HasRoom is.command
+    (contents : List FileContent) (is : IsJudgedCommand words before.shelf (AllAccepted contents)) → HasRoom (job_of is.command)
     → ¬ Rose before.shelf.faults after.shelf.faults → ¬ Rose before.out.faults after.out.faults → (ended ≡ status.Done) ⊎ (ended ≡ status.Memory)
 
 -- where an element of a world to be generated has no room, a run ends as refused input, or wants memory
 abbrev pub IsCrowding : List (List ℕ) → Status → Type 0
 IsCrowding words ended =
-    (command : PlainCommand) (element : ℕ) → IsCommand words command → LacksRoom command element
+    (command : PlainAsked) (element : ℕ) → IsCommand words command → LacksRoom (job_of command) element
     → (ended ≡ status.Input) ⊎ (ended ≡ status.Memory)
 
 -- where a file is refused, and the shelf didn't fail, a run ends as refused input, or wants memory
@@ -111,4 +112,4 @@ NeverUnread words before ended = (verdict : FilesVerdict) (is : IsJudgedCommand 
 
 -- the words are no command
 abbrev pub IsNoCommand : List (List ℕ) → Type 0
-IsNoCommand words = (command : PlainCommand) → ¬ IsCommand words command
+IsNoCommand words = (command : PlainAsked) → ¬ IsCommand words command

@@ -9,7 +9,7 @@ pub fn headline()
     ensures { Headline }
 {}
 
-/// Contents judge the files of a command in exactly one way: all are accepted, as the same contents, or one and the same file is the first
+/// Contents that have each file of a command judge them in exactly one way: all are accepted, as the same contents, or one and the same file is the first
 /// that is refused, with the same fault.
 pub fn contents_judge_once()
     ensures { JudgesOnce }
@@ -27,7 +27,7 @@ pub fn one_text()
     ensures { OneText }
 {}
 
-/// The number of workers of a `run`, a `save`, a `resume`, a `cup` or a `workload` changes nothing of its output, nor does `--far` of a `run`.
+/// Two command lines that differ in the number of workers alone, or in `--far`, read the same files and have the same output.
 pub fn workers_change_nothing()
     ensures { WorkersChangeNothing }
 {}
@@ -47,7 +47,7 @@ pub fn assembled_and_minimised()
     ensures { AssembledAndMinimised }
 {}
 
-/// Where `run` prints a text, `save` after fewer rounds of the same game prints a save that is no longer than a file may be and that `resume` accepts, and what `resume` prints of it is
+/// Where `run` prints a text, `save` after as many rounds of the same game or fewer prints a save that is no longer than a file may be and that `resume` accepts, and what `resume` prints of it is
 /// the rest of that text: before it stand the line of the seed and the chosen dumps up to the saved round. The seed, the window, the sheet, the
 /// dumps and the counts are those of `run`; each of the three may have any number of workers. So it is after whichever round the game is saved.
 pub fn saves_are_resumed()

@@ -7,30 +7,14 @@
 //! What names no section of the contest's task is this project's own: the commands and what they print, the faults, and the statuses.
 #![tactic(auto)]
 
-mod asm;
-mod brain;
-mod cup;
-mod far;
+mod commands;
 mod files;
-mod generate;
-mod help;
 mod laws;
-mod minimise;
-mod played;
 mod program;
-mod resume;
-mod run;
-mod same;
-mod sample;
-mod save;
-mod show;
 mod status;
 mod stop;
 #[cfg(test)]
 mod tests;
-mod trace;
-mod view;
-mod workload;
 
 use crate::program::{exit_without_memory, run_to_exit};
 use ant_base::{ErrSink, FileShelf, NoGate, OutSink};

@@ -1,13 +1,11 @@
 // The whole program, over any shelf and any sinks.
 ghost use Rattle.std.specs.Prelude.{◌≡◌, ◌↔◌};
 ghost use Rattle.command_words.specs.Far.{words_without_far};
-ghost use Rattle.command_words.specs.Command.{CommandWithin, plain};
-ghost use Rattle.command_words.specs.Limits.{IsWithin};
+ghost use Rattle.command_words.specs.Command.{AskedWithin, plain};
+ghost use Rattle.ants.specs.Jobs.{job_of};
 ghost use Rattle.command_words.specs.Words.{texts};
-ghost use Rattle.command_words.specs.declared.limits.NumberKind.TheVariants.{WorkerCount};
 ghost use Rattle.round_book.specs.Book.{CanBegin};
 ghost use Rattle.round_book.specs.Led.{IsWindow};
-ghost use Rattle.ants.specs.Inner.Plans.{workers_named};
 ghost use Rattle.ants.specs.Inner.Reading.{CarriesOut, CarriesOutWords, ending_of};
 ghost use Rattle.ants.specs.Outside.{outside_of};
 ghost use Rattle.ants.specs.Run.{GotLine, IsComplete, IsCrowding, IsNoCommand, IsOrderly, NeverUnread, IsRefusing, IsRun, IsRunTo, Reports};
@@ -16,27 +14,15 @@ ghost use Rattle.ants.specs.FaultLines.{ending_status, fault_line, plain_ending,
 ghost use Rattle.ants.specs.FaultLines.Reason.{AtMemory};
 ghost use Rattle.std.specs.Process.{exit_status};
 
-use crate::asm::asm;
-use crate::brain::brain;
-use crate::cup::cup;
-use crate::far::run_far;
-use crate::generate::gen_world;
-use crate::help::{help, version};
-use crate::minimise::minimise;
-use crate::resume::resume;
-use crate::run::run;
-use crate::same::same;
-use crate::save::save;
-use crate::show::show;
+use crate::commands::far::run_far;
+use crate::commands::setups::AskedGame;
+use crate::commands::{dispatch, workers_in};
 use crate::status::Status;
 use crate::stop::{CommandStop, Ended};
-use crate::trace::trace;
-use crate::view::view;
-use crate::workload::workload;
 use ant_base::{Gate, Layout, Shelf, Sink, layout};
-use command_words::{Command, Refused, is_far_run, read_words, read_words_without_far};
+use command_words::{Asked, CommandKind, Refused, is_far_run, read_words, read_words_without_far};
 use match_run::OutOfMemory;
-use round_book::{Counts, Crew, Field, Led};
+use round_book::{Counts, Field, Led};
 use round_workers::BoardCrew;
 use std::alloc::Global;
 use std::process::ExitCode;
@@ -49,81 +35,27 @@ use std::thread::Threads;
 //                            > read_and_carry_out_far > carry_out_far > run_far, for a run
 //                                                                     > carry_out, for all else
 
-// Hands a command to its own function, with a crew, if it plays in windows.
-fn dispatch<'w, R: Threads + Sync, C: Crew, S: Shelf, K: Sink>(
-    rt: &R,
-    alloc: Global,
-    crew: &mut C,
-    command: Command<'w>,
-    shelf: &mut S,
-    out: &mut K,
-) -> Result<(), CommandStop<'w>>
-    requires ready { C.ready crew.old }
-    requires within { CommandWithin (plain command) }
-    ensures { CarriesOut (plain command.entry) (S.state shelf.old) (S.state shelf.new) (K.state out.old) (K.state out.new) (ending_of result) }
-{
-    match command {
-        Command::Show { world, seed } => show(alloc, world, seed, shelf, out),
-        Command::Brain { file } => brain(alloc, file, shelf, out),
-        Command::Minimise { file, states } => minimise(alloc, file, states, shelf, out),
-        Command::Gen { seed, shape } => gen_world(alloc, seed, shape, shelf, out),
-        Command::Run(game) => run(alloc, crew, game, shelf, out),
-        Command::Cup(entry) => cup(rt, alloc, entry, shelf, out),
-        Command::View(game) => view(alloc, game, shelf, out),
-        Command::Workload {
-            seed,
-            rounds,
-            workers: _,
-        } => workload(alloc, crew, seed, rounds, shelf, out),
-        Command::Help => help(shelf, out),
-        Command::Version => version(shelf, out),
-        Command::Asm { file, labels } => asm(alloc, file, labels, shelf, out),
-        Command::Save(game) => save(alloc, crew, game, shelf, out),
-        Command::Trace(game) => trace(alloc, game, shelf, out),
-        Command::Same { first, second } => same(alloc, first, second, shelf, out),
-        Command::Resume {
-            save: name,
-            options,
-        } => resume(alloc, crew, name, options, shelf, out),
-    }
-}
-
-// How many workers a command names for its windows; one where it plays none.
-fn workers_in(command: &Command<'_>) -> u32
-    requires { CommandWithin (plain command.now) }
-    ensures named { result ≡ workers_named (plain command.now) }
-    ensures within { IsWithin WorkerCount result }
-{
-    match command {
-        Command::Run(game) => game.options.workers,
-        Command::Save(game) => game.options.workers,
-        Command::Resume { options, .. } => options.workers,
-        Command::Workload { workers, .. } => *workers,
-        _ => 1,
-    }
-}
-
 // Carries out a command, whose numbers and names are within their limits. A crew takes no memory before its first window, so that each
 // command may have one.
 fn carry_out<'w, R: Threads + Sync, S: Shelf, K: Sink, G: Gate>(
     rt: &R,
     alloc: Global,
-    command: Command<'w>,
+    asked: Asked<'w>,
     shelf: &mut S,
     out: &mut K,
     gate: &G,
 ) -> Result<(), CommandStop<'w>>
-    requires within { CommandWithin (plain command) }
-    ensures { CarriesOut (plain command.entry) (S.state shelf.old) (S.state shelf.new) (K.state out.old) (K.state out.new) (ending_of result) }
+    requires within { AskedWithin (plain asked) }
+    ensures { CarriesOut (job_of (plain asked.entry)) (S.state shelf.old) (S.state shelf.new) (K.state out.old) (K.state out.new) (ending_of result) }
 {
-    let mut board = BoardCrew::new(rt, workers_in(&command), gate);
+    let mut board = BoardCrew::new(rt, workers_in(asked), gate);
     let mut crew = Led::by(
         |field: &mut Field<'_>, from: u32, to: u32| -> Result<Counts, OutOfMemory>
             requires { CanBegin field.now from to }
             ensures { IsWindow result field.entry.now from to field.exit.now }
         { board.window(alloc, field, from, to) },
     );
-    dispatch(rt, alloc, &mut crew, command, shelf, out)
+    dispatch(rt, alloc, &mut crew, asked, shelf, out)
 }
 
 // Carries out the command that the words are, where `--far` is no option.
@@ -138,7 +70,7 @@ fn read_and_carry_out<'w, R: Threads + Sync, S: Shelf, K: Sink, G: Gate>(
     ensures { CarriesOutWords (words_without_far (texts words.now)) (S.state shelf.old) (S.state shelf.new) (K.state out.old) (K.state out.new) (plain_ending result) }
 {
     match read_words_without_far(words) {
-        Ok(command) => Ended::after(carry_out(rt, alloc, command, shelf, out, gate)),
+        Ok(asked) => Ended::after(carry_out(rt, alloc, asked, shelf, out, gate)),
         Err(refused) => Ended::RefusedWord(refused.word),
     }
 }
@@ -147,17 +79,17 @@ fn read_and_carry_out<'w, R: Threads + Sync, S: Shelf, K: Sink, G: Gate>(
 fn carry_out_far<'w, R: Threads + Wait + Sync, S: Shelf, K: Sink, G: Gate>(
     rt: &R,
     alloc: Global,
-    command: Command<'w>,
+    asked: Asked<'w>,
     shelf: &mut S,
     out: &mut K,
     gate: &G,
 ) -> Result<(), CommandStop<'w>>
-    requires within { CommandWithin (plain command) }
-    ensures { CarriesOut (plain command.entry) (S.state shelf.old) (S.state shelf.new) (K.state out.old) (K.state out.new) (ending_of result) }
+    requires within { AskedWithin (plain asked) }
+    ensures { CarriesOut (job_of (plain asked.entry)) (S.state shelf.old) (S.state shelf.new) (K.state out.old) (K.state out.new) (ending_of result) }
 {
-    match command {
-        Command::Run(game) => run_far(rt, alloc, game, shelf, out, gate),
-        other => carry_out(rt, alloc, other, shelf, out, gate),
+    match asked.kind {
+        CommandKind::Run => run_far(rt, alloc, AskedGame::of_run(asked), shelf, out, gate),
+        _ => carry_out(rt, alloc, asked, shelf, out, gate),
     }
 }
 
@@ -173,7 +105,7 @@ fn read_and_carry_out_far<'w, R: Threads + Wait + Sync, S: Shelf, K: Sink, G: Ga
     ensures { CarriesOutWords (texts words.now) (S.state shelf.old) (S.state shelf.new) (K.state out.old) (K.state out.new) (plain_ending result) }
 {
     match read_words(words) {
-        Ok(command) => Ended::after(carry_out_far(rt, alloc, command, shelf, out, gate)),
+        Ok(asked) => Ended::after(carry_out_far(rt, alloc, asked, shelf, out, gate)),
         Err(refused) => Ended::RefusedWord(refused.word),
     }
 }
@@ -226,9 +158,9 @@ pub fn run_here<R: Threads + Sync, S: Shelf, K: Sink, E: Sink, G: Gate>(
     report(ended, err)
 }
 
-/// Does all that the program does, over a shelf of files, an output and a place for faults: `run_here` does it for all words but a `run` among
-/// whose words `--far` stands, right or wrong. Such a run's workers stand by for the whole game, and the call may wait for one of them; what
-/// it promises holds if it returns.
+/// Does all that the program does, over a shelf of files, an output and a place for faults. It calls `run_here`, unless the command is `run` and
+/// some word is `--far`. Such a run's workers stand by for the whole game, and the call may wait for one of them; what it promises holds if it
+/// returns.
 ///
 /// The clauses are those of `run_here`, of all words: the first says all of it, and its doc says which status comes when.
 pub fn run_ants<R: Threads + Wait + Sync, S: Shelf, K: Sink, E: Sink, G: Gate>(

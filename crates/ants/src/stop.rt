@@ -1,7 +1,7 @@
 // How a run ended, why a command stopped, and the line that says so.
 ghost use Rattle.std.specs.Prelude.{◌≡◌};
 ghost use Rattle.ants.specs.FaultLines.{file_fault_text, ending_by, plain_ending, reason_of, reason_text, fault_line, status_of};
-ghost use Rattle.ants.specs.Inner.Plans.{cup_ending, play_ending};
+ghost use Rattle.ants.specs.Inner.Plans.{play_ending};
 ghost use Rattle.ants.specs.Inner.Reading.{ending_of, push_ending};
 
 use crate::status::Status;
@@ -13,7 +13,6 @@ use cell_world::Score;
 use match_run::{OutOfMemory, PlayFault};
 use match_save::{AlreadyAt, SaveFault};
 use std::alloc::AllocFailed;
-use tournament::CupFault;
 use world_gen::GenFault;
 use world_read::WorldFault;
 
@@ -68,8 +67,8 @@ pub fn after_play<'w>(played: Result<Score, PlayFault>) -> Result<(), CommandSto
 }
 
 /// What a command answers that told the games of a cup last.
-pub fn after_cup<'w>(told: Result<(), CupFault>) -> Result<(), CommandStop<'w>>
-    ensures { ending_of result ≡ cup_ending told }
+pub fn after_cup<'w>(told: Result<(), PlayFault>) -> Result<(), CommandStop<'w>>
+    ensures { ending_of result ≡ play_ending told }
 {
     told?;
     Ok(())
@@ -137,19 +136,6 @@ impl From<PlayFault> for CommandStop<'_> {
         match fault {
             PlayFault::WriteFault => CommandStop::Write,
             PlayFault::OutOfMemory => CommandStop::Memory,
-        }
-    }
-}
-
-impl From<CupFault> for CommandStop<'_> {
-    ghost use Rattle.ants.specs.Inner.Plans.{cup_stop_of};
-
-    ghost from_gives = { λ fault stop. stop ≡ cup_stop_of fault };
-
-    fn from(fault: CupFault) -> Self {
-        match fault {
-            CupFault::WriteFault => CommandStop::Write,
-            CupFault::OutOfMemory => CommandStop::Memory,
         }
     }
 }

@@ -1,7 +1,6 @@
 -- What a command's words answer: the words at its places, and what its options say, in whatever order they stand.
-use denote.Enum.Bare.{sameb}
 use Rattle.std.proofs.Common.{◌≡◌, ◌≢◌, ℕ, zero, suc, ◌<◌, ◌≤◌, Bool, true, false, not, ◌||◌, cond, nat_le, List, [], ◌∷◌, ◌++◌, length, map, Option, Some, None, bytes_eq, slice_get, refl, sym, ap, ◌∙◌, subst, ◌⊎◌, inl, inr, arith}
-use Rattle.std.specs.List.{Contains, flat_map, list_any, AllByRecursion}
+use Rattle.std.specs.List.{Contains, flat_map, AllByRecursion}
 use Rattle.std.proofs.lemmas.Bool.{false≢true, false_from_ne_true, le-leb, leb-true, not-true, or_from}
 use Rattle.std.proofs.lemmas.List.{length-append}
 use Rattle.std.proofs.lemmas.Slice.Eq.{bytes_eq-Decides}
@@ -18,7 +17,6 @@ use Rattle.command_words.specs.Table.{word_of, places_of, choices_of, fewest_nam
 use Rattle.command_words.specs.Command.{Answers, Given, given_words, joined, FitAll, IsOptionOf, IsGiven, IsCommandOf, NoneTwice, answers_in, first_word, is_among, names_front, rest_after, value_of}
 use Rattle.command_words.specs.Inner.Walk.{has_needed, names_of, word_after}
 use Rattle.list_lemmas.proofs.Elements.{Contains-none, Contains-first, Contains-later, Contains-cases}
-use Rattle.command_words.proofs.EveryValue.{found}
 use Rattle.command_words.proofs.ListLemmas.{list_all-at, list_all-each}
 use Rattle.command_words.proofs.TableLemmas.{bytes_eq-same, is_keyword, is_short, keyword-not_option, keyword-unfit, option-not_first, same_option, same_option-differs, values-short}
 use Rattle.command_words.proofs.WalkSearch.{NoName, Unlike, is_among-append, is_among-none, is_among-one, is_among-cons, names_front-none, rest_after-none, rest_after-cons, rest_after-next, rest_after-unlike}
@@ -248,7 +246,7 @@ another (next ∷ given) g has choice differ = elim (Contains-cases next g given
 ]
 
 -- an option among some, none of which is given twice, says its first word
-value_given-here : (given : List Given) (g : Given) → NoneTwice given → Contains given g → value_given g.choice given ≡ first_word (joined g.values)
+pub value_given-here : (given : List Given) (g : Given) → NoneTwice given → Contains given g → value_given g.choice given ≡ first_word (joined g.values)
 value_given-here [] g once has = absurd (Contains-none g has)
 value_given-here (first ∷ given) g once has = elim (Contains-cases first g given has) [
   | inl here ↦
@@ -301,6 +299,38 @@ given_or_not (first ∷ given) choice = go (bytes_eq (option_of first.choice) (o
   go true same rest = inl (first, Contains-first first given, same_option first.choice choice same)
   go false differs (inl later) = inl (later.0, Contains-later first later.0 given later.1, later.2)
   go false differs (inr absent) = inr (later_absent differs absent)
+
+-- an option that is said to be given is
+pub given_has : (given : List Given) (choice : Choice) → has_given choice given ≡ true → IsGiven choice given
+given_has given choice e = elim (given_or_not given choice) [
+  | inl there ↦ subst (λ c. IsGiven c given) there.2 (mapped given there.0 there.1)
+  | inr absent ↦ absurd (false≢true (sym absent.has ∙ e))
+]
+  where
+    mapped : (given : List Given) (g : Given) → Contains given g → IsGiven g.choice given
+    mapped [] g has = absurd (Contains-none g has)
+    mapped (first ∷ given) g has = elim (Contains-cases first g given has) [
+      | inl here ↦ subst (λ other. IsGiven other.choice (first ∷ given)) here (Contains-first first.choice (map (λ g. g.choice) given))
+      | inr later ↦ Contains-later first.choice g.choice (map (λ g. g.choice) given) (mapped given g later)
+    ]
+
+-- one that is given has its place among them
+pub given-there : (given : List Given) (choice : Choice) → IsGiven choice given → (g : Given) × Contains given g × (g.choice ≡ choice)
+given-there [] choice has = absurd (Contains-none choice has)
+given-there (first ∷ given) choice has = elim (Contains-cases first.choice choice (map (λ g. g.choice) given) has) [
+  | inl here ↦ (first, Contains-first first given, here)
+  | inr later ↦ (let rest = given-there given choice later in (rest.0, Contains-later first rest.0 given rest.1, rest.2))
+]
+
+pub given-has : (given : List Given) (choice : Choice) → IsGiven choice given → has_given choice given ≡ true
+given-has given choice has = (let there = given-there given choice has in ap (λ c. has_given c given) (sym there.2) ∙ has_given-here given there.0 there.1)
+
+-- and one that isn't has no value
+pub value-absent : (given : List Given) (choice : Choice) → ¬ IsGiven choice given → value_given choice given ≡ None
+value-absent given choice none = elim (given_or_not given choice) [
+  | inl there ↦ absurd (none (given_has given choice (ap (λ c. has_given c given) (sym there.2) ∙ has_given-here given there.0 there.1)))
+  | inr absent ↦ absent.value
+]
 
 -- the same options say the same
 module _ (given others : List Given) (once : NoneTwice given) (once_others : NoneTwice others) (to : (g : Given) → Contains given g → Contains others g)
@@ -385,48 +415,3 @@ word-there (Word here ∷ places) ((word ∷ []) ∷ front) zero slot fit e =
     let same : here ≡ slot = cc in
     (word, refl, subst (λ s. fits s word ≡ true) same fit.0)
 word-there (Word here ∷ places) ((word ∷ []) ∷ front) (suc number) slot fit e = word-there places front number slot fit.1 e
-
--- the word of one place
-first-fits : (slot : Slot) (values : List (List (List ℕ))) → FitAll (Word slot ∷ []) values → (word : List ℕ) × (first_word (joined values) ≡ Some word) × (fits slot word ≡ true)
-first-fits slot [] fit = elim fit [ ]
-first-fits slot ([] ∷ values) fit = elim fit.0 [ ]
-first-fits slot ((word ∷ []) ∷ values) fit = (word, refl, fit.0)
-first-fits slot ((word ∷ other ∷ more) ∷ values) fit = elim fit.0 [ ]
-
--- the value of an option fits
-pub value-fits : (kind : CommandKind) (given : List Given) (choice : Choice) (slot : Slot) → values_of choice ≡ Word slot ∷ [] → AllByRecursion (IsOptionOf kind) given
-    → (value : List ℕ) → value_given choice given ≡ Some value → fits slot value ≡ true
-value-fits kind [] choice slot has options value e = (let no : ⊥ = cc in absurd no)
-value-fits kind (g ∷ given) choice slot has options value e =
-    go (bytes_eq (option_of g.choice) (option_of choice)) refl e (value-fits kind given choice slot has options.1 value) where
-      go : (b : Bool) → bytes_eq (option_of g.choice) (option_of choice) ≡ b → cond b (first_word (joined g.values)) (value_given choice given) ≡ Some value
-          → (value_given choice given ≡ Some value → fits slot value ≡ true) → fits slot value ≡ true
-      go true same e rest =
-          let first = first-fits slot g.values (places-same g choice (Word slot ∷ []) has same options.0.fit) in
-          let is : first.0 ≡ value = cc in
-          subst (λ w. fits slot w ≡ true) is first.2
-      go false differs e rest = rest e
-
--- an option that is given has a value
-pub value-there : (kind : CommandKind) (given : List Given) (choice : Choice) (slot : Slot) → values_of choice ≡ Word slot ∷ [] → AllByRecursion (IsOptionOf kind) given
-    → IsGiven choice given → (value : List ℕ) × (value_given choice given ≡ Some value)
-value-there kind [] choice slot has options given_it = absurd (Contains-none choice given_it)
-value-there kind (g ∷ given) choice slot has options given_it =
-    go (bytes_eq (option_of g.choice) (option_of choice)) refl (Contains-cases g.choice choice (map (λ g. g.choice) given) given_it)
-    (value-there kind given choice slot has options.1)
-  where
-    go : (b : Bool) → bytes_eq (option_of g.choice) (option_of choice) ≡ b → (g.choice ≡ choice) ⊎ IsGiven choice given
-        → (IsGiven choice given → (value : List ℕ) × (value_given choice given ≡ Some value))
-        → (value : List ℕ) × (cond b (first_word (joined g.values)) (value_given choice given) ≡ Some value)
-    go true same where_it rest =
-        let first = first-fits slot g.values (places-same g choice (Word slot ∷ []) has same options.0.fit) in
-        (first.0, first.1)
-    go false differs (inl here) rest = absurd (false≢true (sym differs ∙ ap (λ o. bytes_eq (option_of o) (option_of choice)) here ∙ bytes_eq-same (option_of choice)))
-    go false differs (inr later) rest = rest later
-
--- whether a command has an option
-abbrev pub has_option : CommandKind → Choice → Bool
-has_option kind choice = list_any (λ other. sameb option.the_type other choice) (choices_of kind)
-
-pub has_option-Contains : (kind : CommandKind) (choice : Choice) → has_option kind choice ≡ true → Contains (choices_of kind) choice
-has_option-Contains kind choice e = found option.the_type tt (choices_of kind) choice e

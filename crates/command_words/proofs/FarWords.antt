@@ -14,7 +14,7 @@ use Rattle.command_words.specs.declared.slot.Place.TheVariants.{Word, Names}
 use Rattle.command_words.specs.declared.table.CommandKind.{CommandKind}
 use Rattle.command_words.specs.declared.table.CommandKind.TheVariants.{Run}
 use Rattle.command_words.specs.declared.table.Choice.TheVariants.{Far}
-use Rattle.command_words.specs.Command.{FitAll, Given, IsBeginning, IsCommand, IsOptionOf, IsRefusedAt, PlainCommand, given_words, joined}
+use Rattle.command_words.specs.Command.{FitAll, Given, IsBeginning, IsCommand, IsOptionOf, IsRefusedAt, PlainAsked, given_words, joined}
 use Rattle.command_words.specs.Far.{RefusesFar, is_far_run, word_without_far, words_without_far}
 use Rattle.command_words.specs.Slots.{FitsPlace, fits, is_file_name}
 use Rattle.command_words.specs.Table.{option_of, places_of, values_of, word_of}
@@ -59,7 +59,7 @@ given-some kind (one ∷ more) options =
     AllByRecursion-append IsSome (given_words one) (flat_map given_words more) (option-byte one.choice, joined-some (values_of one.choice) one.values options.0.fit) (given-some kind more options.1)
 
 -- no word of a command is empty
-command-some : (words : List (List ℕ)) (command : PlainCommand) → IsCommand words command → AllByRecursion IsSome words
+command-some : (words : List (List ℕ)) (command : PlainAsked) → IsCommand words command → AllByRecursion IsSome words
 command-some words command is =
     subst (AllByRecursion IsSome) (sym is.form.whole) (
       command-byte is.kind,
@@ -67,11 +67,11 @@ command-some words command is =
           (joined-some (places_of is.kind) is.front is.form.places) (given-some is.kind is.given is.form.options),
     )
 
-no_empty : (front back : List (List ℕ)) (command : PlainCommand) → ¬ IsCommand (front ++ [] ∷ back) command
+no_empty : (front back : List (List ℕ)) (command : PlainAsked) → ¬ IsCommand (front ++ [] ∷ back) command
 no_empty front back command is = false≢true (all-between IsSome front [] back (command-some (front ++ [] ∷ back) command is))
 
 not_begun : (front : List (List ℕ)) → ¬ IsBeginning (front ++ [] ∷ [])
-not_begun front is = no_empty front is.more is.command (subst (λ (words : List (List ℕ)). IsCommand words is.command) (append_assoc front ([] ∷ []) is.more) is.whole)
+not_begun front is = no_empty front is.more is.asked (subst (λ (words : List (List ℕ)). IsCommand words is.asked) (append_assoc front ([] ∷ []) is.more) is.whole)
 
 -- the words before `--far` are kept, and it is the empty one
 cut-far : (words : List (List ℕ)) → list_any (λ other. bytes_eq other (option_of Far)) words ≡ true
@@ -146,11 +146,11 @@ module _ (words : List (List ℕ)) (far : is_far_run words ≡ true) where
   front = words_before (option_of Far) words
 
   -- the words before it are a command
-  pub refused-after_command : (command : PlainCommand) → IsCommand front command → IsRefusedAt (words_without_far words) (length front + 1)
+  pub refused-after_command : (command : PlainAsked) → IsCommand front command → IsRefusedAt (words_without_far words) (length front + 1)
   refused-after_command command is =
       let there = cut words far in
       subst (λ (ws : List (List ℕ)). IsRefusedAt ws (length front + 1)) (sym there.1)
-      (refused-there front there.0 (λ count few. IsBeginning-take count front (record { more = []; command = command; whole = subst (λ (ws : List (List ℕ)). IsCommand ws command) (sym (append-nil front)) is })))
+      (refused-there front there.0 (λ count few. IsBeginning-take count front (record { more = []; asked = command; whole = subst (λ (ws : List (List ℕ)). IsCommand ws command) (sym (append-nil front)) is })))
 
   -- or are refused
   pub refused-earlier : (word : ℕ) → IsRefusedAt front word → IsRefusedAt (words_without_far words) (min word (length front + 1))
@@ -163,7 +163,7 @@ module _ (words : List (List ℕ)) (far : is_far_run words ≡ true) where
             (refused-there front there.0 (λ count few. is.before count (omega (arith, few, past))))
       ])
 
-  pub far-none : (command : PlainCommand) → ¬ IsCommand (words_without_far words) command
+  pub far-none : (command : PlainAsked) → ¬ IsCommand (words_without_far words) command
   far-none command is = refuses_far.refused words command far is
 
 -- this word is the one, and the words end before it

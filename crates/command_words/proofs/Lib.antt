@@ -12,11 +12,13 @@ pub mod WalkShapes
 pub mod WalkCompletions
 -- Commands read, and the word that is refused.
 pub mod AnswersLemmas
-pub mod CommandLemmas
+pub mod WithinLemmas
 pub mod ReadLemmas
 pub mod FarWords
 pub mod WordLaws
+pub mod SaidLemmas
 -- Worked lines.
 pub mod WorkedLines
 pub mod WorkedFronts
 pub mod WorkedOptions
+pub mod WorkedHelp

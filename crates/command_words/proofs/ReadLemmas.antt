@@ -1,42 +1,40 @@
 -- What is read is the command, or the refused word.
-use Rattle.std.proofs.Common.{◌≡◌, ℕ, ◌+◌, ◌≤◌, suc, Bool, true, false, cond, List, [], ◌∷◌, ◌++◌, length, take, drop, Option, Some, None, Result, Ok, Err, ok_or, IfOk, IfErr, refl, sym, ap, ◌∙◌, subst, ◌⊎◌, inl, inr, arith, lit<}
+use Rattle.std.proofs.Common.{◌≡◌, ℕ, ◌+◌, ◌≤◌, suc, Bool, true, false, cond, List, [], ◌∷◌, ◌++◌, length, take, drop, Option, Some, None, Result, Ok, Err, IfOk, IfErr, refl, sym, ap, ◌∙◌, subst, ◌⊎◌, inl, inr, arith, lit<}
 use Rattle.std.specs.List.{flat_map, Contains}
 use Rattle.std.proofs.lemmas.List.{append-nil, append_assoc, take-take, take-append-drop}
 use Rattle.command_words.specs.declared.slot.Place.{Place}
 use Rattle.command_words.specs.declared.table.CommandKind.{CommandKind}
-use Rattle.command_words.specs.declared.table.CommandKind.TheVariants.{Show}
-use Rattle.command_words.specs.declared.command.Command.{Command}
-use Rattle.command_words.specs.declared.command.Refused.{Refused}
+use Rattle.command_words.specs.declared.table.CommandKind.TheVariants.{Run}
+use Rattle.command_words.specs.declared.asked.Asked.{Asked}
+use Rattle.command_words.specs.declared.asked.Refused.{Refused}
 use Rattle.command_words.specs.Table.{kinds, word_of, places_of}
-use Rattle.command_words.specs.Command.{Given, given_words, joined, IsCommandOf, PlainCommand, IsCommand, IsBeginning, IsRefusedAt, answers_in, command_in, plain}
+use Rattle.command_words.specs.Command.{Given, given_words, joined, IsCommandOf, PlainAsked, IsCommand, IsBeginning, IsRefusedAt, asked_in, plain}
 use Rattle.command_words.specs.Inner.Walk.{command_kind_of, walk, has_needed, is_finished, finish, read_kind, read_of, plain_result}
 use Rattle.command_words.proofs.TableLemmas.{command_kind_of-word, command_kind_of-found, command_kind_of-known}
 use Rattle.command_words.proofs.WalkNames.{open-none, all-from_rest, places-run}
 use Rattle.command_words.proofs.WalkShapes.{walk-accepts, walk-front, walk-stops}
 use Rattle.command_words.proofs.WalkCompletions.{Extends, walk-extends, command-walks}
 use Rattle.command_words.proofs.AnswersLemmas.{has_needed-command, needed-given, words_of}
-use Rattle.command_words.proofs.CommandLemmas.{words-say}
 
 -- words that are a command are read as it
-pub read-command : (words : List (List ℕ)) (command : PlainCommand) → IsCommand words command → read_of words ≡ Ok command
+pub read-command : (words : List (List ℕ)) (command : PlainAsked) → IsCommand words command → read_of words ≡ Ok command
 read-command words command is =
     let kind = is.kind in
     let all = words_of kind is.front is.given in
     ap read_of is.form.whole
     ∙ ap (read_kind all) (command_kind_of-word kind is.form.known)
     ∙ ap (finish kind all) (command-walks kind is.front is.given words is.form)
-    ∙ ap (λ b. cond b (ok_or (command_in kind (answers_in kind all)) (length all + 1)) (Err (length all + 1))) (has_needed-command kind is.front is.given words is.form)
-    ∙ ap (λ o. ok_or o (length all + 1)) (ap (λ ws. command_in kind (answers_in kind ws)) (sym is.form.whole) ∙ is.says)
+    ∙ ap (λ b. cond b (Ok (asked_in kind all)) (Err (length all + 1))) (has_needed-command kind is.front is.given words is.form)
+    ∙ ap Ok (ap (asked_in kind) (sym is.form.whole) ∙ is.says)
 
 -- words of a command's form are a command
 record SomeCommand (words : List (List ℕ)) : Type 0 where
-  command : PlainCommand
+  command : PlainAsked
   is : IsCommand words command
 
 of_form : (kind : CommandKind) (front : List (List (List ℕ))) (given : List Given) (words : List (List ℕ)) → IsCommandOf kind front given words → SomeCommand words
 of_form kind front given words form =
-    let said = words-say kind front given words form in
-    record { command = said.value; is = record { kind = kind; front = front; given = given; form = form; says = said.is } }
+    record { command = asked_in kind words; is = record { kind = kind; front = front; given = given; form = form; says = refl } }
 
 -- words that the walk accepts whole, with each option that is needed, are a command
 accepted : (kind : CommandKind) → Contains kinds kind → (rest : List (List ℕ)) → walk kind rest (places_of kind) [] (word_of kind ∷ []) ≡ Ok []
@@ -58,28 +56,23 @@ accepted kind known rest walked has =
     })
 
 -- what was read of the words of a kind
-kind-read : (words : List (List ℕ)) (o : Option CommandKind) (command : PlainCommand) → read_kind words o ≡ Ok command
+kind-read : (words : List (List ℕ)) (o : Option CommandKind) (command : PlainAsked) → read_kind words o ≡ Ok command
     → (kind : CommandKind) × (o ≡ Some kind) × (finish kind words (walk kind (drop 1 words) (places_of kind) [] (take 1 words)) ≡ Ok command)
 kind-read words None command e = (let no : ⊥ = cc in absurd no)
 kind-read words (Some kind) command e = (kind, refl, e)
 
-said : (o : Option PlainCommand) (number : ℕ) (command : PlainCommand) → ok_or o number ≡ Ok command → o ≡ Some command
-said None number command e = (let no : ⊥ = cc in absurd no)
-said (Some other) number command e = cc
+all-said : (b : Bool) (asked : PlainAsked) (number : ℕ) (command : PlainAsked) → cond b (Ok asked) (Err number) ≡ Ok command → b ≡ true
+all-said true asked number command e = refl
+all-said false asked number command e = (let no : ⊥ = cc in absurd no)
 
-all-said : (b : Bool) (o : Option PlainCommand) (number : ℕ) (command : PlainCommand) → cond b (ok_or o number) (Err number) ≡ Ok command
-    → (b ≡ true) × (o ≡ Some command)
-all-said true o number command e = (refl, said o number command e)
-all-said false o number command e = (let no : ⊥ = cc in absurd no)
-
-finish-read : (kind : CommandKind) (words : List (List ℕ)) (r : Result (List Place) ℕ) (command : PlainCommand) → finish kind words r ≡ Ok command
-    → (r ≡ Ok []) × (has_needed kind words ≡ true) × (command_in kind (answers_in kind words) ≡ Some command)
+finish-read : (kind : CommandKind) (words : List (List ℕ)) (r : Result (List Place) ℕ) (command : PlainAsked) → finish kind words r ≡ Ok command
+    → (r ≡ Ok []) × (has_needed kind words ≡ true)
 finish-read kind words (Err number) command e = (let no : ⊥ = cc in absurd no)
-finish-read kind words (Ok []) command e = (let both = all-said (has_needed kind words) (command_in kind (answers_in kind words)) (length words + 1) command e in (refl, both.0, both.1))
+finish-read kind words (Ok []) command e = (refl, all-said (has_needed kind words) (asked_in kind words) (length words + 1) command e)
 finish-read kind words (Ok (place ∷ places)) command e = (let no : ⊥ = cc in absurd no)
 
 -- what is read is the command
-pub read-accepts : (words : List (List ℕ)) (command : PlainCommand) → read_of words ≡ Ok command → IsCommand words command
+pub read-accepts : (words : List (List ℕ)) (command : PlainAsked) → read_of words ≡ Ok command → IsCommand words command
 read-accepts [] command e = (let no : ⊥ = cc in absurd no)
 read-accepts (word ∷ rest) command e =
     let o = kind-read (word ∷ rest) (command_kind_of word) command e in
@@ -94,15 +87,15 @@ read-accepts (word ∷ rest) command e =
     subst (IsCommand (word ∷ rest)) same some.is
 
 -- what is refused is no command
-pub read-none : (words : List (List ℕ)) (number : ℕ) → read_of words ≡ Err number → (command : PlainCommand) → ¬ IsCommand words command
+pub read-none : (words : List (List ℕ)) (number : ℕ) → read_of words ≡ Err number → (command : PlainAsked) → ¬ IsCommand words command
 read-none words number e command is = (let both : Ok command ≡ Err number = sym (read-command words command is) ∙ e in let no : ⊥ = cc in no)
 
 -- the front of a beginning is a beginning
 pub IsBeginning-front : (front back : List (List ℕ)) → IsBeginning (front ++ back) → IsBeginning front
 IsBeginning-front front back is = record {
   more = back ++ is.more;
-  command = is.command;
-  whole = subst (λ ws. IsCommand ws is.command) (append_assoc front back is.more) is.whole;
+  asked = is.asked;
+  whole = subst (λ ws. IsCommand ws is.asked) (append_assoc front back is.more) is.whole;
 }
 
 pub IsBeginning-take : (n : ℕ) (words : List (List ℕ)) → IsBeginning words → IsBeginning (take n words)
@@ -111,14 +104,14 @@ IsBeginning-take n words is = IsBeginning-front (take n words) (drop n words) (s
 extends-begins : (kind : CommandKind) (words : List (List ℕ)) → Extends kind words → IsBeginning words
 extends-begins kind words extended =
     let some = of_form kind extended.front extended.given (words ++ extended.more) extended.form in
-    record { more = extended.more; command = some.command; whole = some.is }
+    record { more = extended.more; asked = some.command; whole = some.is }
 
 walk-begins : (kind : CommandKind) → Contains kinds kind → (words : List (List ℕ)) (later : List Place)
     → walk kind words (places_of kind) [] (word_of kind ∷ []) ≡ Ok later → IsBeginning (word_of kind ∷ words)
 walk-begins kind known words later e = extends-begins kind (word_of kind ∷ words) (walk-extends kind known words later e)
 
 IsBeginning-none : IsBeginning []
-IsBeginning-none = IsBeginning-front [] (word_of Show ∷ []) (walk-begins Show (0, lit< tt, refl) [] (places_of Show) refl)
+IsBeginning-none = IsBeginning-front [] (word_of Run ∷ []) (walk-begins Run (0, lit< tt, refl) [] (places_of Run) refl)
 
 -- a beginning has a known command's first word, and the walk accepts the others
 record BeginsAs (word : List ℕ) (rest : List (List ℕ)) : Type 0 where
@@ -141,7 +134,7 @@ begins-walks word rest is =
     record { kind = kind; known = form.known; first = same; later = walks.0; walked = walks.1 }
 
 -- the first word is that of no command
-refused-first : (words : List (List ℕ)) → ((command : PlainCommand) → ¬ IsCommand words command) → (1 ≤ length words → ¬ IsBeginning (take 1 words))
+refused-first : (words : List (List ℕ)) → ((command : PlainAsked) → ¬ IsCommand words command) → (1 ≤ length words → ¬ IsBeginning (take 1 words))
     → IsRefusedAt words 1
 refused-first words none no_word = record {
   counted = omega arith;
@@ -159,7 +152,7 @@ no_kind word e is =
 
 -- the walk stops at the word
 refused-within : (kind : CommandKind) → Contains kinds kind → (rest : List (List ℕ)) (number : ℕ)
-    → ((command : PlainCommand) → ¬ IsCommand (word_of kind ∷ rest) command)
+    → ((command : PlainAsked) → ¬ IsCommand (word_of kind ∷ rest) command)
     → walk kind rest (places_of kind) [] (word_of kind ∷ []) ≡ Err number → IsRefusedAt (word_of kind ∷ rest) number
 refused-within kind known rest number none e =
     let stop = walk-stops kind rest (places_of kind) [] (word_of kind ∷ []) number e in
@@ -187,7 +180,7 @@ refused-within kind known rest number none e =
         let no : ⊥ = cc in no
 
 -- the walk accepts the words, and they are no command
-refused-after : (words : List (List ℕ)) → ((command : PlainCommand) → ¬ IsCommand words command) → IsBeginning words → IsRefusedAt words (length words + 1)
+refused-after : (words : List (List ℕ)) → ((command : PlainAsked) → ¬ IsCommand words command) → IsBeginning words → IsRefusedAt words (length words + 1)
 refused-after words none is = record {
   counted = omega arith;
   no_further = omega arith;
@@ -203,15 +196,14 @@ kind-refused : (words : List (List ℕ)) (o : Option CommandKind) (number : ℕ)
 kind-refused words None number e = inl (refl, cc)
 kind-refused words (Some kind) number e = inr (kind, refl, e)
 
-last-refused : (b : Bool) (o : Option PlainCommand) (last number : ℕ) → cond b (ok_or o last) (Err last) ≡ Err number → last ≡ number
-last-refused true None last number e = cc
-last-refused true (Some command) last number e = (let no : ⊥ = cc in absurd no)
-last-refused false o last number e = cc
+last-refused : (b : Bool) (asked : PlainAsked) (last number : ℕ) → cond b (Ok asked) (Err last) ≡ Err number → last ≡ number
+last-refused true asked last number e = (let no : ⊥ = cc in absurd no)
+last-refused false asked last number e = cc
 
 finish-refused : (kind : CommandKind) (words : List (List ℕ)) (r : Result (List Place) ℕ) (number : ℕ) → finish kind words r ≡ Err number
     → (r ≡ Err number) ⊎ ((due : List Place) × (r ≡ Ok due) × (length words + 1 ≡ number))
 finish-refused kind words (Err other) number e = (let same : other ≡ number = cc in inl (ap Err same))
-finish-refused kind words (Ok due) number e = inr (due, refl, last-refused (is_finished kind due words) (command_in kind (answers_in kind words)) (length words + 1) number e)
+finish-refused kind words (Ok due) number e = inr (due, refl, last-refused (is_finished kind due words) (asked_in kind words) (length words + 1) number e)
 
 -- the number that is read is that of the refused word
 pub read-refuses : (words : List (List ℕ)) (number : ℕ) → read_of words ≡ Err number → IsRefusedAt words number
@@ -224,31 +216,31 @@ read-refuses (word ∷ rest) number e =
       | inr some ↦ of_kind some.0 (command_kind_of-known word some.0 some.1) (command_kind_of-found word some.0 some.1) (read-none (word ∷ rest) number e) some.2
     ]
   where
-    of_kind : (kind : CommandKind) → Contains kinds kind → word ≡ word_of kind → ((command : PlainCommand) → ¬ IsCommand (word ∷ rest) command)
+    of_kind : (kind : CommandKind) → Contains kinds kind → word ≡ word_of kind → ((command : PlainAsked) → ¬ IsCommand (word ∷ rest) command)
         → finish kind (word ∷ rest) (walk kind rest (places_of kind) [] (word ∷ [])) ≡ Err number → IsRefusedAt (word ∷ rest) number
     of_kind kind known here none f =
         subst (λ w. IsRefusedAt (w ∷ rest) number) (sym here)
         (elim (finish-refused kind (word ∷ rest) (walk kind rest (places_of kind) [] (word ∷ [])) number f) [
           | inl stopped ↦
-              refused-within kind known rest number (subst (λ w. (command : PlainCommand) → ¬ IsCommand (w ∷ rest) command) here none)
+              refused-within kind known rest number (subst (λ w. (command : PlainAsked) → ¬ IsCommand (w ∷ rest) command) here none)
               (subst (λ w. walk kind rest (places_of kind) [] (w ∷ []) ≡ Err number) here stopped)
           | inr walked ↦ subst (IsRefusedAt (word_of kind ∷ rest)) walked.2
-              (refused-after (word_of kind ∷ rest) (subst (λ w. (command : PlainCommand) → ¬ IsCommand (w ∷ rest) command) here none)
+              (refused-after (word_of kind ∷ rest) (subst (λ w. (command : PlainAsked) → ¬ IsCommand (w ∷ rest) command) here none)
               (walk-begins kind known rest walked.0 (subst (λ w. walk kind rest (places_of kind) [] (w ∷ []) ≡ Ok walked.0) here walked.1)))
         ])
 
 -- what the reader's answer says
-pub result-command : (words : List (List ℕ)) (result : Result Command Refused) → plain_result result ≡ read_of words
+pub result-command : (words : List (List ℕ)) (result : Result Asked Refused) → plain_result result ≡ read_of words
     → IfOk result (λ command. IsCommand words (plain command))
 result-command words (Ok command) e = read-accepts words (plain command) (sym e)
 result-command words (Err refused) e = tt
 
-pub result-refused : (words : List (List ℕ)) (result : Result Command Refused) → plain_result result ≡ read_of words
+pub result-refused : (words : List (List ℕ)) (result : Result Asked Refused) → plain_result result ≡ read_of words
     → IfErr result (λ refused. IsRefusedAt words refused.word)
 result-refused words (Ok command) e = tt
 result-refused words (Err refused) e = read-refuses words refused.word (sym e)
 
-pub result-none : (words : List (List ℕ)) (result : Result Command Refused) → plain_result result ≡ read_of words
-    → IfErr result (λ _. (command : PlainCommand) → ¬ IsCommand words command)
+pub result-none : (words : List (List ℕ)) (result : Result Asked Refused) → plain_result result ≡ read_of words
+    → IfErr result (λ _. (command : PlainAsked) → ¬ IsCommand words command)
 result-none words (Ok command) e = tt
 result-none words (Err refused) e = read-none words refused.word (sym e)

@@ -1,6 +1,6 @@
 -- What holds of each command, each option and each list of the tables. Each fact computes over the whole table, so that a new row needs no line here.
 use denote.Enum.Bare.{sameb, same_true}
-use Rattle.std.proofs.Common.{◌≡◌, ◌≢◌, ℕ, Bool, true, false, not, ◌&&◌, ◌||◌, List, [], ◌∷◌, ◌++◌, Some, find, is_some, codes, cond, bytes_eq, refl, sym, ap, ◌∙◌, ◌⊎◌, inl, inr}
+use Rattle.std.proofs.Common.{nat_le, ◌≡◌, ◌≢◌, ℕ, Bool, true, false, not, ◌&&◌, ◌||◌, List, [], ◌∷◌, ◌++◌, Some, find, is_some, codes, cond, bytes_eq, refl, sym, ap, ◌∙◌, ◌⊎◌, inl, inr}
 use Rattle.std.specs.List.{Contains, flat_map, list_all}
 use Rattle.std.proofs.lemmas.Bool.{not-true, false≢true, false_from_ne_true, or_cases}
 use Rattle.std.proofs.lemmas.Slice.Eq.{bytes_eq-Decides}
@@ -8,6 +8,7 @@ use Rattle.ant_base.specs.Number.{decimal_value}
 use Rattle.command_words.specs.contracts.limits.NumberKind as number
 use Rattle.command_words.specs.contracts.table.Choice as option
 use Rattle.command_words.specs.contracts.table.CommandKind as command
+use Rattle.command_words.specs.contracts.table.NameList as list_of
 use Rattle.command_words.specs.declared.limits.NumberKind.{NumberKind}
 use Rattle.command_words.specs.declared.table.NameList.{NameList}
 use Rattle.command_words.specs.declared.table.NameList.TheVariants.{Worlds, Brains}
@@ -17,9 +18,9 @@ use Rattle.command_words.specs.declared.slot.Place.{Place}
 use Rattle.command_words.specs.declared.slot.Place.TheVariants.{Word, Names}
 use Rattle.command_words.specs.declared.table.CommandKind.{CommandKind}
 use Rattle.command_words.specs.declared.table.Choice.{Choice}
-use Rattle.command_words.specs.Limits.{number_in}
+use Rattle.command_words.specs.Limits.{least_of, most_of, number_in}
 use Rattle.command_words.specs.Slots.{fits, is_file_name, is_dumps, dumps_of}
-use Rattle.command_words.specs.Table.{kinds, word_of, places_of, choices_of, option_of, values_of, keyword_of}
+use Rattle.command_words.specs.Table.{kinds, word_of, places_of, choices_of, default_of, option_of, values_of, keyword_of}
 use Rattle.command_words.specs.Inner.Walk.{command_kind_of, choice_of}
 use Rattle.list_lemmas.proofs.Elements.{Contains-none, Contains-cases}
 use Rattle.command_words.proofs.EveryValue.{each-passes}
@@ -47,10 +48,10 @@ abbrev choices : List Choice
 choices = flat_map choices_of kinds
 
 -- what all options pass, and all commands
-each_option : (p : Choice → Bool) → list_all p choices ≡ true → (choice : Choice) → p choice ≡ true
+pub each_option : (p : Choice → Bool) → list_all p choices ≡ true → (choice : Choice) → p choice ≡ true
 each_option p passes choice = each-passes option.the_type tt choices refl p passes choice
 
-each_command : (p : CommandKind → Bool) → list_all p kinds ≡ true → (kind : CommandKind) → p kind ≡ true
+pub each_command : (p : CommandKind → Bool) → list_all p kinds ≡ true → (kind : CommandKind) → p kind ≡ true
 each_command p passes kind = each-passes command.the_type tt kinds refl p passes kind
 
 -- two that are one, or have two words
@@ -233,3 +234,74 @@ choice_of-known kind word choice e = find-Contains (λ choice. bytes_eq (option_
 pub choice_of-option : (kind : CommandKind) (choice : Choice) → Contains (choices_of kind) choice → choice_of kind (option_of choice) ≡ Some choice
 unfolding choice_of
 choice_of-option kind choice has = find-word option_of same_option (choices_of kind) choice has
+
+-- the least number of a kind is within its limits
+pub least-most : (kind : NumberKind) → nat_le (least_of kind) (most_of kind) ≡ true
+least-most kind = each-passes number.the_type tt numbers refl (λ kind. nat_le (least_of kind) (most_of kind)) refl kind
+
+-- what holds without an option is within the limits of its number
+abbrev pub default_fits : List Place → ℕ → Bool
+default_fits (Word (Number kind) ∷ []) default = nat_le (least_of kind) default && nat_le default (most_of kind)
+default_fits places default = true
+
+pub default-fits : (choice : Choice) → default_fits (values_of choice) (default_of choice) ≡ true
+default-fits choice = each_option (λ choice. default_fits (values_of choice) (default_of choice)) refl choice
+
+-- whether a list's names have a place
+abbrev pub has_names : NameList → List Place → Bool
+has_names list [] = false
+has_names list (Word slot ∷ places) = has_names list places
+has_names list (Names other ∷ places) = sameb list_of.the_type other list || has_names list places
+
+-- whether its names stand first, and then a list's word or no place
+abbrev pub begins_with : NameList → List Place → Bool
+begins_with list [] = false
+begins_with list (Word slot ∷ places) = false
+begins_with list (Names other ∷ places) = sameb list_of.the_type other list && stops places
+
+-- whether its names stand behind the first place of its word
+abbrev pub follows : NameList → List Place → Bool
+follows list [] = false
+follows list (Names other ∷ places) = follows list places
+follows list (Word FileName ∷ places) = follows list places
+follows list (Word (Number kind) ∷ places) = follows list places
+follows list (Word Dumps ∷ places) = follows list places
+follows list (Word (Keyword other) ∷ places) = cond (sameb list_of.the_type other list) (begins_with list places) (follows list places)
+
+-- the names of each list that a command has stand behind its word
+pub names-follow : (list : NameList) (kind : CommandKind) → (not (has_names list (places_of kind)) || follows list (places_of kind)) ≡ true
+names-follow Worlds kind = each_command (λ kind. not (has_names Worlds (places_of kind)) || follows Worlds (places_of kind)) refl kind
+names-follow Brains kind = each_command (λ kind. not (has_names Brains (places_of kind)) || follows Brains (places_of kind)) refl kind
+
+-- a list is that of its word
+pub same_list : (a b : NameList) → sameb list_of.the_type a b ≡ true → a ≡ b
+same_list a b e = same_true list_of.the_type tt a b e
+
+pub same_list-self : (a : NameList) → sameb list_of.the_type a a ≡ true
+same_list-self Worlds = refl
+same_list-self Brains = refl
+
+pub keywords-apart : (a b : NameList) → sameb list_of.the_type a b ≡ false → bytes_eq (keyword_of a) (keyword_of b) ≡ false
+keywords-apart Worlds Brains e = refl
+keywords-apart Brains Worlds e = refl
+keywords-apart Worlds Worlds e = absurd (false≢true (sym e))
+keywords-apart Brains Brains e = absurd (false≢true (sym e))
+
+-- behind names, or from here on, no place is one of a file or a number
+abbrev pub none_is_read : List Place → Bool
+none_is_read [] = true
+none_is_read (Word slot ∷ places) = is_keyword slot && none_is_read places
+none_is_read (Names list ∷ places) = none_is_read places
+
+-- each place that is read by its number stands before all names
+abbrev pub indexed : List Place → Bool
+indexed [] = true
+indexed (Word slot ∷ places) = indexed places
+indexed (Names list ∷ places) = none_is_read places
+
+pub places-indexed : (kind : CommandKind) → indexed (places_of kind) ≡ true
+places-indexed kind = each_command (λ kind. indexed (places_of kind)) refl kind
+
+-- what holds without an option is 32 bits long
+pub default-small : (choice : Choice) → nat_le (default_of choice) 4294967295 ≡ true
+default-small choice = each_option (λ choice. nat_le (default_of choice) 4294967295) refl choice

@@ -1,12 +1,12 @@
 -- What holds of all words.
-use Rattle.std.proofs.Common.{◌≡◌, ℕ, ◌+◌, ◌<◌, List, [], length, Some, Result, Ok, Err, sym, ap, ◌∙◌, subst, ◌⊎◌, inl, inr, refl, arith}
+use Rattle.std.proofs.Common.{◌≡◌, ℕ, ◌+◌, ◌<◌, List, [], length, Result, Ok, Err, sym, ap, ◌∙◌, subst, ◌⊎◌, inl, inr, refl, arith}
 use Rattle.std.proofs.lemmas.Bool.{cases_order}
 use Rattle.std.proofs.lemmas.List.{append-nil}
-use Rattle.command_words.specs.Command.{CommandWithin, IsBeginning, IsCommand, IsRefusedAt, PlainCommand, answers_in, command_in}
+use Rattle.command_words.specs.Command.{AskedWithin, IsBeginning, IsCommand, IsRefusedAt, PlainAsked, asked_in, asked_of}
 use Rattle.command_words.specs.Inner.Walk.{read_of}
 use Rattle.command_words.specs.Laws.{AnyOrder, FrontBegins, NeverBoth, OneCommand, OneOfBoth, OneRefusedWord, WithinLimits}
 use Rattle.command_words.proofs.AnswersLemmas.{answers-same, answers_in-of}
-use Rattle.command_words.proofs.CommandLemmas.{words-say}
+use Rattle.command_words.proofs.WithinLemmas.{asked-within}
 use Rattle.command_words.proofs.ReadLemmas.{read-command, read-accepts, read-refuses, IsBeginning-front, IsBeginning-take}
 
 pub one_command : OneCommand
@@ -25,8 +25,8 @@ one_refused_word words a b at_a at_b =
       | inr other ↦ elim other [ inl less ↦ absurd (not_earlier words a b at_a at_b less) | inr more ↦ absurd (not_earlier words b a at_b at_a more) ]
     ]
 
-command-begins : (words : List (List ℕ)) (command : PlainCommand) → IsCommand words command → IsBeginning words
-command-begins words command is = record { more = []; command = command; whole = subst (λ ws. IsCommand ws command) (sym (append-nil words)) is }
+command-begins : (words : List (List ℕ)) (command : PlainAsked) → IsCommand words command → IsBeginning words
+command-begins words command is = record { more = []; asked = command; whole = subst (λ ws. IsCommand ws command) (sym (append-nil words)) is }
 
 pub never_both : NeverBoth
 never_both words command word is at =
@@ -40,7 +40,7 @@ never_both words command word is at =
 
 pub one_of_both : OneOfBoth
 one_of_both words = go (read_of words) refl where
-  go : (r : Result PlainCommand ℕ) → read_of words ≡ r → ((command : PlainCommand) × IsCommand words command) ⊎ ((word : ℕ) × IsRefusedAt words word)
+  go : (r : Result PlainAsked ℕ) → read_of words ≡ r → ((command : PlainAsked) × IsCommand words command) ⊎ ((word : ℕ) × IsRefusedAt words word)
   go (Ok command) e = inl (command, read-accepts words command e)
   go (Err word) e = inr (word, read-refuses words word e)
 
@@ -57,15 +57,9 @@ any_order words more command is others form to from =
       front = is.front;
       given = others;
       form = form;
-      says = ap (λ ws. command_in is.kind (answers_in is.kind ws)) form.whole
-          ∙ ap (command_in is.kind) (there ∙ same ∙ sym here)
-          ∙ ap (λ ws. command_in is.kind (answers_in is.kind ws)) (sym is.form.whole)
-          ∙ is.says;
+      says = ap (asked_in is.kind) form.whole ∙ ap (asked_of is.kind) (there ∙ same ∙ sym here) ∙ ap (asked_in is.kind) (sym is.form.whole) ∙ is.says;
     }
 
 pub within_limits : WithinLimits
 within_limits words command is =
-    let said = words-say is.kind is.front is.given words is.form in
-    let both : Some said.value ≡ Some command = sym said.is ∙ is.says in
-    let same : said.value ≡ command = cc in
-    subst CommandWithin same said.holds
+    subst AskedWithin is.says (asked-within is.kind is.front is.given words is.form)

@@ -1,66 +1,83 @@
 -- Words that are a command, and words that are refused, each at its word.
-use Rattle.std.proofs.Common.{ℕ, Bool, true, false, List, [], ◌∷◌, codes, ◌==◌, refl}
+use Rattle.std.proofs.Common.{◌≡◌, ℕ, Bool, true, false, List, [], ◌∷◌, Ok, codes, ◌==◌, refl}
 use Rattle.std.specs.List.{slice_split}
 use Rattle.ant_base.specs.Number.{decimal_value}
-use Rattle.command_words.specs.declared.command.GenShape.{GenShape}
+use Rattle.command_words.specs.declared.table.CommandKind.{CommandKind}
+use Rattle.command_words.specs.declared.table.CommandKind.TheVariants.{Show, Brain, Minimise, Run, Gen, Cup, View, Workload, Help, HelpWord, Version, Asm, Save, Resume, Trace, Same}
+use Rattle.command_words.specs.declared.table.Choice.{Choice}
+use Rattle.command_words.specs.declared.table.Choice.TheVariants.{Seed, Rounds, Workers, Window, Surround, Corpse, Rest, Stats, Far, Width, Height, Rocks, Blobs, From, Labels, States, Games}
+use Rattle.command_words.specs.declared.table.NameList.{NameList}
+use Rattle.command_words.specs.declared.table.NameList.TheVariants.{Worlds, Brains}
 use Rattle.command_words.specs.Slots.{is_file_name, is_dumps, dumps_of, DumpChoice}
 use Rattle.command_words.specs.Slots.DumpChoice.{NoDump, EveryDump, ChosenDumps}
-use Rattle.command_words.specs.Command.{ResumeSetup, RunSetup, IsCommand, IsRefusedAt, is_among, rest_after, TraceSetup}
+use Rattle.command_words.specs.Command.{IsCommand, IsRefusedAt, PlainAsked, asked_in, is_among, rest_after}
 use Rattle.command_words.specs.Far.{words_without_far}
-use Rattle.command_words.specs.Command.PlainCommand.{ShowCommand, BrainCommand, MinimiseCommand, RunCommand, GenCommand, CupCommand, ViewCommand, WorkloadCommand, HelpCommand, VersionCommand, AsmCommand, SaveCommand, ResumeCommand, TraceCommand, SameCommand}
-use Rattle.command_words.specs.Inner.Walk.{command_kind_of, choice_of}
+use Rattle.command_words.specs.Inner.Walk.{command_kind_of, choice_of, read_of}
 use Rattle.command_words.proofs.ReadLemmas.{read-accepts, read-refuses}
 
 -- the words of a line with one space between each two
 abbrev pub words_of : List ℕ → List (List ℕ)
 words_of line = slice_split (λ byte. byte == 32) line
 
--- the numbers of a game, in the order of its record
-abbrev game : ℕ → ℕ → DumpChoice → ℕ → ℕ → ℕ → ℕ → ℕ → Bool → RunSetup
-game seed rounds dumps workers window surround corpse rest stats = record {
-  seed = seed;
-  rounds = rounds;
-  dumps = dumps;
-  workers = workers;
-  window = window;
-  surround = surround;
-  corpse = corpse;
-  rest = rest;
-  stats = stats;
-  far = false;
-}
+-- what is asked for: the name of a file at a place, a number at a place, the names of a list, the number of an option, the dumps, and whether an option is given
+pub data Answer : Type 0 where
+  AtFile : ℕ → List ℕ → Answer
+  AtNumber : ℕ → ℕ → Answer
+  NamesAre : NameList → List (List ℕ) → Answer
+  OptionIs : Choice → ℕ → Answer
+  DumpsAre : DumpChoice → Answer
+  IsGivenAs : Choice → Bool → Answer
 
--- the numbers of a game whose ant is followed
-abbrev way : ℕ → ℕ → ℕ → ℕ → ℕ → ℕ → TraceSetup
-way seed rounds from surround corpse rest = record { seed = seed; rounds = rounds; from = from; surround = surround; corpse = corpse; rest = rest }
+abbrev pub Holds : PlainAsked → Answer → Type 0
+Holds asked (AtFile place name) = asked.file place ≡ name
+Holds asked (AtNumber place number) = asked.number place ≡ number
+Holds asked (NamesAre list names) = asked.names list ≡ names
+Holds asked (OptionIs choice number) = asked.option choice ≡ number
+Holds asked (DumpsAre dumps) = asked.dumps ≡ dumps
+Holds asked (IsGivenAs choice is) = asked.has choice ≡ is
 
-abbrev shape_of : ℕ → ℕ → ℕ → ℕ → GenShape
-shape_of width height rocks blobs = record { width = width; height = height; rocks = rocks; blobs = blobs }
+abbrev pub AllHold : PlainAsked → List Answer → Type 0
+AllHold asked [] = Unit {0}
+AllHold asked (answer ∷ answers) = Holds asked answer × AllHold asked answers
+
+-- the words of a line are a command of this kind, which asks for this
+pub record Says (kind : CommandKind) (line : List ℕ) (answers : List Answer) : Type 0 where
+  pub is : IsCommand (words_of line) (asked_in kind (words_of line))
+  pub holds : AllHold (asked_in kind (words_of line)) answers
+
+pub says : (kind : CommandKind) (line : List ℕ) (answers : List Answer) → read_of (words_of line) ≡ Ok (asked_in kind (words_of line))
+    → AllHold (asked_in kind (words_of line)) answers → Says kind line answers
+says kind line answers read holds = record { is = read-accepts (words_of line) (asked_in kind (words_of line)) read; holds = holds }
 
 -- the greatest seed, and `-` as a file name
-pub greatest_seed : IsCommand (words_of (codes "show - 4294967295")) (ShowCommand (codes "-") 4294967295)
+pub greatest_seed : Says Show (codes "show - 4294967295")
+    (AtFile 0 (codes "-") ∷ AtNumber 1 4294967295 ∷ [])
 unfolding command_kind_of choice_of is_among rest_after is_file_name is_dumps dumps_of decimal_value
-greatest_seed = read-accepts (words_of (codes "show - 4294967295")) (ShowCommand (codes "-") 4294967295) refl
+greatest_seed = says _ _ _ refl (refl, (refl, tt))
 
 -- a name that begins with one `-`
-pub brain_command : IsCommand (words_of (codes "brain -b")) (BrainCommand (codes "-b"))
+pub brain_command : Says Brain (codes "brain -b")
+    (AtFile 0 (codes "-b") ∷ [])
 unfolding command_kind_of choice_of is_among rest_after is_file_name is_dumps dumps_of decimal_value
-brain_command = read-accepts (words_of (codes "brain -b")) (BrainCommand (codes "-b")) refl
+brain_command = says _ _ _ refl (refl, tt)
 
 -- `minimise`
-pub minimise_command : IsCommand (words_of (codes "minimise b")) (MinimiseCommand (codes "b") false)
+pub minimise_command : Says Minimise (codes "minimise b")
+    (AtFile 0 (codes "b") ∷ IsGivenAs States false ∷ [])
 unfolding command_kind_of choice_of is_among rest_after is_file_name is_dumps dumps_of decimal_value
-minimise_command = read-accepts (words_of (codes "minimise b")) (MinimiseCommand (codes "b") false) refl
+minimise_command = says _ _ _ refl (refl, (refl, tt))
 
 -- `asm`
-pub asm_command : IsCommand (words_of (codes "asm p")) (AsmCommand (codes "p") false)
+pub asm_command : Says Asm (codes "asm p")
+    (AtFile 0 (codes "p") ∷ IsGivenAs Labels false ∷ [])
 unfolding command_kind_of choice_of is_among rest_after is_file_name is_dumps dumps_of decimal_value
-asm_command = read-accepts (words_of (codes "asm p")) (AsmCommand (codes "p") false) refl
+asm_command = says _ _ _ refl (refl, (refl, tt))
 
 -- the new numbers of its states
-pub minimise_states : IsCommand (words_of (codes "minimise b --states")) (MinimiseCommand (codes "b") true)
+pub minimise_states : Says Minimise (codes "minimise b --states")
+    (AtFile 0 (codes "b") ∷ IsGivenAs States true ∷ [])
 unfolding command_kind_of choice_of is_among rest_after is_file_name is_dumps dumps_of decimal_value
-minimise_states = read-accepts (words_of (codes "minimise b --states")) (MinimiseCommand (codes "b") true) refl
+minimise_states = says _ _ _ refl (refl, (refl, tt))
 
 -- `--states` takes no word
 pub states_with_a_value : IsRefusedAt (words_of (codes "minimise b --states 1")) 4
@@ -68,9 +85,10 @@ unfolding command_kind_of choice_of is_among rest_after is_file_name is_dumps du
 states_with_a_value = read-refuses (words_of (codes "minimise b --states 1")) 4 refl
 
 -- what its labels lead to
-pub asm_labels : IsCommand (words_of (codes "asm p --labels")) (AsmCommand (codes "p") true)
+pub asm_labels : Says Asm (codes "asm p --labels")
+    (AtFile 0 (codes "p") ∷ IsGivenAs Labels true ∷ [])
 unfolding command_kind_of choice_of is_among rest_after is_file_name is_dumps dumps_of decimal_value
-asm_labels = read-accepts (words_of (codes "asm p --labels")) (AsmCommand (codes "p") true) refl
+asm_labels = says _ _ _ refl (refl, (refl, tt))
 
 -- `--labels` stands twice
 pub labels_given_twice : IsRefusedAt (words_of (codes "asm p --labels --labels")) 4
@@ -83,66 +101,64 @@ unfolding command_kind_of choice_of is_among rest_after is_file_name is_dumps du
 labels_before_the_file = read-refuses (words_of (codes "asm --labels p")) 2 refl
 
 -- without its free options a game has no dump, one worker, a whole round a window, the contest's rules and no stats
-pub run_defaults : IsCommand (words_of (codes "run w r b --seed 1 --rounds 1000000"))
-    (RunCommand (codes "w") (codes "r") (codes "b") (game 1 1000000 NoDump 1 16384 5 3 14 false))
+pub run_defaults : Says Run (codes "run w r b --seed 1 --rounds 1000000")
+    (AtFile 0 (codes "w") ∷ AtFile 1 (codes "r") ∷ AtFile 2 (codes "b") ∷ OptionIs Seed 1 ∷ OptionIs Rounds 1000000 ∷ DumpsAre NoDump ∷ OptionIs Workers 1 ∷ OptionIs Window 16384 ∷ OptionIs Surround 5 ∷ OptionIs Corpse 3 ∷ OptionIs Rest 14 ∷ IsGivenAs Stats false ∷ IsGivenAs Far false ∷ [])
 unfolding command_kind_of choice_of is_among rest_after is_file_name is_dumps dumps_of decimal_value
-run_defaults = read-accepts (words_of (codes "run w r b --seed 1 --rounds 1000000"))
-    (RunCommand (codes "w") (codes "r") (codes "b") (game 1 1000000 NoDump 1 16384 5 3 14 false)) refl
+run_defaults = says _ _ _ refl (refl, (refl, (refl, (refl, (refl, (refl, (refl, (refl, (refl, (refl, (refl, (refl, (refl, tt)))))))))))))
 
 -- each option of `run`, at its greatest number
-pub run_all_greatest : IsCommand (words_of (codes "run w r b --stats --rest 255 --corpse 9 --surround 6 --window 16384 --workers 16 --dump all --rounds 0 --seed 0"))
-    (RunCommand (codes "w") (codes "r") (codes "b") (game 0 0 EveryDump 16 16384 6 9 255 true))
+pub run_all_greatest : Says Run (codes "run w r b --stats --rest 255 --corpse 9 --surround 6 --window 16384 --workers 16 --dump all --rounds 0 --seed 0")
+    (AtFile 0 (codes "w") ∷ AtFile 1 (codes "r") ∷ AtFile 2 (codes "b") ∷ OptionIs Seed 0 ∷ OptionIs Rounds 0 ∷ DumpsAre EveryDump ∷ OptionIs Workers 16 ∷ OptionIs Window 16384 ∷ OptionIs Surround 6 ∷ OptionIs Corpse 9 ∷ OptionIs Rest 255 ∷ IsGivenAs Stats true ∷ IsGivenAs Far false ∷ [])
 unfolding command_kind_of choice_of is_among rest_after is_file_name is_dumps dumps_of decimal_value
-run_all_greatest = read-accepts (words_of (codes "run w r b --stats --rest 255 --corpse 9 --surround 6 --window 16384 --workers 16 --dump all --rounds 0 --seed 0"))
-    (RunCommand (codes "w") (codes "r") (codes "b") (game 0 0 EveryDump 16 16384 6 9 255 true)) refl
+run_all_greatest = says _ _ _ refl (refl, (refl, (refl, (refl, (refl, (refl, (refl, (refl, (refl, (refl, (refl, (refl, (refl, tt)))))))))))))
 
 -- each number of `run` at its least
-pub run_all_least : IsCommand (words_of (codes "run w r b --seed 2 --rounds 3 --dump none --workers 1 --window 1 --surround 4 --corpse 0 --rest 0"))
-    (RunCommand (codes "w") (codes "r") (codes "b") (game 2 3 NoDump 1 1 4 0 0 false))
+pub run_all_least : Says Run (codes "run w r b --seed 2 --rounds 3 --dump none --workers 1 --window 1 --surround 4 --corpse 0 --rest 0")
+    (AtFile 0 (codes "w") ∷ AtFile 1 (codes "r") ∷ AtFile 2 (codes "b") ∷ OptionIs Seed 2 ∷ OptionIs Rounds 3 ∷ DumpsAre NoDump ∷ OptionIs Workers 1 ∷ OptionIs Window 1 ∷ OptionIs Surround 4 ∷ OptionIs Corpse 0 ∷ OptionIs Rest 0 ∷ IsGivenAs Stats false ∷ IsGivenAs Far false ∷ [])
 unfolding command_kind_of choice_of is_among rest_after is_file_name is_dumps dumps_of decimal_value
-run_all_least = read-accepts (words_of (codes "run w r b --seed 2 --rounds 3 --dump none --workers 1 --window 1 --surround 4 --corpse 0 --rest 0"))
-    (RunCommand (codes "w") (codes "r") (codes "b") (game 2 3 NoDump 1 1 4 0 0 false)) refl
+run_all_least = says _ _ _ refl (refl, (refl, (refl, (refl, (refl, (refl, (refl, (refl, (refl, (refl, (refl, (refl, (refl, tt)))))))))))))
 
 -- options in another order, a list in its own order with a repeat, and a leading zero
-pub run_other_order : IsCommand (words_of (codes "run w r b --dump 7,0,7 --rounds 02 --seed 5"))
-    (RunCommand (codes "w") (codes "r") (codes "b") (game 5 2 (ChosenDumps (7 ∷ 0 ∷ 7 ∷ [])) 1 16384 5 3 14 false))
+pub run_other_order : Says Run (codes "run w r b --dump 7,0,7 --rounds 02 --seed 5")
+    (AtFile 0 (codes "w") ∷ AtFile 1 (codes "r") ∷ AtFile 2 (codes "b") ∷ OptionIs Seed 5 ∷ OptionIs Rounds 2 ∷ DumpsAre (ChosenDumps (7 ∷ 0 ∷ 7 ∷ [])) ∷ OptionIs Workers 1 ∷ OptionIs Window 16384 ∷ OptionIs Surround 5 ∷ OptionIs Corpse 3 ∷ OptionIs Rest 14 ∷ IsGivenAs Stats false ∷ IsGivenAs Far false ∷ [])
 unfolding command_kind_of choice_of is_among rest_after is_file_name is_dumps dumps_of decimal_value
-run_other_order = read-accepts (words_of (codes "run w r b --dump 7,0,7 --rounds 02 --seed 5"))
-    (RunCommand (codes "w") (codes "r") (codes "b") (game 5 2 (ChosenDumps (7 ∷ 0 ∷ 7 ∷ [])) 1 16384 5 3 14 false)) refl
+run_other_order = says _ _ _ refl (refl, (refl, (refl, (refl, (refl, (refl, (refl, (refl, (refl, (refl, (refl, (refl, (refl, tt)))))))))))))
 
 -- without options a world has the contest's shape
-pub gen_defaults : IsCommand (words_of (codes "gen 7")) (GenCommand 7 (shape_of 150 150 14 11))
+pub gen_defaults : Says Gen (codes "gen 7")
+    (AtNumber 0 7 ∷ OptionIs Width 150 ∷ OptionIs Height 150 ∷ OptionIs Rocks 14 ∷ OptionIs Blobs 11 ∷ [])
 unfolding command_kind_of choice_of is_among rest_after is_file_name is_dumps dumps_of decimal_value
-gen_defaults = read-accepts (words_of (codes "gen 7")) (GenCommand 7 (shape_of 150 150 14 11)) refl
+gen_defaults = says _ _ _ refl (refl, (refl, (refl, (refl, (refl, tt)))))
 
 -- each option of `gen` at its greatest number
-pub gen_greatest : IsCommand (words_of (codes "gen 7 --blobs 255 --rocks 254 --height 512 --width 511")) (GenCommand 7 (shape_of 511 512 254 255))
+pub gen_greatest : Says Gen (codes "gen 7 --blobs 255 --rocks 254 --height 512 --width 511")
+    (AtNumber 0 7 ∷ OptionIs Width 511 ∷ OptionIs Height 512 ∷ OptionIs Rocks 254 ∷ OptionIs Blobs 255 ∷ [])
 unfolding command_kind_of choice_of is_among rest_after is_file_name is_dumps dumps_of decimal_value
-gen_greatest = read-accepts (words_of (codes "gen 7 --blobs 255 --rocks 254 --height 512 --width 511")) (GenCommand 7 (shape_of 511 512 254 255)) refl
+gen_greatest = says _ _ _ refl (refl, (refl, (refl, (refl, (refl, tt)))))
 
 -- each option of `gen` at its least number
-pub gen_least : IsCommand (words_of (codes "gen 7 --width 3 --height 4 --rocks 0 --blobs 1")) (GenCommand 7 (shape_of 3 4 0 1))
+pub gen_least : Says Gen (codes "gen 7 --width 3 --height 4 --rocks 0 --blobs 1")
+    (AtNumber 0 7 ∷ OptionIs Width 3 ∷ OptionIs Height 4 ∷ OptionIs Rocks 0 ∷ OptionIs Blobs 1 ∷ [])
 unfolding command_kind_of choice_of is_among rest_after is_file_name is_dumps dumps_of decimal_value
-gen_least = read-accepts (words_of (codes "gen 7 --width 3 --height 4 --rocks 0 --blobs 1")) (GenCommand 7 (shape_of 3 4 0 1)) refl
+gen_least = says _ _ _ refl (refl, (refl, (refl, (refl, (refl, tt)))))
 
 -- one world and two brains, and one worker
-pub cup_command : IsCommand (words_of (codes "cup --worlds w --brains a b --seed 1 --rounds 2")) (CupCommand ((codes "w") ∷ []) ((codes "a") ∷ (codes "b") ∷ []) 1 2 1 false)
+pub cup_command : Says Cup (codes "cup --worlds w --brains a b --seed 1 --rounds 2")
+    (NamesAre Worlds ((codes "w") ∷ []) ∷ NamesAre Brains ((codes "a") ∷ (codes "b") ∷ []) ∷ OptionIs Seed 1 ∷ OptionIs Rounds 2 ∷ OptionIs Workers 1 ∷ IsGivenAs Games false ∷ [])
 unfolding command_kind_of choice_of is_among rest_after is_file_name is_dumps dumps_of decimal_value
-cup_command = read-accepts (words_of (codes "cup --worlds w --brains a b --seed 1 --rounds 2"))
-    (CupCommand ((codes "w") ∷ []) ((codes "a") ∷ (codes "b") ∷ []) 1 2 1 false) refl
+cup_command = says _ _ _ refl (refl, (refl, (refl, (refl, (refl, (refl, tt))))))
 
 -- the same world twice, a name among both lists, names that are `-` or begin with one, and options in another order
-pub cup_same_world : IsCommand (words_of (codes "cup --worlds w w a --brains a - -b --workers 16 --rounds 0 --seed 3"))
-    (CupCommand ((codes "w") ∷ (codes "w") ∷ (codes "a") ∷ []) ((codes "a") ∷ (codes "-") ∷ (codes "-b") ∷ []) 3 0 16 false)
+pub cup_same_world : Says Cup (codes "cup --worlds w w a --brains a - -b --workers 16 --rounds 0 --seed 3")
+    (NamesAre Worlds ((codes "w") ∷ (codes "w") ∷ (codes "a") ∷ []) ∷ NamesAre Brains ((codes "a") ∷ (codes "-") ∷ (codes "-b") ∷ []) ∷ OptionIs Seed 3 ∷ OptionIs Rounds 0 ∷ OptionIs Workers 16 ∷ IsGivenAs Games false ∷ [])
 unfolding command_kind_of choice_of is_among rest_after is_file_name is_dumps dumps_of decimal_value
-cup_same_world = read-accepts (words_of (codes "cup --worlds w w a --brains a - -b --workers 16 --rounds 0 --seed 3"))
-    (CupCommand ((codes "w") ∷ (codes "w") ∷ (codes "a") ∷ []) ((codes "a") ∷ (codes "-") ∷ (codes "-b") ∷ []) 3 0 16 false) refl
+cup_same_world = says _ _ _ refl (refl, (refl, (refl, (refl, (refl, (refl, tt))))))
 
 -- the games too, with `--games` among the other options
-pub cup_games : IsCommand (words_of (codes "cup --worlds w --brains a b --seed 1 --games --rounds 2")) (CupCommand ((codes "w") ∷ []) ((codes "a") ∷ (codes "b") ∷ []) 1 2 1 true)
+pub cup_games : Says Cup (codes "cup --worlds w --brains a b --seed 1 --games --rounds 2")
+    (NamesAre Worlds ((codes "w") ∷ []) ∷ NamesAre Brains ((codes "a") ∷ (codes "b") ∷ []) ∷ OptionIs Seed 1 ∷ OptionIs Rounds 2 ∷ OptionIs Workers 1 ∷ IsGivenAs Games true ∷ [])
 unfolding command_kind_of choice_of is_among rest_after is_file_name is_dumps dumps_of decimal_value
-cup_games = read-accepts (words_of (codes "cup --worlds w --brains a b --seed 1 --games --rounds 2"))
-    (CupCommand ((codes "w") ∷ []) ((codes "a") ∷ (codes "b") ∷ []) 1 2 1 true) refl
+cup_games = says _ _ _ refl (refl, (refl, (refl, (refl, (refl, (refl, tt))))))
 
 -- `--games` is no file name, and one brain is too few
 pub cup_games_among_the_names : IsRefusedAt (words_of (codes "cup --worlds w --brains a --games")) 6
@@ -150,44 +166,36 @@ unfolding command_kind_of choice_of is_among rest_after is_file_name is_dumps du
 cup_games_among_the_names = read-refuses (words_of (codes "cup --worlds w --brains a --games")) 6 refl
 
 -- 16 worlds and 16 brains
-pub cup_sixteen : IsCommand (words_of (codes "cup --worlds a b c d e f g h i j k l m n o p --brains a b c d e f g h i j k l m n o p --seed 1 --rounds 1"))
-    (CupCommand ((codes "a") ∷ (codes "b") ∷ (codes "c") ∷ (codes "d") ∷ (codes "e") ∷ (codes "f") ∷ (codes "g") ∷ (codes "h") ∷ (codes "i") ∷ (codes "j") ∷
-    (codes "k") ∷ (codes "l") ∷ (codes "m") ∷ (codes "n") ∷ (codes "o") ∷ (codes "p") ∷ [])
-    ((codes "a") ∷ (codes "b") ∷ (codes "c") ∷ (codes "d") ∷ (codes "e") ∷ (codes "f") ∷ (codes "g") ∷ (codes "h") ∷ (codes "i") ∷ (codes "j") ∷ (codes "k") ∷
-    (codes "l") ∷ (codes "m") ∷ (codes "n") ∷ (codes "o") ∷ (codes "p") ∷ []) 1 1 1 false)
+pub cup_sixteen : Says Cup (codes "cup --worlds a b c d e f g h i j k l m n o p --brains a b c d e f g h i j k l m n o p --seed 1 --rounds 1")
+    (NamesAre Worlds ((codes "a") ∷ (codes "b") ∷ (codes "c") ∷ (codes "d") ∷ (codes "e") ∷ (codes "f") ∷ (codes "g") ∷ (codes "h") ∷ (codes "i") ∷ (codes "j") ∷ (codes "k") ∷ (codes "l") ∷ (codes "m") ∷ (codes "n") ∷ (codes "o") ∷ (codes "p") ∷ []) ∷ NamesAre Brains ((codes "a") ∷ (codes "b") ∷ (codes "c") ∷ (codes "d") ∷ (codes "e") ∷ (codes "f") ∷ (codes "g") ∷ (codes "h") ∷ (codes "i") ∷ (codes "j") ∷ (codes "k") ∷ (codes "l") ∷ (codes "m") ∷ (codes "n") ∷ (codes "o") ∷ (codes "p") ∷ []) ∷ OptionIs Seed 1 ∷ OptionIs Rounds 1 ∷ OptionIs Workers 1 ∷ IsGivenAs Games false ∷ [])
 unfolding command_kind_of choice_of is_among rest_after is_file_name is_dumps dumps_of decimal_value
-cup_sixteen = read-accepts (words_of (codes "cup --worlds a b c d e f g h i j k l m n o p --brains a b c d e f g h i j k l m n o p --seed 1 --rounds 1"))
-    (CupCommand ((codes "a") ∷ (codes "b") ∷ (codes "c") ∷ (codes "d") ∷ (codes "e") ∷ (codes "f") ∷ (codes "g") ∷ (codes "h") ∷ (codes "i") ∷ (codes "j") ∷
-    (codes "k") ∷ (codes "l") ∷ (codes "m") ∷ (codes "n") ∷ (codes "o") ∷ (codes "p") ∷ [])
-    ((codes "a") ∷ (codes "b") ∷ (codes "c") ∷ (codes "d") ∷ (codes "e") ∷ (codes "f") ∷ (codes "g") ∷ (codes "h") ∷ (codes "i") ∷ (codes "j") ∷ (codes "k") ∷
-    (codes "l") ∷ (codes "m") ∷ (codes "n") ∷ (codes "o") ∷ (codes "p") ∷ []) 1 1 1 false) refl
+cup_sixteen = says _ _ _ refl (refl, (refl, (refl, (refl, (refl, (refl, tt))))))
 
 -- `save` has the options of a game but for the dumps and the counts
-pub save_defaults : IsCommand (words_of (codes "save w r b --rounds 2 --seed 1")) (SaveCommand (codes "w") (codes "r") (codes "b") (game 1 2 NoDump 1 16384 5 3 14 false))
+pub save_defaults : Says Save (codes "save w r b --rounds 2 --seed 1")
+    (AtFile 0 (codes "w") ∷ AtFile 1 (codes "r") ∷ AtFile 2 (codes "b") ∷ OptionIs Seed 1 ∷ OptionIs Rounds 2 ∷ DumpsAre NoDump ∷ OptionIs Workers 1 ∷ OptionIs Window 16384 ∷ OptionIs Surround 5 ∷ OptionIs Corpse 3 ∷ OptionIs Rest 14 ∷ IsGivenAs Stats false ∷ IsGivenAs Far false ∷ [])
 unfolding command_kind_of choice_of is_among rest_after is_file_name is_dumps dumps_of decimal_value
-save_defaults = read-accepts (words_of (codes "save w r b --rounds 2 --seed 1")) (SaveCommand (codes "w") (codes "r") (codes "b") (game 1 2 NoDump 1 16384 5 3 14 false)) refl
+save_defaults = says _ _ _ refl (refl, (refl, (refl, (refl, (refl, (refl, (refl, (refl, (refl, (refl, (refl, (refl, (refl, tt)))))))))))))
 
-pub save_all : IsCommand (words_of (codes "save w r b --rest 9 --corpse 2 --surround 4 --window 50 --workers 3 --rounds 0 --seed 7"))
-    (SaveCommand (codes "w") (codes "r") (codes "b") (game 7 0 NoDump 3 50 4 2 9 false))
+pub save_all : Says Save (codes "save w r b --rest 9 --corpse 2 --surround 4 --window 50 --workers 3 --rounds 0 --seed 7")
+    (AtFile 0 (codes "w") ∷ AtFile 1 (codes "r") ∷ AtFile 2 (codes "b") ∷ OptionIs Seed 7 ∷ OptionIs Rounds 0 ∷ DumpsAre NoDump ∷ OptionIs Workers 3 ∷ OptionIs Window 50 ∷ OptionIs Surround 4 ∷ OptionIs Corpse 2 ∷ OptionIs Rest 9 ∷ IsGivenAs Stats false ∷ IsGivenAs Far false ∷ [])
 unfolding command_kind_of choice_of is_among rest_after is_file_name is_dumps dumps_of decimal_value
-save_all = read-accepts (words_of (codes "save w r b --rest 9 --corpse 2 --surround 4 --window 50 --workers 3 --rounds 0 --seed 7"))
-    (SaveCommand (codes "w") (codes "r") (codes "b") (game 7 0 NoDump 3 50 4 2 9 false)) refl
+save_all = says _ _ _ refl (refl, (refl, (refl, (refl, (refl, (refl, (refl, (refl, (refl, (refl, (refl, (refl, (refl, tt)))))))))))))
 
 pub save_without_dumps : IsRefusedAt (words_of (codes "save w r b --rounds 2 --dump all --seed 1")) 7
 unfolding command_kind_of choice_of is_among rest_after is_file_name is_dumps dumps_of decimal_value
 save_without_dumps = read-refuses (words_of (codes "save w r b --rounds 2 --dump all --seed 1")) 7 refl
 
 -- `resume` needs the rounds alone, and takes seed, window and sheet from the save
-abbrev resumed : ℕ → DumpChoice → ℕ → Bool → ResumeSetup
-resumed rounds dumps workers stats = record { rounds = rounds; dumps = dumps; workers = workers; stats = stats }
-
-pub resume_defaults : IsCommand (words_of (codes "resume s --rounds 2")) (ResumeCommand (codes "s") (resumed 2 NoDump 1 false))
+pub resume_defaults : Says Resume (codes "resume s --rounds 2")
+    (AtFile 0 (codes "s") ∷ OptionIs Rounds 2 ∷ DumpsAre NoDump ∷ OptionIs Workers 1 ∷ IsGivenAs Stats false ∷ [])
 unfolding command_kind_of choice_of is_among rest_after is_file_name is_dumps dumps_of decimal_value
-resume_defaults = read-accepts (words_of (codes "resume s --rounds 2")) (ResumeCommand (codes "s") (resumed 2 NoDump 1 false)) refl
+resume_defaults = says _ _ _ refl (refl, (refl, (refl, (refl, (refl, tt)))))
 
-pub resume_all : IsCommand (words_of (codes "resume - --stats --workers 16 --dump all --rounds 1000000")) (ResumeCommand (codes "-") (resumed 1000000 EveryDump 16 true))
+pub resume_all : Says Resume (codes "resume - --stats --workers 16 --dump all --rounds 1000000")
+    (AtFile 0 (codes "-") ∷ OptionIs Rounds 1000000 ∷ DumpsAre EveryDump ∷ OptionIs Workers 16 ∷ IsGivenAs Stats true ∷ [])
 unfolding command_kind_of choice_of is_among rest_after is_file_name is_dumps dumps_of decimal_value
-resume_all = read-accepts (words_of (codes "resume - --stats --workers 16 --dump all --rounds 1000000")) (ResumeCommand (codes "-") (resumed 1000000 EveryDump 16 true)) refl
+resume_all = says _ _ _ refl (refl, (refl, (refl, (refl, (refl, tt)))))
 
 pub resume_without_rounds : IsRefusedAt (words_of (codes "resume s")) 3
 unfolding command_kind_of choice_of is_among rest_after is_file_name is_dumps dumps_of decimal_value
@@ -198,18 +206,27 @@ unfolding command_kind_of choice_of is_among rest_after is_file_name is_dumps du
 resume_with_a_seed = read-refuses (words_of (codes "resume s --seed 1")) 3 refl
 
 -- the words that ask for the commands, and for the version
-pub help_command : IsCommand (words_of (codes "--help")) HelpCommand
+pub help_command : Says Help (codes "--help")
+    ([])
 unfolding command_kind_of choice_of is_among rest_after is_file_name is_dumps dumps_of decimal_value
-help_command = read-accepts (words_of (codes "--help")) HelpCommand refl
+help_command = says Help (codes "--help")
+    ([])
+    refl tt
 
-pub version_command : IsCommand (words_of (codes "--version")) VersionCommand
+pub version_command : Says Version (codes "--version")
+    ([])
 unfolding command_kind_of choice_of is_among rest_after is_file_name is_dumps dumps_of decimal_value
-version_command = read-accepts (words_of (codes "--version")) VersionCommand refl
+version_command = says Version (codes "--version")
+    ([])
+    refl tt
 
 -- the word without dashes asks for the commands too
-pub help_word : IsCommand (words_of (codes "help")) HelpCommand
+pub help_word : Says HelpWord (codes "help")
+    ([])
 unfolding command_kind_of choice_of is_among rest_after is_file_name is_dumps dumps_of decimal_value
-help_word = read-accepts (words_of (codes "help")) HelpCommand refl
+help_word = says HelpWord (codes "help")
+    ([])
+    refl tt
 
 pub help_word_alone : IsRefusedAt (words_of (codes "help run")) 2
 unfolding command_kind_of choice_of is_among rest_after is_file_name is_dumps dumps_of decimal_value
@@ -237,29 +254,34 @@ unfolding command_kind_of choice_of is_among rest_after is_file_name is_dumps du
 short_help = read-refuses (words_of (codes "-h")) 1 refl
 
 -- `view`
-pub view_command : IsCommand (words_of (codes "view w r b k --rounds 5 --seed 12345")) (ViewCommand (codes "w") (codes "r") (codes "b") (codes "k") 12345 5)
+pub view_command : Says View (codes "view w r b k --rounds 5 --seed 12345")
+    (AtFile 0 (codes "w") ∷ AtFile 1 (codes "r") ∷ AtFile 2 (codes "b") ∷ AtFile 3 (codes "k") ∷ OptionIs Seed 12345 ∷ OptionIs Rounds 5 ∷ [])
 unfolding command_kind_of choice_of is_among rest_after is_file_name is_dumps dumps_of decimal_value
-view_command = read-accepts (words_of (codes "view w r b k --rounds 5 --seed 12345")) (ViewCommand (codes "w") (codes "r") (codes "b") (codes "k") 12345 5) refl
+view_command = says _ _ _ refl (refl, (refl, (refl, (refl, (refl, (refl, tt))))))
 
 -- `workload`
-pub workload_command : IsCommand (words_of (codes "workload 12345 1000 4")) (WorkloadCommand 12345 1000 4)
+pub workload_command : Says Workload (codes "workload 12345 1000 4")
+    (AtNumber 0 12345 ∷ AtNumber 1 1000 ∷ AtNumber 2 4 ∷ [])
 unfolding command_kind_of choice_of is_among rest_after is_file_name is_dumps dumps_of decimal_value
-workload_command = read-accepts (words_of (codes "workload 12345 1000 4")) (WorkloadCommand 12345 1000 4) refl
+workload_command = says _ _ _ refl (refl, (refl, (refl, tt)))
 
 -- without its free options a trace begins at round 0, by the contest's rules
-pub trace_defaults : IsCommand (words_of (codes "trace w r b 0 --seed 1 --rounds 2")) (TraceCommand (codes "w") (codes "r") (codes "b") 0 (way 1 2 0 5 3 14))
+pub trace_defaults : Says Trace (codes "trace w r b 0 --seed 1 --rounds 2")
+    (AtFile 0 (codes "w") ∷ AtFile 1 (codes "r") ∷ AtFile 2 (codes "b") ∷ AtNumber 3 0 ∷ OptionIs Seed 1 ∷ OptionIs Rounds 2 ∷ OptionIs From 0 ∷ OptionIs Surround 5 ∷ OptionIs Corpse 3 ∷ OptionIs Rest 14 ∷ [])
 unfolding command_kind_of choice_of is_among rest_after is_file_name is_dumps dumps_of decimal_value
-trace_defaults = read-accepts (words_of (codes "trace w r b 0 --seed 1 --rounds 2")) (TraceCommand (codes "w") (codes "r") (codes "b") 0 (way 1 2 0 5 3 14)) refl
+trace_defaults = says _ _ _ refl (refl, (refl, (refl, (refl, (refl, (refl, (refl, (refl, (refl, (refl, tt))))))))))
 
 -- each number of a trace at its greatest
-pub trace_all : IsCommand (words_of (codes "trace w r b 16383 --rest 255 --corpse 9 --surround 6 --from 1000000 --rounds 999999 --seed 4294967295")) (TraceCommand (codes "w") (codes "r") (codes "b") 16383 (way 4294967295 999999 1000000 6 9 255))
+pub trace_all : Says Trace (codes "trace w r b 16383 --rest 255 --corpse 9 --surround 6 --from 1000000 --rounds 999999 --seed 4294967295")
+    (AtFile 0 (codes "w") ∷ AtFile 1 (codes "r") ∷ AtFile 2 (codes "b") ∷ AtNumber 3 16383 ∷ OptionIs Seed 4294967295 ∷ OptionIs Rounds 999999 ∷ OptionIs From 1000000 ∷ OptionIs Surround 6 ∷ OptionIs Corpse 9 ∷ OptionIs Rest 255 ∷ [])
 unfolding command_kind_of choice_of is_among rest_after is_file_name is_dumps dumps_of decimal_value
-trace_all = read-accepts (words_of (codes "trace w r b 16383 --rest 255 --corpse 9 --surround 6 --from 1000000 --rounds 999999 --seed 4294967295")) (TraceCommand (codes "w") (codes "r") (codes "b") 16383 (way 4294967295 999999 1000000 6 9 255)) refl
+trace_all = says _ _ _ refl (refl, (refl, (refl, (refl, (refl, (refl, (refl, (refl, (refl, (refl, tt))))))))))
 
 -- and at its least, with leading zeros of the id
-pub trace_least : IsCommand (words_of (codes "trace w r b 007 --seed 0 --rounds 0 --from 0 --surround 4 --corpse 0 --rest 0")) (TraceCommand (codes "w") (codes "r") (codes "b") 7 (way 0 0 0 4 0 0))
+pub trace_least : Says Trace (codes "trace w r b 007 --seed 0 --rounds 0 --from 0 --surround 4 --corpse 0 --rest 0")
+    (AtFile 0 (codes "w") ∷ AtFile 1 (codes "r") ∷ AtFile 2 (codes "b") ∷ AtNumber 3 7 ∷ OptionIs Seed 0 ∷ OptionIs Rounds 0 ∷ OptionIs From 0 ∷ OptionIs Surround 4 ∷ OptionIs Corpse 0 ∷ OptionIs Rest 0 ∷ [])
 unfolding command_kind_of choice_of is_among rest_after is_file_name is_dumps dumps_of decimal_value
-trace_least = read-accepts (words_of (codes "trace w r b 007 --seed 0 --rounds 0 --from 0 --surround 4 --corpse 0 --rest 0")) (TraceCommand (codes "w") (codes "r") (codes "b") 7 (way 0 0 0 4 0 0)) refl
+trace_least = says _ _ _ refl (refl, (refl, (refl, (refl, (refl, (refl, (refl, (refl, (refl, (refl, tt))))))))))
 
 -- the id stands before the options
 pub trace_without_id : IsRefusedAt (words_of (codes "trace w r b --seed 1 --rounds 2")) 5
@@ -287,9 +309,10 @@ unfolding command_kind_of choice_of is_among rest_after is_file_name is_dumps du
 trace_rounds_missing = read-refuses (words_of (codes "trace w r b 1 --seed 1")) 8 refl
 
 -- two brains
-pub same_command : IsCommand (words_of (codes "same a -")) (SameCommand (codes "a") (codes "-"))
+pub same_command : Says Same (codes "same a -")
+    (AtFile 0 (codes "a") ∷ AtFile 1 (codes "-") ∷ [])
 unfolding command_kind_of choice_of is_among rest_after is_file_name is_dumps dumps_of decimal_value
-same_command = read-accepts (words_of (codes "same a -")) (SameCommand (codes "a") (codes "-")) refl
+same_command = says _ _ _ refl (refl, (refl, tt))
 
 -- one brain is a beginning
 pub same_one : IsRefusedAt (words_of (codes "same a")) 3
@@ -386,11 +409,10 @@ unfolding command_kind_of choice_of is_among rest_after is_file_name is_dumps du
 window_too_great = read-refuses (words_of (codes "run w r b --window 16385")) 6 refl
 
 -- `--far`, among the other options
-pub run_far : IsCommand (words_of (codes "run w r b --far --seed 1 --workers 3 --rounds 2"))
-    (RunCommand (codes "w") (codes "r") (codes "b") (record (game 1 2 NoDump 3 16384 5 3 14 false) { far = true }))
+pub run_far : Says Run (codes "run w r b --far --seed 1 --workers 3 --rounds 2")
+    (AtFile 0 (codes "w") ∷ AtFile 1 (codes "r") ∷ AtFile 2 (codes "b") ∷ OptionIs Seed 1 ∷ OptionIs Rounds 2 ∷ DumpsAre NoDump ∷ OptionIs Workers 3 ∷ OptionIs Window 16384 ∷ OptionIs Surround 5 ∷ OptionIs Corpse 3 ∷ OptionIs Rest 14 ∷ IsGivenAs Stats false ∷ IsGivenAs Far true ∷ [])
 unfolding command_kind_of choice_of is_among rest_after is_file_name is_dumps dumps_of decimal_value
-run_far = read-accepts (words_of (codes "run w r b --far --seed 1 --workers 3 --rounds 2"))
-    (RunCommand (codes "w") (codes "r") (codes "b") (record (game 1 2 NoDump 3 16384 5 3 14 false) { far = true })) refl
+run_far = says _ _ _ refl (refl, (refl, (refl, (refl, (refl, (refl, (refl, (refl, (refl, (refl, (refl, (refl, (refl, tt)))))))))))))
 
 -- `--far` takes no word
 pub far_with_a_value : IsRefusedAt (words_of (codes "run w r b --far 1")) 6

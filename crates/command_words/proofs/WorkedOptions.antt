@@ -3,11 +3,14 @@ use Rattle.std.proofs.Common.{◌≡◌, ℕ, List, [], ◌∷◌, ◌++◌, cod
 use Rattle.ant_base.specs.Number.{decimal_value}
 use Rattle.command_words.specs.Slots.{is_file_name, is_dumps, dumps_of}
 use Rattle.command_words.specs.Slots.DumpChoice.{NoDump}
-use Rattle.command_words.specs.Command.{IsCommand, IsRefusedAt, RunSetup, is_among, rest_after}
-use Rattle.command_words.specs.Command.PlainCommand.{BrainCommand, CupCommand, GenCommand, RunCommand, ViewCommand, WorkloadCommand}
+use Rattle.command_words.specs.declared.table.CommandKind.TheVariants.{Brain, Run, Gen, Cup, View, Workload}
+use Rattle.command_words.specs.declared.table.Choice.TheVariants.{Seed, Rounds, Workers, Window, Surround, Corpse, Rest, Stats, Far, Width, Height, Rocks, Blobs, Games}
+use Rattle.command_words.specs.declared.table.NameList.TheVariants.{Worlds, Brains}
+use Rattle.command_words.specs.Command.{IsRefusedAt, is_among, rest_after}
 use Rattle.command_words.specs.Inner.Walk.{command_kind_of, choice_of, read_of}
-use Rattle.command_words.proofs.ReadLemmas.{read-accepts, read-refuses}
-use Rattle.command_words.proofs.WorkedLines.{words_of}
+use Rattle.command_words.proofs.ReadLemmas.{read-refuses}
+use Rattle.command_words.proofs.WorkedLines.{Says, says, words_of}
+use Rattle.command_words.proofs.WorkedLines.Answer.{AtFile, AtNumber, NamesAre, OptionIs, DumpsAre, IsGivenAs}
 
 -- each of these words is refused at this number, where it follows the words of a line
 abbrev AreRefusedAfter : List ℕ → ℕ → List (List ℕ) → Type 0
@@ -134,54 +137,41 @@ unfolding command_kind_of choice_of is_among rest_after is_file_name is_dumps du
 run_takes_no_own = refused_after (codes "run w r b") 5 own_options
     (refl, (refl, (refl, (refl, tt))))
 
--- a game of the greatest seed and the most rounds
-abbrev greatest : RunSetup
-greatest = record {
-  seed = 4294967295;
-  rounds = 1000000;
-  dumps = NoDump;
-  workers = 1;
-  window = 16384;
-  surround = 5;
-  corpse = 3;
-  rest = 14;
-  stats = false;
-  far = false;
-}
-
 -- the greatest seed of a game
-pub run_greatest_seed : IsCommand (words_of (codes "run w r b --seed 4294967295 --rounds 1000000")) (RunCommand (codes "w") (codes "r") (codes "b") greatest)
+pub run_greatest_seed : Says Run (codes "run w r b --seed 4294967295 --rounds 1000000")
+    (AtFile 0 (codes "w") ∷ AtFile 1 (codes "r") ∷ AtFile 2 (codes "b") ∷ OptionIs Seed 4294967295 ∷ OptionIs Rounds 1000000 ∷ DumpsAre NoDump ∷ OptionIs Workers 1 ∷ OptionIs Window 16384 ∷ OptionIs Surround 5 ∷ OptionIs Corpse 3 ∷ OptionIs Rest 14 ∷ IsGivenAs Stats false ∷ IsGivenAs Far false ∷ [])
 unfolding command_kind_of choice_of is_among rest_after is_file_name is_dumps dumps_of decimal_value
-run_greatest_seed = read-accepts (words_of (codes "run w r b --seed 4294967295 --rounds 1000000")) (RunCommand (codes "w") (codes "r") (codes "b") greatest) refl
+run_greatest_seed = says _ _ _ refl (refl, (refl, (refl, (refl, (refl, (refl, (refl, (refl, (refl, (refl, (refl, (refl, (refl, tt)))))))))))))
 
 -- of a generated world
-pub gen_greatest_seed : IsCommand (words_of (codes "gen 4294967295")) (GenCommand 4294967295 (record { width = 150; height = 150; rocks = 14; blobs = 11 }))
+pub gen_greatest_seed : Says Gen (codes "gen 4294967295")
+    (AtNumber 0 4294967295 ∷ OptionIs Width 150 ∷ OptionIs Height 150 ∷ OptionIs Rocks 14 ∷ OptionIs Blobs 11 ∷ [])
 unfolding command_kind_of choice_of is_among rest_after is_file_name is_dumps dumps_of decimal_value
-gen_greatest_seed = read-accepts (words_of (codes "gen 4294967295")) (GenCommand 4294967295 (record { width = 150; height = 150; rocks = 14; blobs = 11 })) refl
+gen_greatest_seed = says _ _ _ refl (refl, (refl, (refl, (refl, (refl, tt)))))
 
 -- of a cup
-pub cup_greatest_seed : IsCommand (words_of (codes "cup --worlds w --brains a b --seed 4294967295 --rounds 1000000"))
-    (CupCommand ((codes "w") ∷ []) ((codes "a") ∷ (codes "b") ∷ []) 4294967295 1000000 1 false)
+pub cup_greatest_seed : Says Cup (codes "cup --worlds w --brains a b --seed 4294967295 --rounds 1000000")
+    (NamesAre Worlds ((codes "w") ∷ []) ∷ NamesAre Brains ((codes "a") ∷ (codes "b") ∷ []) ∷ OptionIs Seed 4294967295 ∷ OptionIs Rounds 1000000 ∷ OptionIs Workers 1 ∷ IsGivenAs Games false ∷ [])
 unfolding command_kind_of choice_of is_among rest_after is_file_name is_dumps dumps_of decimal_value
-cup_greatest_seed = read-accepts (words_of (codes "cup --worlds w --brains a b --seed 4294967295 --rounds 1000000"))
-    (CupCommand ((codes "w") ∷ []) ((codes "a") ∷ (codes "b") ∷ []) 4294967295 1000000 1 false) refl
+cup_greatest_seed = says _ _ _ refl (refl, (refl, (refl, (refl, (refl, (refl, tt))))))
 
 -- of a view
-pub view_greatest_seed : IsCommand (words_of (codes "view w r b k --seed 4294967295 --rounds 1000000"))
-    (ViewCommand (codes "w") (codes "r") (codes "b") (codes "k") 4294967295 1000000)
+pub view_greatest_seed : Says View (codes "view w r b k --seed 4294967295 --rounds 1000000")
+    (AtFile 0 (codes "w") ∷ AtFile 1 (codes "r") ∷ AtFile 2 (codes "b") ∷ AtFile 3 (codes "k") ∷ OptionIs Seed 4294967295 ∷ OptionIs Rounds 1000000 ∷ [])
 unfolding command_kind_of choice_of is_among rest_after is_file_name is_dumps dumps_of decimal_value
-view_greatest_seed = read-accepts (words_of (codes "view w r b k --seed 4294967295 --rounds 1000000"))
-    (ViewCommand (codes "w") (codes "r") (codes "b") (codes "k") 4294967295 1000000) refl
+view_greatest_seed = says _ _ _ refl (refl, (refl, (refl, (refl, (refl, (refl, tt))))))
 
 -- and of a workload, with the most rounds and workers
-pub workload_greatest : IsCommand (words_of (codes "workload 4294967295 1000000 16")) (WorkloadCommand 4294967295 1000000 16)
+pub workload_greatest : Says Workload (codes "workload 4294967295 1000000 16")
+    (AtNumber 0 4294967295 ∷ AtNumber 1 1000000 ∷ AtNumber 2 16 ∷ [])
 unfolding command_kind_of choice_of is_among rest_after is_file_name is_dumps dumps_of decimal_value
-workload_greatest = read-accepts (words_of (codes "workload 4294967295 1000000 16")) (WorkloadCommand 4294967295 1000000 16) refl
+workload_greatest = says _ _ _ refl (refl, (refl, (refl, tt)))
 
 -- dashes may stand within a file name
-pub dashes_within : IsCommand (words_of (codes "brain a--b")) (BrainCommand (codes "a--b"))
+pub dashes_within : Says Brain (codes "brain a--b")
+    (AtFile 0 (codes "a--b") ∷ [])
 unfolding command_kind_of choice_of is_among rest_after is_file_name is_dumps dumps_of decimal_value
-dashes_within = read-accepts (words_of (codes "brain a--b")) (BrainCommand (codes "a--b")) refl
+dashes_within = says _ _ _ refl (refl, tt)
 
 -- an option stands twice, with another between
 pub seed_given_twice_apart : IsRefusedAt (words_of (codes "run w r b --seed 1 --rounds 2 --seed 3")) 9

@@ -4,7 +4,7 @@ use Rattle.std.specs.List.{list_any}
 use Rattle.std.specs.Str.{bytes_eq}
 use Rattle.command_words.specs.declared.table.CommandKind.TheVariants.{Run}
 use Rattle.command_words.specs.declared.table.Choice.TheVariants.{Far}
-use Rattle.command_words.specs.Command.{PlainCommand, IsCommand}
+use Rattle.command_words.specs.Command.{PlainAsked, IsCommand}
 use Rattle.command_words.specs.Table.{option_of, word_of}
 
 -- whether the first word is `run`, and `--far` stands among them, right or wrong
@@ -22,5 +22,5 @@ words_without_far words = if is_far_run words then map word_without_far words el
 
 -- such a reader takes no command that has the option, and all others as they are
 pub record RefusesFar : Type 0 where
-  pub refused : (words : List (List ℕ)) (command : PlainCommand) → is_far_run words ≡ true → ¬ IsCommand (words_without_far words) command
+  pub refused : (words : List (List ℕ)) (asked : PlainAsked) → is_far_run words ≡ true → ¬ IsCommand (words_without_far words) asked
   pub others : (words : List (List ℕ)) → is_far_run words ≡ false → words_without_far words ≡ words

@@ -1,11 +1,17 @@
 -- Laws of commands and refused words.
-use Rattle.std.specs.Prelude.{◌≡◌, ◌⊎◌, ℕ, List, ◌++◌}
+use Rattle.std.specs.Prelude.{◌≡◌, ◌⊎◌, ℕ, ◌+◌, true, List, [], ◌∷◌, ◌++◌, Some, slice_get}
 use Rattle.std.specs.List.{Contains}
-use Rattle.command_words.specs.Command.{CommandWithin, Given, IsCommandOf, PlainCommand, IsCommand, IsBeginning, IsRefusedAt}
+use Rattle.command_words.specs.Command.{PlainAsked, AskedWithin, Given, IsCommandOf, IsCommand, IsBeginning, IsGiven, IsRefusedAt}
+use Rattle.command_words.specs.Limits.{number_in}
+use Rattle.command_words.specs.Table.{default_of, places_of, values_of}
+use Rattle.command_words.specs.declared.limits.NumberKind.{NumberKind}
+use Rattle.command_words.specs.declared.slot.Slot.TheVariants.{FileName, Number}
+use Rattle.command_words.specs.declared.slot.Place.TheVariants.{Word}
+use Rattle.command_words.specs.declared.table.Choice.{Choice}
 
 -- some words are at most one command
 abbrev pub OneCommand : Type 0
-OneCommand = (words : List (List ℕ)) (a b : PlainCommand) → IsCommand words a → IsCommand words b → a ≡ b
+OneCommand = (words : List (List ℕ)) (a b : PlainAsked) → IsCommand words a → IsCommand words b → a ≡ b
 
 -- some words have at most one refused word
 abbrev pub OneRefusedWord : Type 0
@@ -13,11 +19,11 @@ OneRefusedWord = (words : List (List ℕ)) (a b : ℕ) → IsRefusedAt words a �
 
 -- words that are a command have no refused word
 abbrev pub NeverBoth : Type 0
-NeverBoth = (words : List (List ℕ)) (command : PlainCommand) (word : ℕ) → IsCommand words command → ¬ IsRefusedAt words word
+NeverBoth = (words : List (List ℕ)) (asked : PlainAsked) (word : ℕ) → IsCommand words asked → ¬ IsRefusedAt words word
 
 -- words are a command or have a refused word
 abbrev pub OneOfBoth : Type 0
-OneOfBoth = (words : List (List ℕ)) → ((command : PlainCommand) × IsCommand words command) ⊎ ((word : ℕ) × IsRefusedAt words word)
+OneOfBoth = (words : List (List ℕ)) → ((asked : PlainAsked) × IsCommand words asked) ⊎ ((word : ℕ) × IsRefusedAt words word)
 
 -- a prefix of a beginning is a beginning, so that the refused word ends it for good
 abbrev pub FrontBegins : Type 0
@@ -25,12 +31,30 @@ FrontBegins = (words more : List (List ℕ)) → IsBeginning (words ++ more) →
 
 -- the same options say the same in any order
 abbrev pub AnyOrder : Type 0
-AnyOrder = (words more : List (List ℕ)) (command : PlainCommand) (is : IsCommand words command) (others : List Given)
+AnyOrder = (words more : List (List ℕ)) (asked : PlainAsked) (is : IsCommand words asked) (others : List Given)
     → IsCommandOf is.kind is.front others more
     → ((given : Given) → Contains is.given given → Contains others given)
     → ((given : Given) → Contains others given → Contains is.given given)
-    → IsCommand more command
+    → IsCommand more asked
 
 -- a command is within the limits
 abbrev pub WithinLimits : Type 0
-WithinLimits = (words : List (List ℕ)) (command : PlainCommand) → IsCommand words command → CommandWithin command
+WithinLimits = (words : List (List ℕ)) (asked : PlainAsked) → IsCommand words asked → AskedWithin asked
+
+-- what is asked for stands among the words: no default takes the place of a word that stands there
+pub record SaysItsWords : Type 0 where
+  -- a file has the name that stands at its place
+  pub file : (words : List (List ℕ)) (asked : PlainAsked) → IsCommand words asked → (place : ℕ) → slice_get (places_of asked.kind) place ≡ Some (Word FileName)
+      → slice_get words (place + 1) ≡ Some (asked.file place)
+  -- a number is the one that is spelled at its place
+  pub number : (words : List (List ℕ)) (asked : PlainAsked) → IsCommand words asked → (place : ℕ) (kind : NumberKind) → slice_get (places_of asked.kind) place ≡ Some (Word (Number kind))
+      → (word : List ℕ) × (slice_get words (place + 1) ≡ Some word) × (number_in kind word ≡ Some (asked.number place))
+  -- an option that is given has the number that is spelled behind its word
+  pub option : (words : List (List ℕ)) (asked : PlainAsked) (is : IsCommand words asked) (given : Given) → Contains is.given given
+      → (kind : NumberKind) → values_of given.choice ≡ Word (Number kind) ∷ []
+      → (word : List ℕ) × (given.values ≡ (word ∷ []) ∷ []) × (number_in kind word ≡ Some (asked.option given.choice))
+  -- and without it, that of the table
+  pub default : (words : List (List ℕ)) (asked : PlainAsked) (is : IsCommand words asked) (choice : Choice) → ¬ IsGiven choice is.given → asked.option choice ≡ default_of choice
+  -- whether an option is given is said
+  pub has : (words : List (List ℕ)) (asked : PlainAsked) (is : IsCommand words asked) (choice : Choice) → asked.has choice ≡ true → IsGiven choice is.given
+  pub given : (words : List (List ℕ)) (asked : PlainAsked) (is : IsCommand words asked) (choice : Choice) → IsGiven choice is.given → asked.has choice ≡ true

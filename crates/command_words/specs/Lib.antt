@@ -1,5 +1,6 @@
 pub mod Limits
 pub mod Table
+pub mod Help
 pub mod Slots
 pub mod Command
 pub mod FaultText

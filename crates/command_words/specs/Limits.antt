@@ -1,5 +1,5 @@
 -- The numbers that words may say, a row a kind.
-use Rattle.std.specs.Prelude.{ℕ, ◌≤◌, List, Option}
+use Rattle.std.specs.Prelude.{ℕ, ◌≤◌, List, Option, codes}
 use Rattle.ant_base.specs.Number.{number_within}
 use Rattle.command_words.specs.declared.limits.NumberKind.{NumberKind}
 use Rattle.command_words.specs.declared.limits.NumberKind.TheVariants.{SeedNumber, RoundCount, WorkerCount, WindowSize, FoeCount, CorpseFood, RestRounds, SideLength, ElementCount, AntId}
@@ -37,3 +37,11 @@ number_in kind word = number_within (least_of kind) (most_of kind) word
 -- a number is within the limits of its kind
 abbrev pub IsWithin : NumberKind → ℕ → Type 0
 IsWithin kind number = (least_of kind ≤ number) × (number ≤ most_of kind)
+
+-- what the page of `--help` calls a number that stands at a place
+abbrev pub name_of : NumberKind → List ℕ
+name_of SeedNumber = codes "SEED"
+name_of RoundCount = codes "ROUNDS"
+name_of WorkerCount = codes "WORKERS"
+name_of AntId = codes "ID"
+name_of kind = codes "N"

@@ -1,10 +1,11 @@
 -- The commands, their options and their lists of names, a row each.
-use Rattle.std.specs.Prelude.{ℕ, Bool, true, false, List, [], ◌∷◌, codes}
+use Rattle.std.specs.Prelude.{◌≡◌, ℕ, Bool, true, false, ◌&&◌, ◌||◌, Option, Some, slice_get, List, [], ◌∷◌, codes}
+use Rattle.std.specs.List.{list_any}
+use Rattle.std.specs.Str.{bytes_eq}
 use Rattle.command_words.specs.declared.limits.NumberKind.{NumberKind}
 use Rattle.command_words.specs.declared.limits.NumberKind.TheVariants.{SeedNumber, RoundCount, WorkerCount, WindowSize, FoeCount, CorpseFood, RestRounds, SideLength, ElementCount, AntId}
 use Rattle.command_words.specs.declared.table.NameList.{NameList}
 use Rattle.command_words.specs.declared.table.NameList.TheVariants.{Worlds, Brains}
-use Rattle.command_words.specs.declared.slot.Slot.{Slot}
 use Rattle.command_words.specs.declared.slot.Slot.TheVariants.{FileName, Number, Dumps, Keyword}
 use Rattle.command_words.specs.declared.slot.Place.{Place}
 use Rattle.command_words.specs.declared.slot.Place.TheVariants.{Word, Names}
@@ -38,9 +39,9 @@ trace_places = Word FileName ∷ Word FileName ∷ Word FileName ∷ number_plac
 abbrev pub cup_places : List Place
 cup_places = Word (Keyword Worlds) ∷ Names Worlds ∷ Word (Keyword Brains) ∷ Names Brains ∷ []
 
--- all commands that are known
+-- all commands that are known, in the order of the page of `--help`
 abbrev pub kinds : List CommandKind
-kinds = Show ∷ Brain ∷ Minimise ∷ Run ∷ Gen ∷ Cup ∷ View ∷ Workload ∷ Help ∷ HelpWord ∷ Version ∷ Asm ∷ Save ∷ Resume ∷ Trace ∷ Same ∷ []
+kinds = Run ∷ Save ∷ Resume ∷ View ∷ Trace ∷ Cup ∷ Workload ∷ Show ∷ Gen ∷ Brain ∷ Minimise ∷ Same ∷ Asm ∷ HelpWord ∷ Help ∷ Version ∷ []
 
 abbrev pub row_of : CommandKind → CommandRow
 row_of Show = command_row (codes "show") (Word FileName ∷ number_place SeedNumber ∷ []) []
@@ -60,6 +61,32 @@ row_of Resume = command_row (codes "resume") one_file (Rounds ∷ Dump ∷ Worke
 row_of Trace = command_row (codes "trace") trace_places (Seed ∷ Rounds ∷ From ∷ Surround ∷ Corpse ∷ Rest ∷ [])
 row_of Same = command_row (codes "same") (Word FileName ∷ one_file) []
 
+-- what the page of `--help` has of a command: its places by name, each behind a space, and a sentence
+pub record CommandHelp : Type 0 where
+  pub names : List ℕ
+  pub says : List ℕ
+
+abbrev pub command_help : List ℕ → List ℕ → CommandHelp
+command_help names says = record { names = names; says = says }
+
+abbrev pub help_row : CommandKind → CommandHelp
+help_row Run = command_help (codes " WORLD RED BLACK") (codes "plays a game between two brains, and prints its score")
+help_row Save = command_help (codes " WORLD RED BLACK") (codes "plays a game up to a round, and prints all that it takes to go on")
+help_row Resume = command_help (codes " SAVE") (codes "goes on with a saved game, and prints the rest of what run prints")
+help_row View = command_help (codes " WORLD RED BLACK BREAKS") (codes "plays a game up to the first of its breaks, and prints the world there")
+help_row Trace = command_help (codes " WORLD RED BLACK ID") (codes "plays a game, and prints where one ant is after each round")
+help_row Cup = command_help (codes " --worlds WORLD.. --brains BRAIN..") (codes "plays all games between brains on worlds, and prints their standing")
+help_row Workload = command_help (codes " SEED ROUNDS WORKERS") (codes "plays the sample brain against itself on a world that gen makes")
+help_row Show = command_help (codes " WORLD SEED") (codes "prints a world as it is at the start of a game")
+help_row Gen = command_help (codes " SEED") (codes "prints a world in the contest's manner, made from a number")
+help_row Brain = command_help (codes " FILE") (codes "checks a brain, and prints it with one instruction a line")
+help_row Minimise = command_help (codes " FILE") (codes "merges equivalent states of a brain, and keeps what state 0 leads to")
+help_row Same = command_help (codes " FILE FILE") (codes "says whether two brains are the same but for the numbers of their states")
+help_row Asm = command_help (codes " FILE") (codes "prints the brain of a program with labels and blocks")
+help_row HelpWord = command_help (codes "") (codes "prints this page")
+help_row Help = command_help (codes "") (codes "prints this page")
+help_row Version = command_help (codes "") (codes "prints the version of this program")
+
 abbrev pub word_of : CommandKind → List ℕ
 word_of kind = (row_of kind).word
 
@@ -69,37 +96,41 @@ places_of kind = (row_of kind).places
 abbrev pub choices_of : CommandKind → List Choice
 choices_of kind = (row_of kind).choices
 
--- an option: its word, what stands after that, and whether a command that has the option needs it
+-- an option: its word, what stands after that, whether a command that has the option needs it, and the number that holds where it isn't given
 pub record OptionRow : Type 0 where
   pub word : List ℕ
   pub values : List Place
   pub needed : Bool
+  pub default : ℕ
 
-abbrev pub needed_option : List ℕ → Slot → OptionRow
-needed_option word slot = record { word = word; values = Word slot ∷ []; needed = true }
+abbrev pub needed_option : List ℕ → NumberKind → OptionRow
+needed_option word kind = record { word = word; values = number_place kind ∷ []; needed = true; default = 0 }
 
-abbrev pub free_option : List ℕ → Slot → OptionRow
-free_option word slot = record { word = word; values = Word slot ∷ []; needed = false }
+abbrev pub number_option : List ℕ → NumberKind → ℕ → OptionRow
+number_option word kind default = record { word = word; values = number_place kind ∷ []; needed = false; default = default }
+
+abbrev pub dump_option : List ℕ → OptionRow
+dump_option word = record { word = word; values = Word Dumps ∷ []; needed = false; default = 0 }
 
 abbrev pub flag_option : List ℕ → OptionRow
-flag_option word = record { word = word; values = []; needed = false }
+flag_option word = record { word = word; values = []; needed = false; default = 0 }
 
 abbrev pub option_row : Choice → OptionRow
-option_row Seed = needed_option (codes "--seed") (Number SeedNumber)
-option_row Rounds = needed_option (codes "--rounds") (Number RoundCount)
-option_row Dump = free_option (codes "--dump") Dumps
-option_row Workers = free_option (codes "--workers") (Number WorkerCount)
-option_row Window = free_option (codes "--window") (Number WindowSize)
-option_row Surround = free_option (codes "--surround") (Number FoeCount)
-option_row Corpse = free_option (codes "--corpse") (Number CorpseFood)
-option_row Rest = free_option (codes "--rest") (Number RestRounds)
+option_row Seed = needed_option (codes "--seed") SeedNumber
+option_row Rounds = needed_option (codes "--rounds") RoundCount
+option_row Dump = dump_option (codes "--dump")
+option_row Workers = number_option (codes "--workers") WorkerCount 1
+option_row Window = number_option (codes "--window") WindowSize 16384
+option_row Surround = number_option (codes "--surround") FoeCount 5
+option_row Corpse = number_option (codes "--corpse") CorpseFood 3
+option_row Rest = number_option (codes "--rest") RestRounds 14
 option_row Stats = flag_option (codes "--stats")
 option_row Far = flag_option (codes "--far")
-option_row Width = free_option (codes "--width") (Number SideLength)
-option_row Height = free_option (codes "--height") (Number SideLength)
-option_row Rocks = free_option (codes "--rocks") (Number ElementCount)
-option_row Blobs = free_option (codes "--blobs") (Number ElementCount)
-option_row From = free_option (codes "--from") (Number RoundCount)
+option_row Width = number_option (codes "--width") SideLength 150
+option_row Height = number_option (codes "--height") SideLength 150
+option_row Rocks = number_option (codes "--rocks") ElementCount 14
+option_row Blobs = number_option (codes "--blobs") ElementCount 11
+option_row From = number_option (codes "--from") RoundCount 0
 option_row Labels = flag_option (codes "--labels")
 option_row States = flag_option (codes "--states")
 option_row Games = flag_option (codes "--games")
@@ -114,32 +145,62 @@ abbrev pub is_needed : Choice → Bool
 is_needed choice = (option_row choice).needed
 
 -- what holds where a number's option isn't given
-abbrev pub default_workers : ℕ
-default_workers = 1
+abbrev pub default_of : Choice → ℕ
+default_of choice = (option_row choice).default
 
-abbrev pub default_window : ℕ
-default_window = 16384
+-- all options, in the order of the page of `--help`
+abbrev pub options : List Choice
+options = Seed ∷ Rounds ∷ Dump ∷ Workers ∷ Window ∷ Surround ∷ Corpse ∷ Rest ∷ From ∷ Stats ∷ Far ∷ Width ∷ Height ∷ Rocks ∷ Blobs ∷ Games ∷ States ∷ Labels ∷ []
 
-abbrev pub default_surround : ℕ
-default_surround = 5
+-- what the page says of an option
+abbrev pub about_of : Choice → List ℕ
+about_of Seed = codes "where the random numbers begin"
+about_of Rounds = codes "how many rounds are played"
+about_of Dump = codes "dumps after rounds: none, all, or as 0,10,100; none"
+about_of Workers = codes "threads"
+about_of Window = codes "turns that are looked at ahead"
+about_of Surround = codes "foes around an ant that kill it"
+about_of Corpse = codes "food that a dead ant leaves"
+about_of Rest = codes "turns that an ant rests after a step"
+about_of From = codes "the first round that is told"
+about_of Stats = codes "adds the counts of turns and looks"
+about_of Far = codes "keeps the workers for the whole game, and sends them their jobs"
+about_of Width = codes "cells of a row"
+about_of Height = codes "rows"
+about_of Rocks = codes "rocks that are placed"
+about_of Blobs = codes "heaps of food that are placed"
+about_of Games = codes "prints the line of each game before the standing"
+about_of States = codes "prints the new number of each state, not the brain"
+about_of Labels = codes "prints which state each label leads to, not the brain"
 
-abbrev pub default_corpse : ℕ
-default_corpse = 3
+-- a command's row has a file at a place, counted from 0, or a number
+abbrev pub is_file : Option Place → Bool
+is_file (Some (Word FileName)) = true
+is_file place = false
 
-abbrev pub default_rest : ℕ
-default_rest = 14
+abbrev pub is_number : Option Place → Bool
+is_number (Some (Word (Number kind))) = true
+is_number place = false
 
-abbrev pub default_side : ℕ
-default_side = 150
+abbrev pub HasFile : CommandKind → ℕ → Type 0
+HasFile kind place = is_file (slice_get (places_of kind) place) ≡ true
 
-abbrev pub default_rocks : ℕ
-default_rocks = 14
+abbrev pub HasNumber : CommandKind → ℕ → Type 0
+HasNumber kind place = is_number (slice_get (places_of kind) place) ≡ true
 
-abbrev pub default_blobs : ℕ
-default_blobs = 11
+-- it has an option, or one whose word is followed by a number
+abbrev pub has_option : CommandKind → Choice → Bool
+has_option kind choice = list_any (λ other. bytes_eq (option_of other) (option_of choice)) (choices_of kind)
 
-abbrev pub default_from : ℕ
-default_from = 0
+abbrev pub takes_number : List Place → Bool
+takes_number (Word (Number kind) ∷ []) = true
+takes_number places = false
+
+abbrev pub HasOption : CommandKind → Choice → Type 0
+HasOption kind choice = has_option kind choice ≡ true
+
+abbrev pub HasNumberOption : CommandKind → Choice → Type 0
+HasNumberOption kind choice = (has_option kind choice && takes_number (values_of choice)) ≡ true
 
 -- the word before a list of names
 abbrev pub keyword_of : NameList → List ℕ
@@ -159,3 +220,17 @@ most_names = 16
 abbrev pub must_differ : NameList → Bool
 must_differ Worlds = false
 must_differ Brains = true
+
+-- a command's row has the names of a list
+abbrev pub has_names : NameList → List Place → Bool
+has_names list [] = false
+has_names list (Word slot ∷ places) = has_names list places
+has_names list (Names other ∷ places) = bytes_eq (keyword_of other) (keyword_of list) || has_names list places
+
+abbrev pub HasNames : CommandKind → NameList → Type 0
+HasNames kind list = has_names list (places_of kind) ≡ true
+
+-- what the page calls the names of a list
+abbrev pub list_name : NameList → List ℕ
+list_name Worlds = codes "WORLD.."
+list_name Brains = codes "BRAIN.."

@@ -1,13 +1,13 @@
 // The option `--far`, to a reader that doesn't know it.
 ghost use Rattle.std.specs.Prelude.{IfErr, IfOk, min, true, ◌≡◌};
-ghost use Rattle.command_words.specs.Command.{IsCommand, IsRefusedAt, PlainCommand, plain};
+ghost use Rattle.command_words.specs.Command.{IsCommand, IsRefusedAt, PlainAsked, plain};
 ghost use Rattle.command_words.specs.Inner.Fronts.{words_before};
 ghost use Rattle.command_words.specs.Far.{is_far_run, words_without_far};
 ghost use Rattle.command_words.specs.Words.{texts};
 
 use crate::read::read_words;
 use crate::walk::is_among;
-use crate::{Choice, Command, CommandKind, Refused};
+use crate::{Asked, Choice, CommandKind, Refused};
 
 /// Whether the first word is `run`, and `--far` stands among the others, right or wrong.
 #[tactic(auto, unfolding(crate::specs::Command::is_among))]
@@ -22,10 +22,10 @@ pub fn is_far_run(words: &[String]) -> bool
 
 /// The same as `read_words`, but that `--far` is no option: the first `--far` of a `run` is refused, unless a word before it is. It takes no
 /// memory.
-pub fn read_words_without_far<'w>(words: &'w [String]) -> Result<Command<'w>, Refused>
-    ensures command { IfOk result (λ command. IsCommand (words_without_far (texts words.now)) (plain command)) }
+pub fn read_words_without_far<'w>(words: &'w [String]) -> Result<Asked<'w>, Refused>
+    ensures command { IfOk result (λ asked. IsCommand (words_without_far (texts words.now)) (plain asked)) }
     ensures refused { IfErr result (λ refused. IsRefusedAt (words_without_far (texts words.now)) refused.word) }
-    ensures none { IfErr result (λ _. (command : PlainCommand) → ¬ IsCommand (words_without_far (texts words.now)) command) }
+    ensures none { IfErr result (λ _. (asked : PlainAsked) → ¬ IsCommand (words_without_far (texts words.now)) asked) }
 {
     if is_far_run(words) {
         Err(refused_far(words))

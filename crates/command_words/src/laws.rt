@@ -1,6 +1,6 @@
 // What holds of all words, as laws of their definitions. Each call does nothing: its clause is the law.
 ghost use Rattle.command_words.specs.Far.{RefusesFar};
-ghost use Rattle.command_words.specs.Laws.{AnyOrder, FrontBegins, NeverBoth, OneCommand, OneOfBoth, OneRefusedWord, WithinLimits};
+ghost use Rattle.command_words.specs.Laws.{AnyOrder, FrontBegins, NeverBoth, OneCommand, OneOfBoth, OneRefusedWord, SaysItsWords, WithinLimits};
 
 /// Some words are at most one command.
 pub fn one_command()
@@ -32,8 +32,7 @@ pub fn any_order()
     ensures { AnyOrder }
 {}
 
-/// Each number of a command is within the limits of its kind, those of a list of rounds too; a cup has 1 to 16 worlds, and 2 to 16
-/// different brains.
+/// Each number that is asked for is within the limits of its kind, those of a list of rounds too, and the names of each list are as many as it asks for.
 pub fn within_limits()
     ensures { WithinLimits }
 {}
@@ -41,4 +40,9 @@ pub fn within_limits()
 /// To a reader that doesn't know `--far`, a run among whose words it stands is no command, and all other words are as they are.
 pub fn refuses_far()
     ensures { RefusesFar }
+{}
+
+/// What is asked for stands among the words; what holds without an option is what the table says.
+pub fn says_its_words()
+    ensures { SaysItsWords }
 {}

@@ -1,15 +1,16 @@
 //! The words of the program's command line: which words are a command, what they say, and which word is refused.
 //!
-//! `read_words` gives the command that the words are, or the first word with which they are not the beginning of any command. Both are
+//! `read_words` gives what the words ask for, or the first word with which they are not the beginning of any command. Both are
 //! relations over tables of commands, options and lists of names, a row each, and say nothing of how the words are gone over. A command
 //! or an option that no row of `kinds` or `choices` names is no command and no option. The laws say that words are one command or have
 //! one refused word, that options may stand in any order, and that numbers and names are within their limits. No call takes memory.
 //! Command lines are this project's own. This crate stands on `ant_base`, for numbers.
 #![tactic(auto)]
 
-mod command;
+mod asked;
 mod dumps;
 mod far;
+mod help;
 mod laws;
 mod limits;
 mod numbers;
@@ -21,15 +22,13 @@ mod table;
 mod values;
 mod walk;
 
-pub use command::{
-    AskedGame, Command, CupEntry, FileNames, GenShape, Refused, ResumeOptions, RunOptions,
-    TracedGame, ViewedGame,
-};
+pub use asked::{Asked, Refused};
 pub use dumps::DumpWord;
 pub use far::{is_far_run, read_words_without_far};
+pub use help::TablePage;
 pub use laws::{
     any_order, front_begins, never_both, one_command, one_of_both, one_refused_word, refuses_far,
-    within_limits,
+    says_its_words, within_limits,
 };
 pub use limits::NumberKind;
 pub use numbers::Numbers;

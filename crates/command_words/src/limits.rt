@@ -1,6 +1,6 @@
 // The numbers that words may say.
 ghost use Rattle.std.specs.Prelude.{◌≡◌, ◌<◌, ◌≤◌, IfSome};
-ghost use Rattle.command_words.specs.Limits.{least_of, most_of, number_in};
+ghost use Rattle.command_words.specs.Limits.{least_of, most_of, name_of, number_in};
 
 use ant_base::read_number_within;
 
@@ -30,7 +30,7 @@ pub enum NumberKind {
 }
 
 impl NumberKind {
-    fn least(self) -> u64
+    pub(crate) fn least(self) -> u32
         ensures { result ≡ least_of self }
     {
         match self {
@@ -47,7 +47,7 @@ impl NumberKind {
         }
     }
 
-    fn most(self) -> u64
+    pub(crate) fn most(self) -> u64
         ensures most { result ≡ most_of self }
         ensures small { result < 4294967296 }
     {
@@ -65,12 +65,25 @@ impl NumberKind {
         }
     }
 
+    // What the page of `--help` calls one that stands at a place.
+    pub(crate) fn name(self) -> &'static str
+        ensures { result.now ≡ name_of self }
+    {
+        match self {
+            NumberKind::SeedNumber => "SEED",
+            NumberKind::RoundCount => "ROUNDS",
+            NumberKind::WorkerCount => "WORKERS",
+            NumberKind::AntId => "ID",
+            _ => "N",
+        }
+    }
+
     // The number that a word says.
     pub(crate) fn read(self, word: &[u8]) -> Option<u32>
         ensures number { result ≡ number_in self word.now }
         ensures within { IfSome result (λ number. number ≤ most_of self) }
     {
-        let number = read_number_within(word, self.least(), self.most())?;
+        let number = read_number_within(word, self.least() as u64, self.most())?;
         Some(number as u32)
     }
 }

@@ -1,6 +1,6 @@
 // The commands, their options and their lists of names, a row each.
-ghost use Rattle.std.specs.Prelude.{◌≡◌, true, false};
-ghost use Rattle.command_words.specs.Table.{choices_of, fewest_names, is_needed, keyword_of, kinds, must_differ, option_of, places_of, values_of, word_of};
+ghost use Rattle.std.specs.Prelude.{◌≡◌, [], true, false};
+ghost use Rattle.command_words.specs.Table.{about_of, choices_of, default_of, fewest_names, help_row, is_needed, keyword_of, kinds, list_name, must_differ, option_of, options, places_of, values_of, word_of};
 
 use crate::{NumberKind, Place, Slot};
 
@@ -93,55 +93,41 @@ pub enum NameList {
 
 pub(crate) const MOST_NAMES: usize = 16;
 
-// What holds where a number's option isn't given.
-pub(crate) const DEFAULT_WORKERS: u32 = 1;
-
 /// How many turns a window has where no option says it: 16,384, which is a whole round.
 pub const DEFAULT_WINDOW: u32 = 16_384;
-
-pub(crate) const DEFAULT_SURROUND: u8 = 5;
-
-pub(crate) const DEFAULT_CORPSE: u8 = 3;
-
-pub(crate) const DEFAULT_REST: u8 = 14;
-
-pub(crate) const DEFAULT_SIDE: u16 = 150;
-
-pub(crate) const DEFAULT_ROCKS: u8 = 14;
-
-pub(crate) const DEFAULT_BLOBS: u8 = 11;
-
-pub(crate) const DEFAULT_FROM: u32 = 0;
 
 pub(crate) fn kinds() -> &'static [CommandKind]
     ensures { result.now ≡ kinds }
 {
     &[
-        CommandKind::Show,
-        CommandKind::Brain,
-        CommandKind::Minimise,
         CommandKind::Run,
-        CommandKind::Gen,
-        CommandKind::Cup,
-        CommandKind::View,
-        CommandKind::Workload,
-        CommandKind::Help,
-        CommandKind::HelpWord,
-        CommandKind::Version,
-        CommandKind::Asm,
         CommandKind::Save,
         CommandKind::Resume,
+        CommandKind::View,
         CommandKind::Trace,
+        CommandKind::Cup,
+        CommandKind::Workload,
+        CommandKind::Show,
+        CommandKind::Gen,
+        CommandKind::Brain,
+        CommandKind::Minimise,
         CommandKind::Same,
+        CommandKind::Asm,
+        CommandKind::HelpWord,
+        CommandKind::Help,
+        CommandKind::Version,
     ]
 }
 
-// A command: its first word, what stands after that, and the options that may follow.
+// A command: its first word, what stands after that, and the options that may follow; and of the page of `--help` its places by name,
+// each behind a space, and a sentence.
 #[derive(Clone, Copy)]
 struct CommandRow {
     word: &'static str,
     places: &'static [Place],
     choices: &'static [Choice],
+    names: &'static str,
+    says: &'static str,
 }
 
 const FILE: Place = Place::Word(Slot::FileName);
@@ -153,22 +139,30 @@ impl CommandKind {
         ensures word { result.word.now ≡ word_of self }
         ensures places { result.places.now ≡ places_of self }
         ensures choices { result.choices.now ≡ choices_of self }
+        ensures names { result.names.now ≡ (help_row self).names }
+        ensures says { result.says.now ≡ (help_row self).says }
     {
         match self {
             CommandKind::Show => CommandRow {
                 word: "show",
                 places: &[FILE, SEED],
                 choices: &[],
+                names: " WORLD SEED",
+                says: "prints a world as it is at the start of a game",
             },
             CommandKind::Brain => CommandRow {
                 word: "brain",
                 places: &[FILE],
                 choices: &[],
+                names: " FILE",
+                says: "checks a brain, and prints it with one instruction a line",
             },
             CommandKind::Minimise => CommandRow {
                 word: "minimise",
                 places: &[FILE],
                 choices: &[Choice::States],
+                names: " FILE",
+                says: "merges equivalent states of a brain, and keeps what state 0 leads to",
             },
             CommandKind::Run => CommandRow {
                 word: "run",
@@ -185,11 +179,15 @@ impl CommandKind {
                     Choice::Stats,
                     Choice::Far,
                 ],
+                names: " WORLD RED BLACK",
+                says: "plays a game between two brains, and prints its score",
             },
             CommandKind::Gen => CommandRow {
                 word: "gen",
                 places: &[SEED],
                 choices: &[Choice::Width, Choice::Height, Choice::Rocks, Choice::Blobs],
+                names: " SEED",
+                says: "prints a world in the contest's manner, made from a number",
             },
             CommandKind::Cup => CommandRow {
                 word: "cup",
@@ -200,11 +198,15 @@ impl CommandKind {
                     Place::Names(NameList::Brains),
                 ],
                 choices: &[Choice::Seed, Choice::Rounds, Choice::Workers, Choice::Games],
+                names: " --worlds WORLD.. --brains BRAIN..",
+                says: "plays all games between brains on worlds, and prints their standing",
             },
             CommandKind::View => CommandRow {
                 word: "view",
                 places: &[FILE, FILE, FILE, FILE],
                 choices: &[Choice::Seed, Choice::Rounds],
+                names: " WORLD RED BLACK BREAKS",
+                says: "plays a game up to the first of its breaks, and prints the world there",
             },
             CommandKind::Workload => CommandRow {
                 word: "workload",
@@ -214,26 +216,36 @@ impl CommandKind {
                     Place::Word(Slot::Number(NumberKind::WorkerCount)),
                 ],
                 choices: &[],
+                names: " SEED ROUNDS WORKERS",
+                says: "plays the sample brain against itself on a world that gen makes",
             },
             CommandKind::Help => CommandRow {
                 word: "--help",
                 places: &[],
                 choices: &[],
+                names: "",
+                says: "prints this page",
             },
             CommandKind::HelpWord => CommandRow {
                 word: "help",
                 places: &[],
                 choices: &[],
+                names: "",
+                says: "prints this page",
             },
             CommandKind::Version => CommandRow {
                 word: "--version",
                 places: &[],
                 choices: &[],
+                names: "",
+                says: "prints the version of this program",
             },
             CommandKind::Asm => CommandRow {
                 word: "asm",
                 places: &[FILE],
                 choices: &[Choice::Labels],
+                names: " FILE",
+                says: "prints the brain of a program with labels and blocks",
             },
             CommandKind::Save => CommandRow {
                 word: "save",
@@ -247,11 +259,15 @@ impl CommandKind {
                     Choice::Corpse,
                     Choice::Rest,
                 ],
+                names: " WORLD RED BLACK",
+                says: "plays a game up to a round, and prints all that it takes to go on",
             },
             CommandKind::Resume => CommandRow {
                 word: "resume",
                 places: &[FILE],
                 choices: &[Choice::Rounds, Choice::Dump, Choice::Workers, Choice::Stats],
+                names: " SAVE",
+                says: "goes on with a saved game, and prints the rest of what run prints",
             },
             CommandKind::Trace => CommandRow {
                 word: "trace",
@@ -269,11 +285,15 @@ impl CommandKind {
                     Choice::Corpse,
                     Choice::Rest,
                 ],
+                names: " WORLD RED BLACK ID",
+                says: "plays a game, and prints where one ant is after each round",
             },
             CommandKind::Same => CommandRow {
                 word: "same",
                 places: &[FILE, FILE],
                 choices: &[],
+                names: " FILE FILE",
+                says: "says whether two brains are the same but for the numbers of their states",
             },
         }
     }
@@ -291,6 +311,20 @@ impl CommandKind {
         self.row().places
     }
 
+    // Its places by name, each behind a space.
+    pub(crate) fn names(self) -> &'static str
+        ensures { result.now ≡ (help_row self).names }
+    {
+        self.row().names
+    }
+
+    // What the page of `--help` says of it.
+    pub(crate) fn says(self) -> &'static str
+        ensures { result.now ≡ (help_row self).says }
+    {
+        self.row().says
+    }
+
     // The options that are known, and may follow.
     pub(crate) fn choices(self) -> &'static [Choice]
         ensures { result.now ≡ choices_of self }
@@ -299,95 +333,162 @@ impl CommandKind {
     }
 }
 
-// An option: its word, what stands after that, and whether a command that has the option needs it.
+pub(crate) fn options() -> &'static [Choice]
+    ensures { result.now ≡ options }
+{
+    &[
+        Choice::Seed,
+        Choice::Rounds,
+        Choice::Dump,
+        Choice::Workers,
+        Choice::Window,
+        Choice::Surround,
+        Choice::Corpse,
+        Choice::Rest,
+        Choice::From,
+        Choice::Stats,
+        Choice::Far,
+        Choice::Width,
+        Choice::Height,
+        Choice::Rocks,
+        Choice::Blobs,
+        Choice::Games,
+        Choice::States,
+        Choice::Labels,
+    ]
+}
+
+// An option: its word, what stands after that, whether a command that has the option needs it, the number that holds where it isn't given, and
+// what the page of `--help` says of it.
 #[derive(Clone, Copy)]
 struct OptionRow {
     word: &'static str,
     values: &'static [Place],
     needed: bool,
+    default: u32,
+    about: &'static str,
 }
 
-fn needed(word: &'static str, values: &'static [Place]) -> OptionRow
-    ensures { (result.word.now ≡ word.now) × (result.values.now ≡ values.now) × (result.needed ≡ true) }
+fn needed(word: &'static str, values: &'static [Place], about: &'static str) -> OptionRow
+    ensures { (result.word.now ≡ word.now) × (result.values.now ≡ values.now) × (result.needed ≡ true) × (result.default ≡ 0) × (result.about.now ≡ about.now) }
 {
     OptionRow {
         word,
         values,
         needed: true,
+        default: 0,
+        about,
     }
 }
 
-fn free(word: &'static str, values: &'static [Place]) -> OptionRow
-    ensures { (result.word.now ≡ word.now) × (result.values.now ≡ values.now) × (result.needed ≡ false) }
+fn free(
+    word: &'static str,
+    values: &'static [Place],
+    default: u32,
+    about: &'static str,
+) -> OptionRow
+    ensures { (result.word.now ≡ word.now) × (result.values.now ≡ values.now) × (result.needed ≡ false) × (result.default ≡ default) × (result.about.now ≡ about.now) }
 {
     OptionRow {
         word,
         values,
         needed: false,
+        default,
+        about,
     }
 }
+
+fn flag(word: &'static str, about: &'static str) -> OptionRow
+    ensures { (result.word.now ≡ word.now) × (result.values.now ≡ []) × (result.needed ≡ false) × (result.default ≡ 0) × (result.about.now ≡ about.now) }
+{
+    free(word, &[], 0, about)
+}
+
+const ROUNDS: Place = Place::Word(Slot::Number(NumberKind::RoundCount));
+
+const SIDE: Place = Place::Word(Slot::Number(NumberKind::SideLength));
+
+const ELEMENTS: Place = Place::Word(Slot::Number(NumberKind::ElementCount));
+
+const WORKERS: Place = Place::Word(Slot::Number(NumberKind::WorkerCount));
+
+const WINDOW: Place = Place::Word(Slot::Number(NumberKind::WindowSize));
+
+const FOES: Place = Place::Word(Slot::Number(NumberKind::FoeCount));
+
+const CORPSE: Place = Place::Word(Slot::Number(NumberKind::CorpseFood));
+
+const REST: Place = Place::Word(Slot::Number(NumberKind::RestRounds));
 
 impl Choice {
     fn row(self) -> OptionRow
         ensures word { result.word.now ≡ option_of self }
         ensures values { result.values.now ≡ values_of self }
         ensures needed { result.needed ≡ is_needed self }
+        ensures default { result.default ≡ default_of self }
+        ensures about { result.about.now ≡ about_of self }
     {
         match self {
-            Choice::Seed => needed("--seed", &[SEED]),
-            Choice::Rounds => {
-                needed(
-                    "--rounds",
-                    &[Place::Word(Slot::Number(NumberKind::RoundCount))],
-                )
-            }
-            Choice::Dump => free("--dump", &[Place::Word(Slot::Dumps)]),
-            Choice::Workers => free(
-                "--workers",
-                &[Place::Word(Slot::Number(NumberKind::WorkerCount))],
+            Choice::Seed => needed("--seed", &[SEED], "where the random numbers begin"),
+            Choice::Rounds => needed("--rounds", &[ROUNDS], "how many rounds are played"),
+            Choice::Dump => free(
+                "--dump",
+                &[Place::Word(Slot::Dumps)],
+                0,
+                "dumps after rounds: none, all, or as 0,10,100; none",
             ),
+            Choice::Workers => free("--workers", &[WORKERS], 1, "threads"),
             Choice::Window => free(
                 "--window",
-                &[Place::Word(Slot::Number(NumberKind::WindowSize))],
+                &[WINDOW],
+                DEFAULT_WINDOW,
+                "turns that are looked at ahead",
             ),
-            Choice::Surround => free(
-                "--surround",
-                &[Place::Word(Slot::Number(NumberKind::FoeCount))],
-            ),
-            Choice::Corpse => free(
-                "--corpse",
-                &[Place::Word(Slot::Number(NumberKind::CorpseFood))],
-            ),
+            Choice::Surround => free("--surround", &[FOES], 5, "foes around an ant that kill it"),
+            Choice::Corpse => free("--corpse", &[CORPSE], 3, "food that a dead ant leaves"),
             Choice::Rest => free(
                 "--rest",
-                &[Place::Word(Slot::Number(NumberKind::RestRounds))],
+                &[REST],
+                14,
+                "turns that an ant rests after a step",
             ),
-            Choice::Stats => free("--stats", &[]),
-            Choice::Far => free("--far", &[]),
-            Choice::Width => free(
-                "--width",
-                &[Place::Word(Slot::Number(NumberKind::SideLength))],
+            Choice::Stats => flag("--stats", "adds the counts of turns and looks"),
+            Choice::Far => flag(
+                "--far",
+                "keeps the workers for the whole game, and sends them their jobs",
             ),
-            Choice::Height => free(
-                "--height",
-                &[Place::Word(Slot::Number(NumberKind::SideLength))],
+            Choice::Width => free("--width", &[SIDE], 150, "cells of a row"),
+            Choice::Height => free("--height", &[SIDE], 150, "rows"),
+            Choice::Rocks => free("--rocks", &[ELEMENTS], 14, "rocks that are placed"),
+            Choice::Blobs => free("--blobs", &[ELEMENTS], 11, "heaps of food that are placed"),
+            Choice::From => free("--from", &[ROUNDS], 0, "the first round that is told"),
+            Choice::Labels => flag(
+                "--labels",
+                "prints which state each label leads to, not the brain",
             ),
-            Choice::Rocks => free(
-                "--rocks",
-                &[Place::Word(Slot::Number(NumberKind::ElementCount))],
+            Choice::States => flag(
+                "--states",
+                "prints the new number of each state, not the brain",
             ),
-            Choice::Blobs => free(
-                "--blobs",
-                &[Place::Word(Slot::Number(NumberKind::ElementCount))],
+            Choice::Games => flag(
+                "--games",
+                "prints the line of each game before the standing",
             ),
-            Choice::From => free(
-                "--from",
-                &[Place::Word(Slot::Number(NumberKind::RoundCount))],
-            ),
-            Choice::Labels => free("--labels", &[]),
-            Choice::States => free("--states", &[]),
-            Choice::Games => free("--games", &[]),
         }
+    }
+
+    // The number that holds where the option isn't given.
+    pub(crate) fn default(self) -> u32
+        ensures { result ≡ default_of self }
+    {
+        self.row().default
+    }
+
+    // What the page of `--help` says of it.
+    pub(crate) fn about(self) -> &'static str
+        ensures { result.now ≡ about_of self }
+    {
+        self.row().about
     }
 
     pub(crate) fn word(self) -> &'static str
@@ -412,6 +513,16 @@ impl Choice {
 }
 
 impl NameList {
+    // What the page of `--help` calls its names.
+    pub(crate) fn name(self) -> &'static str
+        ensures { result.now ≡ list_name self }
+    {
+        match self {
+            NameList::Worlds => "WORLD..",
+            NameList::Brains => "BRAIN..",
+        }
+    }
+
     pub(crate) fn keyword(self) -> &'static str
         ensures { result.now ≡ keyword_of self }
     {

@@ -1,12 +1,12 @@
 // Looking for what the words say.
-ghost use Rattle.std.specs.Prelude.{option_copied, option_map, slice_get, ◌<◌, ◌≡◌};
-ghost use Rattle.command_words.specs.Command.{dumps_or_none, names_front, number_needed, number_or, rest_after};
-ghost use Rattle.command_words.specs.Inner.Walk.{names_of, word_after};
-ghost use Rattle.command_words.specs.Limits.{most_of};
+ghost use Rattle.std.specs.Prelude.{option_copied, slice_get, ◌+◌, ◌≡◌};
+ghost use Rattle.command_words.specs.Command.{answers_in, dumps_said, names_front, rest_after, said, said_at, said_for, value_of};
+ghost use Rattle.command_words.specs.Inner.Walk.{names_of};
+ghost use Rattle.command_words.specs.Table.{option_of, values_of};
 ghost use Rattle.command_words.specs.Words.{plain_dumps, texts};
 
 use crate::slot::is_file_name;
-use crate::{Choice, DumpWord, NameList, NumberKind};
+use crate::{Choice, CommandKind, DumpWord, NameList, NumberKind, Place, Slot};
 
 // The word at a place, counted from 0.
 pub(crate) fn word_at<'w>(words: &'w [String], place: usize) -> Option<&'w str>
@@ -28,14 +28,14 @@ fn rest_after<'w>(text: &str, words: &'w [String]) -> &'w [String]
     &words[..0]
 }
 
-// The word after the first one that is this option's.
+// The word after the first one that is this option's; a flag has none.
 pub(crate) fn word_after<'w>(choice: Choice, words: &'w [String]) -> Option<&'w str>
-    ensures { option_copied result ≡ word_after choice (texts words.now) }
+    ensures { option_copied result ≡ value_of (values_of choice) (rest_after (option_of choice) (texts words.now)) }
 {
-    let [word, ..] = rest_after(choice.word(), words) else {
-        return None;
-    };
-    Some(word.as_str())
+    match (choice.values(), rest_after(choice.word(), words)) {
+        ([_, ..], [word, ..]) => Some(word.as_str()),
+        _ => None,
+    }
 }
 
 // The names after the first word that is this list's.
@@ -56,75 +56,57 @@ fn names_front<'w>(words: &'w [String]) -> &'w [String]
     words
 }
 
-// The number that a word says; without it there is none.
-pub(crate) fn number_needed(kind: NumberKind, word: Option<&str>) -> Option<u32>
-    ensures { result ≡ number_needed kind (option_copied word.entry) }
+// The number that a word says; without it, the default.
+fn said(kind: NumberKind, default: u32, word: Option<&str>) -> u32
+    ensures { result ≡ said kind default (option_copied word.entry) }
 {
     match word {
-        None => None,
-        Some(word) => kind.read(word.as_bytes()),
+        None => default,
+        Some(word) => kind.read(word.as_bytes()).unwrap_or(default),
     }
 }
 
-// The number that an option says; without it the default.
-pub(crate) fn number_or(
-    default: u32,
-    kind: NumberKind,
-    choice: Choice,
-    words: &[String],
-) -> Option<u32>
-    ensures { result ≡ number_or default kind (word_after choice (texts words.now)) }
+// The word of a place of a command, counted from 0.
+pub(crate) fn word_for<'w>(kind: CommandKind, words: &'w [String], place: u8) -> Option<&'w str>
+    ensures { option_copied result ≡ (answers_in kind (texts words.now)).place (place + 1) }
 {
-    match word_after(choice, words) {
-        None => Some(default),
-        Some(word) => kind.read(word.as_bytes()),
+    let number = place as usize + 1;
+    if number <= kind.places().len() {
+        word_at(words, number)
+    } else {
+        None
     }
 }
 
-// The same, of a kind below 65,536.
-pub(crate) fn side_or(
-    default: u16,
-    kind: NumberKind,
-    choice: Choice,
-    words: &[String],
-) -> Option<u16>
-    requires { most_of kind < 65536 }
-    ensures { result ≡ number_or default kind (word_after choice (texts words.now)) }
+// The number that a word at a place says; a place for something else says none.
+pub(crate) fn said_at(place: Option<Place>, word: Option<&str>) -> u32
+    ensures { result ≡ said_at place (option_copied word.entry) }
 {
-    match word_after(choice, words) {
-        None => Some(default),
-        Some(word) => {
-            let number = kind.read(word.as_bytes())?;
-            Some(number as u16)
-        }
+    match place {
+        Some(Place::Word(Slot::Number(kind))) => said(kind, kind.least(), word),
+        _ => 0,
     }
 }
 
-// The same, of a kind below 256.
-pub(crate) fn small_or(
-    default: u8,
-    kind: NumberKind,
-    choice: Choice,
-    words: &[String],
-) -> Option<u8>
-    requires { most_of kind < 256 }
-    ensures { result ≡ number_or default kind (word_after choice (texts words.now)) }
+// The number that the word after an option's says, by the option's places.
+pub(crate) fn said_for(values: &[Place], default: u32, word: Option<&str>) -> u32
+    ensures { result ≡ said_for values.now default (option_copied word.entry) }
 {
-    match word_after(choice, words) {
-        None => Some(default),
-        Some(word) => {
-            let number = kind.read(word.as_bytes())?;
-            Some(number as u8)
-        }
+    match values {
+        [Place::Word(Slot::Number(kind))] => said(*kind, default, word),
+        _ => default,
     }
 }
 
 // The dumps that a word asks for; without it there is none.
-pub(crate) fn dumps_or_none<'w>(word: Option<&'w str>) -> Option<DumpWord<'w>>
-    ensures { option_map plain_dumps result ≡ dumps_or_none (option_copied word.entry) }
+pub(crate) fn dumps_said<'w>(word: Option<&'w str>) -> DumpWord<'w>
+    ensures { plain_dumps result ≡ dumps_said (option_copied word.entry) }
 {
     match word {
-        None => Some(DumpWord::Nothing),
-        Some(word) => DumpWord::new(word.as_bytes()),
+        None => DumpWord::Nothing,
+        Some(word) => match DumpWord::new(word.as_bytes()) {
+            None => DumpWord::Nothing,
+            Some(dumps) => dumps,
+        },
     }
 }

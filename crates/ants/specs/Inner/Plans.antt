@@ -3,24 +3,21 @@ use Rattle.std.specs.Prelude.{◌≡◌, ℕ, ◌<◌, ◌≤◌, List, Option, 
 use Rattle.ant_turn.specs.Minds.{Minds}
 use Rattle.ant_turn.specs.Sheet.{sheet_of}
 use Rattle.ant_turn.specs.declared.sheet.Sheet.{Sheet as SheetNumbers}
-use Rattle.command_words.specs.Command.{PlainCommand, RunSetup}
-use Rattle.command_words.specs.Command.PlainCommand.{ResumeCommand, RunCommand, SaveCommand, WorkloadCommand}
+use Rattle.ants.specs.Setups.{RunSetup}
 use Rattle.cell_world.specs.Grid.{Grid, world_of}
-use Rattle.match_run.specs.declared.fault.PlayFault.{PlayFault}
-use Rattle.match_run.specs.declared.fault.PlayFault.TheVariants as play
+use Rattle.ant_base.specs.declared.push_fault.PushFault.{PushFault}
+use Rattle.ant_base.specs.declared.push_fault.PushFault.TheVariants as push
 use Rattle.match_run.specs.declared.plan.Plan.{Plan}
 use Rattle.match_run.specs.Counts.{whole_text}
 use Rattle.match_run.specs.Dumps.{chooses}
 use Rattle.match_run.specs.Run.{most_rounds}
 use Rattle.match_save.specs.Saved.{SavedValue}
-use Rattle.tournament.specs.declared.fault.CupFault.{CupFault}
-use Rattle.tournament.specs.declared.fault.CupFault.TheVariants as cup
 use Rattle.world_gen.specs.declared.shape.Shape.{Shape}
 use Rattle.world_gen.specs.Generated.{IsGenerated}
 use Rattle.world_gen.specs.Placing.{HasNoRoom}
-use Rattle.ants.specs.declared.run.PlannedGame.{PlannedGame}
-use Rattle.ants.specs.declared.run.Setting.{Setting}
-use Rattle.ants.specs.declared.same.Pair.{Pair}
+use Rattle.ants.specs.declared.commands.run.PlannedGame.{PlannedGame}
+use Rattle.ants.specs.declared.commands.run.Setting.{Setting}
+use Rattle.ants.specs.declared.commands.same.Pair.{Pair}
 use Rattle.ants.specs.declared.stop.FileFault.TheVariants.{AlreadyAt}
 use Rattle.ants.specs.declared.stop.CommandStop.{CommandStop}
 use Rattle.ants.specs.declared.stop.CommandStop.TheVariants as stop
@@ -43,25 +40,15 @@ pub record CanPlay (plan : Plan) : Type 0 where
   pub few : plan.rounds ≤ most_rounds
   pub sized : 1 ≤ plan.window
 
--- the stop of a play that stopped
-abbrev pub stop_of : PlayFault → CommandStop
-stop_of play.WriteFault = stop.Write
-stop_of play.OutOfMemory = stop.Memory
+-- the stop of a game or a cup whose text wasn't pushed whole
+abbrev pub stop_of : PushFault → CommandStop
+stop_of push.WriteFault = stop.Write
+stop_of push.OutOfMemory = stop.Memory
 
--- why a command stopped that played a game last, if it did
-abbrev pub play_ending : {A : Type 0} → Result A PlayFault → Option Reason
+-- why a command stopped that pushed the text of a game or a cup last, if it did
+abbrev pub play_ending : {A : Type 0} → Result A PushFault → Option Reason
 play_ending (Ok done) = None
 play_ending (Err fault) = Some (reason_of (stop_of fault))
-
--- the stop of a cup whose games are told
-abbrev pub cup_stop_of : CupFault → CommandStop
-cup_stop_of cup.WriteFault = stop.Write
-cup_stop_of cup.OutOfMemory = stop.Memory
-
--- why a command stopped that told such a cup last, if it did
-abbrev pub cup_ending : {A : Type 0} → Result A CupFault → Option Reason
-cup_ending (Ok done) = None
-cup_ending (Err fault) = Some (reason_of (cup_stop_of fault))
 
 -- a game was planned; only memory can be wanting
 abbrev pub IsPlanned : RunSetup → Result PlannedGame CommandStop → Type 0
@@ -103,11 +90,3 @@ minds_in setting game = record { red = setting.red; black = setting.black; sheet
 abbrev pub text_in : Setting → PlannedGame → List ℕ
 text_in setting game =
     whole_text (minds_in setting game) game.plan.seed game.plan.rounds (chooses game.plan.dumps) game.plan.window game.plan.stats (world_of setting.world)
-
--- how many workers a command names for its windows; one where it plays none
-abbrev pub workers_named : PlainCommand → ℕ
-workers_named (RunCommand world red black setup) = setup.workers
-workers_named (SaveCommand world red black setup) = setup.workers
-workers_named (ResumeCommand save setup) = setup.workers
-workers_named (WorkloadCommand seed rounds workers) = workers
-workers_named command = 1

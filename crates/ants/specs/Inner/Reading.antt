@@ -13,7 +13,7 @@ use Rattle.brain_read.specs.declared.fault.BrainFault.{BrainFault}
 use Rattle.brain_read.specs.declared.fault.BrainFault.TheVariants as brain
 use Rattle.break_view.specs.declared.fault.BreakFault.{BreakFault}
 use Rattle.break_view.specs.declared.fault.BreakFault.TheVariants as breaks
-use Rattle.command_words.specs.Command.{PlainCommand}
+use Rattle.ants.specs.Job.{Job}
 use Rattle.match_save.specs.declared.fault.SaveFault.{SaveFault}
 use Rattle.match_save.specs.declared.fault.SaveFault.TheVariants as save
 use Rattle.world_read.specs.declared.fault.WorldFault.{WorldFault}
@@ -121,12 +121,12 @@ push_ending (Ok done) = None
 push_ending (Err failed) = Some AtOutput
 
 -- how a command ended: with its text, or for a reason
-abbrev pub EndsBy : PlainCommand → Outside → Outside → List Fetched → Option Reason → Type 0
+abbrev pub EndsBy : Job → Outside → Outside → List Fetched → Option Reason → Type 0
 EndsBy command before after fetches None = IsDone command before after fetches
 EndsBy command before after fetches (Some reason) = StopsFor command before after fetches reason
 
 -- a command was carried out, and ended so; it sees the shelf and the output alone, so whatever the errors hold
-pub record CarriesOut (command : PlainCommand) (shelf new_shelf : ShelfState) (out new_out : SinkState) (stop : Option Reason) : Type 0 where
+pub record CarriesOut (command : Job) (shelf new_shelf : ShelfState) (out new_out : SinkState) (stop : Option Reason) : Type 0 where
   pub fetches : List Fetched
   pub fetched : FetchesEach shelf new_shelf fetches
   pub ends : (err new_err : SinkState) → EndsBy command (outside_of shelf out err) (outside_of new_shelf new_out new_err) fetches stop

@@ -12,8 +12,9 @@ const AMBUSH: Job<'static> = Job {
     ..NO_JOB
 };
 
-// Words, and what is told of an ant: up to its death, from a round on, by other numbers of the rules, in no round, and of none that was made.
-const WAYS: [(&str, &str); 7] = [
+// Words, and what is told of an ant: up to its death, from a round on, by other numbers of the rules, where it comes to a corpse as soon as it has
+// rested, in no round, and of none that was made.
+const WAYS: [(&str, &str); 10] = [
     (
         "trace w r b 2 --seed 12345 --rounds 5",
         "random seed: 12345\nround 0: cell (3, 3): red hill; red ant of id 2, dir 0, food 0, state 0, resting 0\nround 1: dead\n",
@@ -29,6 +30,18 @@ const WAYS: [(&str, &str); 7] = [
     (
         "trace w r b 2 --surround 6 --corpse 0 --rounds 1 --from 1 --seed 12345",
         "random seed: 12345\nround 1: cell (3, 3): red hill; red ant of id 2, dir 0, food 0, state 0, resting 0\n",
+    ),
+    (
+        "trace w r b 1 --rounds 16 --from 16 --seed 12345",
+        "random seed: 12345\nround 16: cell (3, 3): 3 food; red hill; black ant of id 1, dir 0, food 0, state 0, resting 14\n",
+    ),
+    (
+        "trace w r b 1 --corpse 9 --rest 3 --rounds 5 --from 4 --seed 12345",
+        "random seed: 12345\nround 4: cell (2, 3): black ant of id 1, dir 0, food 0, state 0, resting 0\nround 5: cell (3, 3): 9 food; red hill; black ant of id 1, dir 0, food 0, state 0, resting 3\n",
+    ),
+    (
+        "trace w r b 1 --corpse 0 --rest 0 --rounds 2 --from 2 --seed 12345",
+        "random seed: 12345\nround 2: cell (3, 3): red hill; black ant of id 1, dir 0, food 0, state 0, resting 0\n",
     ),
     (
         "trace w r b 1 --rounds 1 --from 2 --seed 12345",

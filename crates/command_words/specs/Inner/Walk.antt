@@ -1,21 +1,18 @@
 -- Reading words one after another.
 use denote.Ref.{Bor}
-use Rattle.std.specs.Prelude.{ℕ, ◌+◌, Bool, true, false, not, ◌||◌, ◌&&◌, nat_le, nat_lt, Option, Some, None, Result, Ok, Err, ok_or, if◌then◌else◌, List, [], ◌∷◌, ◌++◌, length, take, drop, find, slice_get}
+use Rattle.std.specs.Prelude.{ℕ, ◌+◌, Bool, true, false, not, ◌||◌, ◌&&◌, nat_le, nat_lt, Option, Some, None, Result, Ok, Err, if◌then◌else◌, List, [], ◌∷◌, ◌++◌, length, take, drop, find}
 use Rattle.std.specs.List.{list_all}
 use Rattle.std.specs.Str.{bytes_eq}
-use Rattle.command_words.specs.declared.command.Command.{Command}
-use Rattle.command_words.specs.declared.command.FileNames.{FileNames}
-use Rattle.command_words.specs.declared.command.TracedGame.{TracedGame}
-use Rattle.command_words.specs.declared.command.Refused.{Refused}
+use Rattle.command_words.specs.declared.asked.Asked.{Asked}
+use Rattle.command_words.specs.declared.asked.Refused.{Refused}
 use Rattle.command_words.specs.declared.table.NameList.{NameList}
 use Rattle.command_words.specs.declared.slot.Place.{Place}
 use Rattle.command_words.specs.declared.slot.Place.TheVariants.{Word, Names}
 use Rattle.command_words.specs.declared.table.CommandKind.{CommandKind}
-use Rattle.command_words.specs.declared.table.CommandKind.TheVariants.{Trace}
 use Rattle.command_words.specs.declared.table.Choice.{Choice}
 use Rattle.command_words.specs.Slots.{is_file_name, fits}
 use Rattle.command_words.specs.Table.{kinds, word_of, places_of, choices_of, option_of, values_of, is_needed, keyword_of, fewest_names, most_names, must_differ}
-use Rattle.command_words.specs.Command.{PlainCommand, TraceSetup, ◌>>=◌, answers_in, command_in, first_word, is_among, names_front, plain, plain_trace, rest_after, trace_in}
+use Rattle.command_words.specs.Command.{PlainAsked, asked_in, plain, first_word, is_among, names_front, rest_after}
 
 -- the known command of this first word
 unfoldable pub command_kind_of : List ℕ → Option CommandKind
@@ -101,45 +98,24 @@ word_after choice words = first_word (rest_after (option_of choice) words)
 abbrev pub names_of : NameList → List (List ℕ) → List (List ℕ)
 names_of list words = names_front (rest_after (keyword_of list) words)
 
--- the names of a game's files, without addresses
-pub record PlainNames : Type 0 where
-  pub world : List ℕ
-  pub red : List ℕ
-  pub black : List ℕ
-
-abbrev pub plain_names : FileNames → PlainNames
-plain_names names = record { world = names.world.now; red = names.red.now; black = names.black.now }
-
--- the names of a game's files among the words
-abbrev pub names_in : List (List ℕ) → Option PlainNames
-names_in words =
-    slice_get words 1 >>= λ world. slice_get words 2 >>= λ red. slice_get words 3 >>= λ black. Some (record { world = world; red = red; black = black })
-
--- a traced game, without addresses: the names of its files, the id of its ant, and what the options say
-abbrev pub traced_of : TracedGame → PlainNames × ℕ × TraceSetup
-traced_of game = (plain_names game.names, game.id, plain_trace game)
-
-abbrev pub traced_in : PlainNames → ℕ → List (List ℕ) → Option (PlainNames × ℕ × TraceSetup)
-traced_in names id words = trace_in (answers_in Trace words) >>= λ setup. Some (names, id, setup)
-
 -- the words are a command, or are refused after the last
-abbrev pub finish : CommandKind → List (List ℕ) → Result (List Place) ℕ → Result PlainCommand ℕ
+abbrev pub finish : CommandKind → List (List ℕ) → Result (List Place) ℕ → Result PlainAsked ℕ
 finish kind words (Err number) = Err number
-finish kind words (Ok due) = if is_finished kind due words then ok_or (command_in kind (answers_in kind words)) (length words + 1) else Err (length words + 1)
+finish kind words (Ok due) = if is_finished kind due words then Ok (asked_in kind words) else Err (length words + 1)
 
 -- what the words are where the first one is that of a command
-abbrev pub read_kind : List (List ℕ) → Option CommandKind → Result PlainCommand ℕ
+abbrev pub read_kind : List (List ℕ) → Option CommandKind → Result PlainAsked ℕ
 read_kind words None = Err 1
 read_kind words (Some kind) = finish kind words (walk kind (drop 1 words) (places_of kind) [] (take 1 words))
 
 -- the command that the words are, or the number of the refused word
-abbrev pub read_of : List (List ℕ) → Result PlainCommand ℕ
+abbrev pub read_of : List (List ℕ) → Result PlainAsked ℕ
 read_of [] = Err 1
 read_of (word ∷ words) = read_kind (word ∷ words) (command_kind_of word)
 
 -- what was read, without addresses
-abbrev pub plain_result : Result Command Refused → Result PlainCommand ℕ
-plain_result (Ok command) = Ok (plain command)
+abbrev pub plain_result : Result Asked Refused → Result PlainAsked ℕ
+plain_result (Ok asked) = Ok (plain asked)
 plain_result (Err refused) = Err refused.word
 
 -- the places that are due, without addresses

@@ -8,12 +8,12 @@ use Rattle.ants.proofs.Readings.{carries_no_words, carries_words}
 use Rattle.ants.proofs.program.read_and_carry_out_far.Goals as goal
 
 pub carry_out_far-requires-clause-within : goal.carry_out_far-requires-clause-within
-carry_out_far-requires-clause-within g c κs within = within_limits (texts c.args.words.now) (plain c.in-Ok.command) c.in-Ok.ensures.command
+carry_out_far-requires-clause-within g c κs within = within_limits (texts c.args.words.now) (plain c.in-Ok.asked) c.in-Ok.ensures.command
 
 pub returns-in-Ok : goal.returns-in-Ok
 returns-in-Ok g c =
     subst (CarriesOutWords (texts c.args.words.now) (g.S.Shelf.state c.args.shelf.now) (g.S.Shelf.state c.carry_out_far.new.shelf) (g.K.Sink.state c.args.out.now) (g.K.Sink.state c.carry_out_far.new.out)) (sym c.after.ensures)
-    (carries_words (texts c.args.words.now) (plain c.in-Ok.command) (g.S.Shelf.state c.args.shelf.now) (g.S.Shelf.state c.carry_out_far.new.shelf) (g.K.Sink.state c.args.out.now) (g.K.Sink.state c.carry_out_far.new.out)
+    (carries_words (texts c.args.words.now) (plain c.in-Ok.asked) (g.S.Shelf.state c.args.shelf.now) (g.S.Shelf.state c.carry_out_far.new.shelf) (g.K.Sink.state c.args.out.now) (g.K.Sink.state c.carry_out_far.new.out)
     (ending_of c.carry_out_far.result) c.in-Ok.ensures.command c.carry_out_far.ensures)
 
 pub returns-in-Err : goal.returns-in-Err

@@ -1,0 +1,83 @@
+-- What the page of `--help` says of commands and options, and that its words are those of the table.
+use denote.Enum.Bare.{sameb}
+use Rattle.std.proofs.Common.{◌≡◌, ℕ, Bool, true, false, ◌&&◌, ◌==◌, List, [], ◌∷◌, codes, bytes_eq, refl}
+use Rattle.std.specs.Fmt.{digits}
+use Rattle.std.specs.List.{list_any, slice_split}
+use Rattle.ant_base.specs.Layout.{numbered}
+use Rattle.command_words.specs.contracts.table.Choice as option
+use Rattle.command_words.specs.declared.slot.Slot.TheVariants.{FileName, Number, Keyword}
+use Rattle.command_words.specs.declared.slot.Place.{Place}
+use Rattle.command_words.specs.declared.slot.Place.TheVariants.{Word, Names}
+use Rattle.command_words.specs.declared.table.Choice.{Choice}
+use Rattle.command_words.specs.declared.table.Choice.TheVariants.{Dump, From, Seed, Stats, Surround}
+use Rattle.command_words.specs.declared.table.CommandKind.{CommandKind}
+use Rattle.command_words.specs.declared.table.CommandKind.TheVariants.{Cup, Help, Run, Trace}
+use Rattle.command_words.specs.Help.{command_text, free_texts, has_free, more_text, needed_texts, option_line, place_lines, takes_line}
+use Rattle.command_words.specs.Limits.{name_of}
+use Rattle.command_words.specs.Table.{help_row, keyword_of, list_name, options, places_of}
+use Rattle.command_words.proofs.TableLemmas.{each_command, each_option}
+
+-- whether a word is what the page calls a place: a number and a list by their own names, a list's word by itself
+pub names_place : Place → List ℕ → Bool
+names_place (Word FileName) name = true
+names_place (Word (Number kind)) name = bytes_eq name (name_of kind)
+names_place (Word (Keyword list)) name = bytes_eq name (keyword_of list)
+names_place (Names list) name = bytes_eq name (list_name list)
+names_place place name = false
+
+-- whether words are what the page calls some places, behind an empty one
+pub name_places : List Place → List (List ℕ) → Bool
+name_places [] [] = true
+name_places (place ∷ places) (name ∷ names) = names_place place name && name_places places names
+name_places places names = false
+
+pub fits_places : CommandKind → Bool
+fits_places kind = name_places (Word FileName ∷ places_of kind) (slice_split (λ byte. byte == 32) (help_row kind).names)
+
+-- the page names each place of each command
+pub names_fit : (kind : CommandKind) → fits_places kind ≡ true
+unfolding fits_places name_places names_place
+names_fit kind = each_command fits_places refl kind
+
+-- no option is left out
+pub options_are_listed : (choice : Choice) → list_any (sameb option.the_type choice) options ≡ true
+options_are_listed choice = each_option (λ choice. list_any (sameb option.the_type choice) options) refl choice
+
+pub run_help : command_text Run ≡ codes
+    "  run WORLD RED BLACK --seed N --rounds N [OPTION]..\n      plays a game between two brains, and prints its score\n      takes --dump --workers --window --surround --corpse --rest --stats --far\n"
+unfolding command_text needed_texts more_text place_lines has_free takes_line free_texts numbered
+run_help = refl
+
+pub trace_help : command_text Trace ≡ codes
+    "  trace WORLD RED BLACK ID --seed N --rounds N [OPTION]..\n      plays a game, and prints where one ant is after each round\n      ID, 0 to 16383\n      takes --from --surround --corpse --rest\n"
+unfolding command_text needed_texts more_text place_lines has_free takes_line free_texts numbered digits
+trace_help = refl
+
+pub cup_help : command_text Cup ≡ codes
+    "  cup --worlds WORLD.. --brains BRAIN.. --seed N --rounds N [OPTION]..\n      plays all games between brains on worlds, and prints their standing\n      WORLD.., 1 to 16 names\n      BRAIN.., 2 to 16 names\n      takes --workers --games\n"
+unfolding command_text needed_texts more_text place_lines has_free takes_line free_texts numbered digits
+cup_help = refl
+
+pub help_help : command_text Help ≡ codes "  --help\n      prints this page\n"
+unfolding command_text needed_texts more_text place_lines has_free takes_line free_texts numbered
+help_help = refl
+
+pub seed_help : option_line Seed ≡ codes "  --seed N      where the random numbers begin, 0 to 4294967295; needed\n"
+unfolding option_line numbered digits
+seed_help = refl
+
+pub from_help : option_line From ≡ codes "  --from N      the first round that is told, 0 to 1000000; 0\n"
+unfolding option_line numbered digits
+from_help = refl
+
+pub surround_help : option_line Surround ≡ codes "  --surround N  foes around an ant that kill it, 4 to 6; 5\n"
+unfolding option_line numbered digits
+surround_help = refl
+
+pub dump_help : option_line Dump ≡ codes "  --dump D      dumps after rounds: none, all, or as 0,10,100; none\n"
+unfolding option_line numbered
+dump_help = refl
+
+pub stats_help : option_line Stats ≡ codes "  --stats       adds the counts of turns and looks\n"
+unfolding option_line numbered
+stats_help = refl
