@@ -1,2 +1,3 @@
+mod FirstRefused
 mod Overlaid
 mod Stops

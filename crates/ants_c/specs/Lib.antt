@@ -1,5 +1,6 @@
 pub mod Numbers
 pub mod Played
+pub mod Readable
 pub mod Refused
 pub mod Rooms
 pub mod RoomSinks
@@ -7,4 +8,5 @@ pub mod Saves
 pub mod Stops
 pub mod Texts
 pub mod Told
+pub mod Version
 pub mod Words

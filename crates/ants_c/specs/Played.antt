@@ -2,14 +2,14 @@
 use Rattle.std.specs.Prelude.{◌≡◌, ◌⊎◌, ℕ, List, ◌++◌, drop, length, map}
 use Rattle.ant_turn.specs.Minds.{contest_minds}
 use Rattle.brain_read.specs.declared.instr.Instr.{Instr}
-use Rattle.brain_read.specs.Grammar.{IsBrainText}
 use Rattle.cell_world.specs.declared.score.Score.{Score}
 use Rattle.cell_world.specs.Grid.{Grid, world_of}
 use Rattle.cell_world.specs.Score.{score_of}
 use Rattle.match_run.specs.Dumps.{has_round}
 use Rattle.match_run.specs.Run.{run_text, world_after}
-use Rattle.world_read.specs.Opened.{OpensAs, IsOpeningWorld}
+use Rattle.world_read.specs.Opened.{IsOpeningWorld}
 use Rattle.ants_c.specs.declared.score.AntsScore.{AntsScore}
+use Rattle.ants_c.specs.Readable.{GivesBrain, GivesWorld}
 use Rattle.ants_c.specs.declared.read.Setting.{Setting}
 
 -- a status is one of these: done, a number beyond its limits, no room, refused, out of memory
@@ -19,15 +19,15 @@ IsStatus status = (status ≡ 0) ⊎ ((status ≡ 2) ⊎ ((status ≡ 4) ⊎ ((s
 -- what three texts were read as
 pub record IsSetting (world red black : List ℕ) (setting : Setting) : Type 0 where
   pub opening : IsOpeningWorld setting.world
-  pub is_world : OpensAs world setting.world
-  pub is_red : IsBrainText red setting.red
-  pub is_black : IsBrainText black setting.black
+  pub is_world : GivesWorld world setting.world
+  pub is_red : GivesBrain red setting.red
+  pub is_black : GivesBrain black setting.black
 
 -- three texts are those of a world and of two brains
 pub record IsGame (world_text red_text black_text : List ℕ) (world : Grid) (red black : List Instr) : Type 0 where
-  pub is_world : OpensAs world_text world
-  pub is_red : IsBrainText red_text red
-  pub is_black : IsBrainText black_text black
+  pub is_world : GivesWorld world_text world
+  pub is_red : GivesBrain red_text red
+  pub is_black : GivesBrain black_text black
 
 -- the score as C sees it
 abbrev pub seen_score : Score → AntsScore

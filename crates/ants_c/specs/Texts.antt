@@ -1,11 +1,9 @@
 -- Which texts are answered (this project's own).
 use Rattle.std.specs.Prelude.{◌≡◌, ◌≤◌, ℕ, List, Option}
-use Rattle.ant_asm.specs.Answers.{IsAssembledText}
 use Rattle.ant_asm.specs.Places.{Address}
 use Rattle.brain_minimise.specs.Minimised.{IsMinimised}
 use Rattle.brain_read.specs.declared.instr.Instr.{Instr}
 use Rattle.brain_read.specs.Canonical.{brain_text}
-use Rattle.brain_read.specs.Grammar.{IsBrainText}
 use Rattle.brain_same.specs.declared.comparison.Comparison.{Comparison}
 use Rattle.brain_same.specs.Difference.{IsComparison}
 use Rattle.brain_same.specs.Text.{comparison_text}
@@ -15,6 +13,7 @@ use Rattle.world_gen.specs.declared.shape.Shape.{Shape}
 use Rattle.world_gen.specs.Generated.{IsGenerated}
 use Rattle.world_read.specs.Canonical.{canonical_text}
 use Rattle.world_read.specs.Opened.{kinds_of}
+use Rattle.ants_c.specs.Readable.{GivesBrain, GivesProgram}
 
 -- the canonical text of an opening world
 abbrev pub world_text : Grid → List ℕ
@@ -23,13 +22,13 @@ world_text world = canonical_text world.width world.height (kinds_of world)
 -- a text is a brain's, and this is its canonical text
 pub record IsCanonicalOf (before text : List ℕ) : Type 0 where
   pub brain : List Instr
-  pub is : IsBrainText before brain
+  pub is : GivesBrain before brain
   pub is_text : text ≡ brain_text brain
 
 -- a text is a brain's, and this is the canonical text of that brain, minimised
 pub record IsMinimisedOf (before text : List ℕ) : Type 0 where
   pub brain : List Instr
-  pub is : IsBrainText before brain
+  pub is : GivesBrain before brain
   pub minimised : List Instr
   pub map : List (Option ℕ)
   pub merged : IsMinimised brain minimised map
@@ -39,15 +38,15 @@ pub record IsMinimisedOf (before text : List ℕ) : Type 0 where
 pub record IsAssembledOf (before text : List ℕ) : Type 0 where
   pub brain : List Instr
   pub places : List Address
-  pub is : IsAssembledText before brain places
+  pub is : GivesProgram before brain places
   pub is_text : text ≡ brain_text brain
 
 -- two texts are brains', and this tells what they come to when they are compared
 pub record IsComparisonOf (first_text second_text text : List ℕ) : Type 0 where
   pub first : List Instr
   pub second : List Instr
-  pub is_first : IsBrainText first_text first
-  pub is_second : IsBrainText second_text second
+  pub is_first : GivesBrain first_text first
+  pub is_second : GivesBrain second_text second
   pub comparison : Comparison
   pub is : IsComparison first second comparison
   pub is_text : text ≡ comparison_text comparison

@@ -10,10 +10,11 @@ ghost use Rattle.std.specs.Prelude.{◌≡◌, ◌⊎◌, ◌↔◌, ◌<◌, �
 ghost use Rattle.match_run.specs.Run.{most_rounds};
 ghost use Rattle.ants_c.specs.Played.{AreScored, IsRunText, IsScored, IsStatus};
 ghost use Rattle.ants_c.specs.Refused.{IsRefusedBrain, IsRefusedGame, IsRefusedPair, IsRefusedProgram, IsRefusedSave, IsRefusedShape};
-ghost use Rattle.ants_c.specs.Rooms.{Answers, Writes};
+ghost use Rattle.ants_c.specs.Rooms.{Answers, IsPut, Writes};
 ghost use Rattle.ants_c.specs.Saves.{IsRestOf, IsSaveOf};
 ghost use Rattle.ants_c.specs.Texts.{IsAssembledOf, IsCanonicalOf, IsComparisonOf, IsGeneratedText, IsMinimisedOf, IsWithin};
 ghost use Rattle.ants_c.specs.Told.{IsTold};
+ghost use Rattle.ants_c.specs.Version.{version};
 
 mod fault;
 mod numbers;
@@ -30,6 +31,7 @@ mod shapes;
 mod status;
 mod tell;
 mod texts;
+mod version;
 
 use crate::read::{Pair, Setting, open_brain, open_pair, open_program, open_texts};
 use crate::run::put_run;
@@ -40,6 +42,7 @@ use crate::shapes::{generated, shape_of};
 use crate::status::{DONE, MEMORY, NO_ROOM, NUMBER};
 use crate::tell::stopped;
 use crate::texts::{BrainText, SaveText, put, put_world};
+use crate::version::VersionText;
 use ant_turn::{Brains, Sheet};
 use brain_minimise::minimise;
 use brain_same::compare;
@@ -47,6 +50,17 @@ pub use fault::AntsFault;
 use match_run::MOST_ROUNDS;
 pub use score::AntsScore;
 use std::alloc::Global;
+
+/// Lays the version of the library over `out`, such as `1.1.0`: what the program's `--version` prints behind `ants ` (this project's own).
+/// Returns 0 or 4, and writes for each what `ants_run` writes. This function stays as it is in each version, so that a caller who was built for
+/// another one can ask before any other call.
+#[unsafe(no_mangle)]
+pub extern "C" fn ants_version(out: &mut [u8], used: &mut usize) -> u32
+    ensures version { IsPut version out.old out.new used.new result }
+    ensures status { Writes result }
+{
+    put(&VersionText, out, used)
+}
 
 /// Plays a game by the contest's rules, turn after turn, and gives its score (the task's game play). The status is
 /// - 0: the texts are those of a world and of two brains, and the score is that of their game after so many rounds with this seed;
@@ -204,7 +218,7 @@ pub extern "C" fn ants_brain(
 }
 
 /// Lays the canonical text of a brain, minimised, over `out`: what the program's `minimise` writes below its first line (over the task's
-/// neurology). The status is 0, 4, 5 or 6, and what is written is so, as at `ants_run`.
+/// neurology). Returns 0, 4, 5 or 6, and writes for each what `ants_run` writes.
 #[unsafe(no_mangle)]
 pub extern "C" fn ants_minimise(
     alloc: Global,
@@ -231,8 +245,8 @@ pub extern "C" fn ants_minimise(
     }
 }
 
-/// Lays the canonical text of the brain that a labelled program becomes over `out`, as the program's `asm` (this project's own). The status is
-/// 0, 4, 5 or 6, and what is written is so, as at `ants_run`.
+/// Lays the canonical text of the brain that a labelled program becomes over `out`, as the program's `asm` (this project's own).
+/// Returns 0, 4, 5 or 6, and writes for each what `ants_run` writes.
 #[unsafe(no_mangle)]
 pub extern "C" fn ants_asm(
     alloc: Global,
@@ -255,8 +269,8 @@ pub extern "C" fn ants_asm(
     }
 }
 
-/// Lays `same`, or the three lines of where two brains first differ, over `out`, as the program's `same` (over the task's neurology). The
-/// status is 0, 4, 5 or 6, and what is written is so, as at `ants_run`.
+/// Lays `same`, or the three lines of where two brains first differ, over `out`, as the program's `same` (over the task's neurology).
+/// Returns 0, 4, 5 or 6, and writes for each what `ants_run` writes.
 #[unsafe(no_mangle)]
 pub extern "C" fn ants_same(
     alloc: Global,
@@ -321,7 +335,7 @@ pub extern "C" fn ants_gen(
 }
 
 /// Plays a game as `ants_score` does, and lays the text of its save after so many rounds over `out`, as the program's `save` (this project's own).
-/// The status is 0, 2, 4, 5 or 6, and what is written is so, as at `ants_run`. Nothing is written before the last round is played.
+/// Returns 0, 2, 4, 5 or 6, and writes for each what `ants_run` writes. Nothing is written before the last round is played.
 #[unsafe(no_mangle)]
 pub extern "C" fn ants_save(
     alloc: Global,

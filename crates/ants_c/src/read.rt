@@ -1,9 +1,8 @@
 // The texts of a call, read.
 ghost use Rattle.std.specs.Prelude.{◌≡◌, IfOk, IfErr};
-ghost use Rattle.ant_asm.specs.Answers.{IsAssembledText};
-ghost use Rattle.brain_read.specs.Grammar.{IsBrainText};
-ghost use Rattle.world_read.specs.Opened.{IsOpeningWorld, OpensAs};
+ghost use Rattle.world_read.specs.Opened.{IsOpeningWorld};
 ghost use Rattle.ants_c.specs.Played.{IsSetting};
+ghost use Rattle.ants_c.specs.Readable.{GivesBrain, GivesProgram, GivesWorld};
 ghost use Rattle.ants_c.specs.Refused.{IsRefusedBrain, IsRefusedGame, IsRefusedPair, IsRefusedProgram, IsRefusedWorld};
 ghost use Rattle.ants_c.specs.Stops.{brain_stop, labelled_stop, refused, world_stop};
 ghost use Rattle.ants_c.specs.Told.{StopsAt};
@@ -72,7 +71,7 @@ fn labelled_stop(fault: AsmFault) -> Stop
 #[tactic(auto, using(crate::proofs::Stops::stops_at_world))]
 fn open_world(alloc: Global, text: &[u8]) -> Result<World, Stop>
     ensures opening { IfOk result IsOpeningWorld }
-    ensures world { IfOk result (λ world. OpensAs text.now world) }
+    ensures world { IfOk result (λ world. GivesWorld text.now world) }
     ensures stop { IfErr result (λ stop. StopsAt (IsRefusedWorld text.now) stop) }
 {
     if text.len() > LONGEST {
@@ -87,7 +86,7 @@ fn open_world(alloc: Global, text: &[u8]) -> Result<World, Stop>
 /// The brain of a text, which has this number.
 #[tactic(auto, using(crate::proofs::Stops::stops_at_brain))]
 pub fn open_brain(alloc: Global, number: u32, text: &[u8]) -> Result<Brain, Stop>
-    ensures brain { IfOk result (λ brain. IsBrainText text.now brain) }
+    ensures brain { IfOk result (λ brain. GivesBrain text.now brain) }
     ensures stop { IfErr result (λ stop. StopsAt (IsRefusedBrain number text.now) stop) }
 {
     if text.len() > LONGEST {
@@ -102,7 +101,7 @@ pub fn open_brain(alloc: Global, number: u32, text: &[u8]) -> Result<Brain, Stop
 /// The brain that a labelled program becomes, with its places.
 #[tactic(auto, using(crate::proofs::Stops::stops_at_program))]
 pub fn open_program(alloc: Global, text: &[u8]) -> Result<Assembled, Stop>
-    ensures program { IfOk result (λ made. IsAssembledText text.now made.brain made.places) }
+    ensures program { IfOk result (λ made. GivesProgram text.now made.brain made.places) }
     ensures stop { IfErr result (λ stop. StopsAt (IsRefusedProgram text.now) stop) }
 {
     if text.len() > LONGEST {
@@ -129,8 +128,8 @@ pub fn open_texts(alloc: Global, world: &[u8], red: &[u8], black: &[u8]) -> Resu
 /// The brains of two texts, read in this order.
 #[tactic(auto, using(crate::proofs::Stops::stops_at_one, crate::proofs::Stops::stops_at_other))]
 pub fn open_pair(alloc: Global, first: &[u8], second: &[u8]) -> Result<Pair, Stop>
-    ensures first { IfOk result (λ pair. IsBrainText first.now pair.first) }
-    ensures second { IfOk result (λ pair. IsBrainText second.now pair.second) }
+    ensures first { IfOk result (λ pair. GivesBrain first.now pair.first) }
+    ensures second { IfOk result (λ pair. GivesBrain second.now pair.second) }
     ensures stop { IfErr result (λ stop. StopsAt (IsRefusedPair first.now second.now) stop) }
 {
     let first = open_brain(alloc, 1, first)?;

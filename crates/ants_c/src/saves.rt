@@ -4,7 +4,7 @@ ghost use Rattle.ant_base.specs.Shelf.{longest};
 ghost use Rattle.match_run.specs.Dumps.{chooses, has_round};
 ghost use Rattle.match_run.specs.Run.{most_rounds};
 ghost use Rattle.match_save.specs.Resumed.{rest_of};
-ghost use Rattle.match_save.specs.Saved.{IsSaveText};
+ghost use Rattle.ants_c.specs.Readable.{GivesSave};
 ghost use Rattle.ants_c.specs.Refused.{IsRefusedSave};
 ghost use Rattle.ants_c.specs.Rooms.{IsPut, Writes, counted, overlaid};
 ghost use Rattle.ants_c.specs.Stops.{save_stop};
@@ -33,7 +33,7 @@ fn save_stop(fault: SaveFault) -> Stop
 // The save of a text of at most 4,194,304 bytes, where at most so many rounds of it are done.
 fn read_save(alloc: Global, text: &[u8], rounds: u32) -> Result<Saved, Stop>
     requires { length text.now ≤ longest }
-    ensures saved { IfOk result (λ saved. IsSaveText text.now saved) }
+    ensures saved { IfOk result (λ saved. GivesSave text.now saved) }
     ensures round { IfOk result (λ saved. saved.round ≤ rounds) }
     ensures stop { IfErr result (λ stop. StopsAt (IsRefusedSave rounds text.now) stop) }
 {
@@ -50,7 +50,7 @@ fn read_save(alloc: Global, text: &[u8], rounds: u32) -> Result<Saved, Stop>
 
 /// The save of a text, where at most so many rounds of it are done.
 pub fn open_save(alloc: Global, text: &[u8], rounds: u32) -> Result<Saved, Stop>
-    ensures saved { IfOk result (λ saved. IsSaveText text.now saved) }
+    ensures saved { IfOk result (λ saved. GivesSave text.now saved) }
     ensures round { IfOk result (λ saved. saved.round ≤ rounds) }
     ensures stop { IfErr result (λ stop. StopsAt (IsRefusedSave rounds text.now) stop) }
 {

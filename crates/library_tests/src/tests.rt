@@ -1,4 +1,5 @@
 // Each file has tests of one library, by what it calls; some libraries have several files.
+mod boards;
 mod brains;
 mod comparisons;
 mod conditions;
@@ -15,6 +16,7 @@ mod saves;
 mod standing_workers;
 mod stopped_games;
 mod stream_sinks;
+mod tellings;
 mod traces;
 mod turns;
 mod world_files;

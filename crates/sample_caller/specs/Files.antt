@@ -1,18 +1,21 @@
 -- What comes of a file: it is fetched once, and its bytes are those of a world or of a brain, or it is refused (this project's own).
 use Rattle.std.specs.Prelude.{◌≡◌, ℕ, ◌≤◌, List, [], ◌∷◌, ◌++◌, length, Result, Ok, Err, Vec, codes}
+use Rattle.ant_base.specs.Answers.{IsFaultOr}
 use Rattle.ant_base.specs.Fetched.{Fetched}
 use Rattle.ant_base.specs.FaultText.{fetch_fault_text}
 use Rattle.ant_base.specs.Layout.{◌+++◌}
 use Rattle.ant_base.specs.Shelf.{longest}
 use Rattle.ant_base.specs.declared.shelf.FetchFault.{FetchFault}
-use Rattle.brain_read.specs.Answers.{IsFaultOf as IsFaultOfBrain}
+use Rattle.brain_read.specs.Faulty.{IsBrainFault}
 use Rattle.brain_read.specs.FaultText.{brain_fault_text}
 use Rattle.brain_read.specs.Grammar.{IsBrainText}
+use Rattle.brain_read.specs.declared.fault.BrainFault.TheVariants as brain
 use Rattle.brain_read.specs.declared.instr.Instr.{Instr}
 use Rattle.cell_world.specs.Grid.{Grid}
-use Rattle.world_read.specs.Answers.{IsFaultOf as IsFaultOfWorld}
+use Rattle.world_read.specs.Faulty.{IsWorldFault}
 use Rattle.world_read.specs.FaultText.{world_fault_text}
 use Rattle.world_read.specs.Opened.{OpensAs}
+use Rattle.world_read.specs.declared.fault.WorldFault.TheVariants as world
 use Rattle.sample_caller.specs.declared.refusal.FileFault.{FileFault}
 use Rattle.sample_caller.specs.declared.refusal.FileFault.TheVariants.{Fetch, World, Brain}
 use Rattle.sample_caller.specs.declared.refusal.Refusal.{Refusal}
@@ -45,14 +48,14 @@ IsFaultOfFetch log new_log name (Brain fault) = ⊥
 -- the fault of bytes that are those of no world; out of memory may be that of any bytes
 abbrev pub IsWorldsFault : List ℕ → FileFault → Type 0
 IsWorldsFault bytes (Fetch fault) = ⊥
-IsWorldsFault bytes (World fault) = IsFaultOfWorld bytes fault
+IsWorldsFault bytes (World fault) = IsFaultOr world.OutOfMemory (IsWorldFault bytes) fault
 IsWorldsFault bytes (Brain fault) = ⊥
 
 -- the fault of bytes that are those of no brain
 abbrev pub IsBrainsFault : List ℕ → FileFault → Type 0
 IsBrainsFault bytes (Fetch fault) = ⊥
 IsBrainsFault bytes (World fault) = ⊥
-IsBrainsFault bytes (Brain fault) = IsFaultOfBrain bytes fault
+IsBrainsFault bytes (Brain fault) = IsFaultOr brain.OutOfMemory (IsBrainFault bytes) fault
 
 -- a file was fetched: its bytes, or the refusal for want of them
 abbrev pub FetchesFile : {A : Type 0} → List Fetched → List Fetched → List ℕ → Result (Vec ℕ A) Refusal → Type 0

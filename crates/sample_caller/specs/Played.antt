@@ -1,18 +1,14 @@
 -- What comes of a game of three files (this project's own).
-use Rattle.std.specs.Prelude.{◌≡◌, ◌⊎◌, ℕ, List, Result, Ok, Err, codes}
+use Rattle.std.specs.Prelude.{◌≡◌, ℕ, List, Result, Ok, Err, codes}
 use Rattle.ant_base.specs.Fetched.{Fetched}
 use Rattle.ant_base.specs.Layout.{◌+++◌}
 use Rattle.ant_turn.specs.Minds.{contest_minds}
-use Rattle.brain_read.specs.declared.fault.BrainFault.TheVariants as brain
 use Rattle.brain_read.specs.declared.instr.Instr.{Instr}
 use Rattle.cell_world.specs.declared.score.Score.{Score}
 use Rattle.cell_world.specs.Grid.{Grid, world_of}
 use Rattle.cell_world.specs.Score.{score_of}
 use Rattle.dump_print.specs.Texts.{score_text}
 use Rattle.match_run.specs.Run.{world_after}
-use Rattle.world_read.specs.declared.fault.WorldFault.TheVariants as world
-use Rattle.sample_caller.specs.declared.refusal.FileFault.{FileFault}
-use Rattle.sample_caller.specs.declared.refusal.FileFault.TheVariants.{Fetch, World, Brain}
 use Rattle.sample_caller.specs.declared.refusal.Refusal.{Refusal}
 use Rattle.sample_caller.specs.Files.{ReadsBrain, ReadsWorld, refusal_text}
 
@@ -36,21 +32,3 @@ pub data PlaysFiles (log new_log : List Fetched) (world red black : List ℕ) (r
 abbrev pub outcome_text : Result Score Refusal → List ℕ
 outcome_text (Ok score) = score_text score
 outcome_text (Err refusal) = refusal_text refusal.name.now refusal.fault +++ codes "\n"
-
--- memory was wanting while bytes were read, which says nothing of them; that a fetch wanted it is told by the log
-abbrev pub IsWanting : FileFault → Type 0
-IsWanting (Fetch fault) = ⊥
-IsWanting (World fault) = fault ≡ world.OutOfMemory
-IsWanting (Brain fault) = fault ≡ brain.OutOfMemory
-
--- two results are one: the same value, or the same fault of the same file; or memory was wanting for one of them
-abbrev pub AreOne : {A : Type 0} → Result A Refusal → Result A Refusal → Type 0
-AreOne (Ok a) (Ok b) = a ≡ b
-AreOne (Ok a) (Err b) = IsWanting b.fault
-AreOne (Err a) (Ok b) = IsWanting a.fault
-AreOne (Err a) (Err b) = ((a.name.now ≡ b.name.now) × (a.fault ≡ b.fault)) ⊎ (IsWanting a.fault ⊎ IsWanting b.fault)
-
--- what is answered to the fetches decides what comes of a game: where the log is the same, so is the outcome
-abbrev pub OneOutcome : Type 0
-OneOutcome = (log new_log : List Fetched) (world red black : List ℕ) (rounds : ℕ) (a b : Result Score Refusal)
-    → PlaysFiles log new_log world red black rounds a → PlaysFiles log new_log world red black rounds b → AreOne a b

@@ -52,19 +52,18 @@ pub fn small_fetcher(alloc: Global) -> Result<Minimised, OutOfMemory>
     minimise(alloc, &brain)
 }
 
-/// The score after so many rounds, at most 1,000,000, by the contest's rules and with seed 12345, where both sides play by the fetcher. It
-/// plays its minimised brain; the score is that of the game of the fetcher itself. The world is one with which a game begins. It is refused
-/// only when out of memory.
-pub fn play_fetchers(alloc: Global, world: World, rounds: u32) -> Result<Score, OutOfMemory>
+/// The score after so many rounds, at most 1,000,000, by the contest's rules and with seed 12345, where both sides play by this minimised
+/// fetcher: it is that of the game where both play by the fetcher itself. The world is one with which a game begins. It takes no memory.
+pub fn play_fetchers(small: &Minimised, world: World, rounds: u32) -> Score
+    requires minimised { IsMinimised fetcher small.now.brain small.now.map }
     requires opening { IsOpeningWorld world }
     requires few { rounds ≤ most_rounds }
-    ensures { IfOk result (λ score. score ≡ score_of (world_after (contest_minds fetcher fetcher) sample_seed (world_of world) rounds)) }
+    ensures { result ≡ score_of (world_after (contest_minds fetcher fetcher) sample_seed (world_of world) rounds) }
 {
-    let small = small_fetcher(alloc)?;
     let brains = Brains {
         red: &small.brain,
         black: &small.brain,
         sheet: Sheet::contest(),
     };
-    Ok(play_score(world, brains, SEED, rounds))
+    play_score(world, brains, SEED, rounds)
 }

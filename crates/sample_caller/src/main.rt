@@ -7,14 +7,13 @@
 
 mod fetcher;
 mod files;
-mod laws;
 mod played;
 mod refusal;
 #[cfg(test)]
 mod tests;
 mod watched;
 
-use crate::fetcher::{fetcher, play_fetchers};
+use crate::fetcher::{fetcher, play_fetchers, small_fetcher};
 use crate::played::{play, push_outcome};
 use crate::watched::first_laden;
 use ant_base::{FileShelf, Layout, OutSink, Shelf, Sink, layout, read_u32_within};
@@ -54,7 +53,8 @@ fn play_words<S: Shelf, K: Sink>(
 // Prints the score of fetchers in the corridor, and after which round its ant carries food.
 fn show_fetchers<K: Sink>(alloc: Global, out: &mut K) -> Result<()> {
     let world = read_world(alloc, CORRIDOR.as_bytes())?;
-    push_score(play_fetchers(alloc, world, ROUNDS)?, out)?;
+    let small = small_fetcher(alloc)?;
+    push_score(play_fetchers(&small, world, ROUNDS), out)?;
     let world = read_world(alloc, CORRIDOR.as_bytes())?;
     let brain = fetcher(alloc)?;
     let brains = Brains {

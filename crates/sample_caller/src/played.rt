@@ -21,7 +21,7 @@ pub const SEED: u32 = 12345;
 ///
 /// It is refused at the first file that wasn't fetched, or whose bytes are those of no world or no brain; the refusal has that file's name
 /// and its fault. The files are fetched once each, in the order of the parameters: those before the refused one were opened, and none behind
-/// it is fetched. Out of memory may be the fault of any file; every other outcome follows from what is fetched alone: the law `one_outcome`.
+/// it is fetched. Out of memory may be the fault of any file.
 pub fn play<'n, S: Shelf>(
     alloc: Global,
     shelf: &mut S,

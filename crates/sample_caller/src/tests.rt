@@ -87,9 +87,10 @@ fn corridor<R: Abort>(rt: &R, alloc: Global) -> World
 #[test]
 fn fetchers_bring_food_home(rt: HostRuntime) -> Result<(), Fail> {
     let alloc = rt.alloc();
-    assert_eq!(rt; small_fetcher(alloc)?.brain.len(), 5);
+    let small = small_fetcher(alloc)?;
+    assert_eq!(rt; small.brain.len(), 5);
     for (rounds, red) in [(109, 0), (110, 1)] {
-        let score = play_fetchers(alloc, corridor(&rt, alloc), rounds)?;
+        let score = play_fetchers(&small, corridor(&rt, alloc), rounds);
         assert_eq!(rt; score.red, red, "after {rounds} rounds");
     }
     Ok(())

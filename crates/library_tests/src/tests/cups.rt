@@ -10,7 +10,7 @@ use std::process::Abort;
 use std::sync::atomic::{AtomicBool, Ordering};
 use std::test::Fail;
 use std::thread::Threads;
-use tournament::{Added, CupFault, Names, Referee, play_all, push_standing, tell_cup};
+use tournament::{Added, Names, PushFault, Referee, play_all, push_standing, tell_cup};
 
 // More bytes than any text of these tests has.
 const ROOM: u64 = 2000;
@@ -193,7 +193,7 @@ fn check_told<R: Threads + Sync + Abort, F: Referee>(
     referee: &F,
     worlds: &[&str],
     text: &str,
-    end: Result<(), CupFault>,
+    end: Result<(), PushFault>,
 ) -> Result<(), Fail>
     requires { (world red black : ℕ) → F.knows referee.now world red black }
 {
@@ -242,7 +242,7 @@ fn the_games_on_the_worlds_before_are_told_where_one_is_refused(
         &FirstWorldAlone,
         &["w", "v"],
         "game 1: red 5 black 5, w, a, b\ngame 2: red 5 black 5, w, b, a\n",
-        Err(CupFault::OutOfMemory),
+        Err(PushFault::OutOfMemory),
     )
 }
 

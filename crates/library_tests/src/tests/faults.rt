@@ -1,13 +1,14 @@
-// What no clause says: that a fault is displayed, the longest too.
+// What no clause says: that a value of each type that is displayed is, the longest text too.
 use ant_asm::AsmFault;
 use ant_base::{Failed, FetchFault, OutOfMemory};
 use brain_read::BrainFault;
+use break_view::BreakFault;
+use command_words::Refused;
 use line_tokens::{LineFault, Refusal};
 use match_run::PlayFault;
-use match_save::SaveFault;
+use match_save::{AlreadyAt, SaveFault};
 use std::alloc::Global;
 use std::fmt;
-use tournament::CupFault;
 use world_gen::GenFault;
 use world_read::WorldFault;
 
@@ -38,14 +39,16 @@ fn faults_are_displayed(rt: HostRuntime) {
         says(alloc, &Failed, "output failed"),
         says(alloc, &OutOfMemory, "out of memory"),
         says(alloc, &PlayFault::WriteFault, "output failed"),
-        says(alloc, &CupFault::OutOfMemory, "out of memory"),
+        says(alloc, &PlayFault::OutOfMemory, "out of memory"),
         says(
             alloc,
             &GenFault::NoRoom { element: 13 },
             "no room for element 13",
         ),
+        says(alloc, &AlreadyAt(60), "already at round 60"),
+        says(alloc, &Refused { word: 42 }, "word 42 refused"),
     ];
-    assert_eq!(rt; low, [true; 7]);
+    assert_eq!(rt; low, [true; 9]);
 }
 
 #[test]
@@ -75,6 +78,11 @@ fn faults_of_texts_are_displayed(rt: HostRuntime) {
             "line 7: wrong number of labels",
         ),
         says(alloc, &SaveFault::BadLine { line: 3 }, "line 3: not a save"),
+        says(
+            alloc,
+            &BreakFault::TooMany { line: 257 },
+            "line 257: too many breaks",
+        ),
     ];
-    assert_eq!(rt; texts, [true; 7]);
+    assert_eq!(rt; texts, [true; 8]);
 }

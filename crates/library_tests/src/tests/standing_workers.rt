@@ -39,7 +39,7 @@ const FLIPS: &str = "Flip 2 0 0";
 
 pub(crate) const MOVES: &str = "Move 0 0";
 
-const SEED: u32 = 12345;
+pub(crate) const SEED: u32 = 12345;
 
 // The guesses of the seven turns: each red ant draws, and no black one.
 const GUESSES: [u64; 7] = [0, 0, 0, 1, 1, 2, 2];
@@ -155,7 +155,7 @@ fn field_in<'b, R: Abort>(
 }
 
 // A whole field at the start of the game.
-fn field_of<'b, R: Abort>(
+pub(crate) fn field_of<'b, R: Abort>(
     rt: &R,
     alloc: Global,
     players: &'b Players,

@@ -12,14 +12,14 @@ use Rattle.sample_caller.proofs.fetcher.play_fetchers.Goals as goal
 
 pub play_score-requires-clause-fit : goal.play_score-requires-clause-fit
 play_score-requires-clause-fit c =
-    let small = c.in_ok-small.small in
-    let some = some-minimised fetcher small.brain small.map c.in_ok-small.ensures in
+    let small = c.args.small.now in
+    let some = some-minimised fetcher small.brain small.map c.requires.minimised in
     Fits-opened c.args.world _ c.requires.opening some some
 
 pub returns : goal.returns
 returns c =
-    let small = c.in_ok-small.small in
+    let small = c.args.small.now in
     let minds : Sheet → Minds = λ sheet. record { red = small.brain; black = small.brain; sheet = sheet } in
     c.play_score.ensures
     ∙ ap (λ (sheet : Sheet). score_of (world_after (minds sheet) sample_seed (world_of c.args.world) c.args.rounds)) c.contest.ensures
-    ∙ score-of-both c.args.world fetcher small.brain small.map sample_seed c.args.rounds c.requires.opening c.in_ok-small.ensures
+    ∙ score-of-both c.args.world fetcher small.brain small.map sample_seed c.args.rounds c.requires.opening c.requires.minimised

@@ -1,0 +1,20 @@
+// The version of the library.
+ghost use Rattle.ants_c.specs.Version.{version};
+
+use ant_base::{Failed, Layout, Sink};
+
+/// The version of this source, which is the program's: three numbers, and `-dev` behind them where it is of no release (this project's own).
+pub const VERSION: &str = "1.1.0";
+
+/// The text of the version.
+#[derive(Clone, Copy)]
+pub struct VersionText;
+
+impl Layout for VersionText {
+    ghost text = { λ _. version };
+
+    #[tactic(auto, unfolding(crate::specs::Version::version))]
+    fn push_to<K: Sink>(&self, sink: &mut K) -> Result<(), Failed> {
+        VERSION.push_to(sink)
+    }
+}
