@@ -63,7 +63,7 @@ struct rooms {
 
 static const uint32_t seeds[3] = {12345, 7, 0}, dumps[3] = {20, 0, 7};
 
-enum { SAVE = 8, RESUME = 9, CALLS = 19 };
+enum { SAVE = 8, CALLS = 19 };
 static const char *const names[CALLS] = {
     "score", "scores", "run", "brain", "minimise", "asm", "same", "gen", "save", "resume",
     "score of a wrong brain", "run with little room", "brain with no room", "a wrong brain", "a wrong program", "same of a wrong brain",
@@ -81,7 +81,7 @@ static uint32_t call(int which, struct rooms *rooms) {
     case 6: return ants_same(T(red), T(black), OUT(ROOM));
     case 7: return ants_gen(12345, 60, 60, 3, 1, OUT(ROOM));
     case SAVE: return ants_save(T(world), T(red), T(black), 12345, 20, OUT(ROOM));
-    case RESUME: return ants_resume(T(save), 40, dumps, 3, OUT(ROOM));
+    case 9: return ants_resume(T(save), 40, dumps, 3, OUT(ROOM));
     case 10: return ants_score(T(world), T(red), T(wrong), 12345, 20, rooms->scores, FAULT);
     case 11: return ants_run(T(world), T(red), T(black), 12345, 20, dumps, 3, OUT(9));
     case 12: return ants_brain(T(red), OUT(0));
@@ -107,14 +107,6 @@ static void say(int which, long number, const char *fault) {
     failures++;
 }
 
-// Whether the rooms are as before a call, but that `out` of ants_resume may hold a front of its whole text.
-static int stays(const struct rooms *rooms, const struct rooms *before, const struct rooms *whole, int which) {
-    size_t front = 0, most = which != RESUME ? 0 : whole->used < ROOM ? whole->used : ROOM;
-    while (front < most && rooms->out[front] == whole->out[front]) front++;
-    return memcmp(rooms->out + front, before->out + front, ROOM - front) == 0 &&
-           memcmp((const char *)rooms + ROOM, (const char *)before + ROOM, sizeof *rooms - ROOM) == 0;
-}
-
 // One call with one allocation refused, held against the whole call; how many allocations it made.
 static long held(int which, long number, int is_for_good, struct rooms *rooms, const struct rooms *before, const struct rooms *whole, uint32_t full) {
     uint32_t status = call_refused(which, number, is_for_good, rooms);
@@ -123,7 +115,7 @@ static long held(int which, long number, int is_for_good, struct rooms *rooms, c
         if (status != full || memcmp(rooms, whole, sizeof *rooms) != 0) say(which, number, "another answer without a refusal");
     } else if (status != ANTS_MEMORY) {
         say(which, number, "the status is not 6");
-    } else if (!stays(rooms, before, whole, which)) {
+    } else if (memcmp(rooms, before, sizeof *rooms) != 0) {
         say(which, number, "something is written");
     }
     return count;

@@ -1,9 +1,5 @@
-// Brains: the sections "Brains" and "Minimised brains" of docs/RULES.md.
+// Brains: the section "Brains" of docs/RULES.md.
 #include "brain.hpp"
-
-#include <deque>
-#include <map>
-#include <set>
 
 #include "files.hpp"
 
@@ -16,61 +12,6 @@ const Table sights = {"Here", "Ahead", "LeftAhead", "RightAhead"};
 const Table sides = {"Left", "Right"};
 const Table conditions = {"Friend", "Foe",    "FriendWithFood", "FoeWithFood", "Food",
                           "Rock",   "Marker", "FoeMarker",      "Home",        "FoeHome"};
-
-// Which states state 0 leads to.
-std::vector<bool> live_states(const Brain& brain) {
-    std::vector<bool> live(brain.size(), false);
-    std::vector<uint64_t> left = {0};
-    live[0] = true;
-    while (!left.empty()) {
-        const uint64_t state = left.back();
-        left.pop_back();
-        for (uint64_t next : brain[state].next) {
-            if (!live[next]) {
-                live[next] = true;
-                left.push_back(next);
-            }
-        }
-    }
-    return live;
-}
-
-using Key = std::vector<uint64_t>;
-
-Key kind_of(const Instruction& it) {
-    return {static_cast<uint64_t>(it.operation), static_cast<uint64_t>(it.sight), static_cast<uint64_t>(it.condition),
-            static_cast<uint64_t>(it.marker),    static_cast<uint64_t>(it.side),  it.bound};
-}
-
-// The classes of equivalent live states, numbered in the order of their least members. States begin in the class of
-// their kind, and classes are split until each has only states whose successors are, place by place, in the same
-// classes.
-std::vector<size_t> classes_of(const Brain& brain, const std::vector<bool>& live) {
-    std::vector<size_t> classes(brain.size(), 0);
-    std::map<Key, size_t> numbers;
-    for (size_t state = 0; state < brain.size(); state++) {
-        if (live[state]) {
-            classes[state] = numbers.emplace(kind_of(brain[state]), numbers.size()).first->second;
-        }
-    }
-    size_t count = 0;
-    while (numbers.size() != count) {
-        count = numbers.size();
-        numbers.clear();
-        std::vector<size_t> split(brain.size(), 0);
-        for (size_t state = 0; state < brain.size(); state++) {
-            if (live[state]) {
-                Key key = {classes[state]};
-                for (uint64_t next : brain[state].next) {
-                    key.push_back(classes[next]);
-                }
-                split[state] = numbers.emplace(key, numbers.size()).first->second;
-            }
-        }
-        classes = split;
-    }
-    return classes;
-}
 
 }  // namespace
 
@@ -187,50 +128,7 @@ std::string canonical_text(const Brain& brain) {
     return text;
 }
 
-std::vector<std::optional<size_t>> minimised_states(const Brain& brain) {
-    const std::vector<bool> live = live_states(brain);
-    const std::vector<size_t> classes = classes_of(brain, live);
-    std::vector<std::optional<size_t>> states(brain.size());
-    for (size_t state = 0; state < brain.size(); state++) {
-        if (live[state]) {
-            states[state] = classes[state];
-        }
-    }
-    return states;
-}
-
-Brain minimised(const Brain& brain) {
-    const std::vector<std::optional<size_t>> states = minimised_states(brain);
-    Brain kept;
-    for (size_t state = 0; state < brain.size(); state++) {
-        if (states[state] == kept.size()) {
-            Instruction it = brain[state];
-            for (uint64_t& next : it.next) {
-                next = *states[next];
-            }
-            kept.push_back(it);
-        }
-    }
-    return kept;
-}
-
-// Goes through the pairs of states to which the same answers lead, fewer answers first and met before unmet.
-std::optional<Difference> difference_of(const Brain& first, const Brain& second) {
-    std::set<std::pair<uint64_t, uint64_t>> met = {{0, 0}};
-    std::deque<Difference> left = {{0, 0, 0}};
-    while (!left.empty()) {
-        const Difference pair = left.front();
-        left.pop_front();
-        const Instruction& one = first[pair.first];
-        const Instruction& other = second[pair.second];
-        if (kind_of(one) != kind_of(other)) {
-            return pair;
-        }
-        for (size_t i = 0; i < one.next.size(); i++) {
-            if (met.insert({one.next[i], other.next[i]}).second) {
-                left.push_back({pair.answers + 1, one.next[i], other.next[i]});
-            }
-        }
-    }
-    return {};
+Key kind_of(const Instruction& it) {
+    return {static_cast<uint64_t>(it.operation), static_cast<uint64_t>(it.sight), static_cast<uint64_t>(it.condition),
+            static_cast<uint64_t>(it.marker),    static_cast<uint64_t>(it.side),  it.bound};
 }

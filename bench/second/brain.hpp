@@ -1,8 +1,7 @@
-// Brains: the instructions of "Rounds and turns", the sections "Brains" and "Minimised brains" of docs/RULES.md.
+// Brains: the instructions of "Rounds and turns" and the section "Brains" of docs/RULES.md.
 #pragma once
 #include <cstdint>
 #include <functional>
-#include <optional>
 #include <string>
 #include <vector>
 
@@ -39,16 +38,6 @@ Brain read_brain(const std::string& name, const std::string& text);
 
 std::string canonical_text(const Brain& brain);
 
-// The state of the minimised brain that each state becomes; none where it is dropped.
-std::vector<std::optional<size_t>> minimised_states(const Brain& brain);
-Brain minimised(const Brain& brain);
-
-// Two states that differ, and after how many answers they are reached.
-struct Difference {
-    uint64_t answers;
-    uint64_t first;
-    uint64_t second;
-};
-
-// None where the brains are the same.
-std::optional<Difference> difference_of(const Brain& first, const Brain& second);
+// What an instruction has but its states.
+using Key = std::vector<uint64_t>;
+Key kind_of(const Instruction& it);

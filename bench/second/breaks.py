@@ -1,23 +1,17 @@
 """Random texts of breaks."""
+import collections
+
 from spelling import LINE_BYTES, chance, faulty_lines, spelled, spelled_anyhow, with_other_bytes
 
 KINDS = ['Round', 'State', 'Stand', 'Food', 'Killed', 'Score']
 MOST = 4294967295
+STATES = 12
 WRONG_WORDS = [
     'Round', 'Red', 'Black', 'Green', 'red', 'KILLED', 'Jump', 'State', 'Stand', '\x80', '\x0b', '\x00', '\xe9', 'x',
     'Foodx', '\x7f', '1\x0c', ',',
 ]
-
-
-class Game:
-    """What a break may ask for."""
-
-    def __init__(self, width, height, rounds, ants):
-        self.width = width
-        self.height = height
-        self.rounds = rounds
-        self.ants = ants
-        self.states = 12
+# What a break may ask for; brains have about as many states as STATES.
+Game = collections.namedtuple('Game', ['width', 'height', 'rounds', 'ants'])
 
 
 def colour(r):
@@ -41,13 +35,13 @@ def row(r, game):
     return r.randrange(height)
 
 
-def state(r, game):
+def state(r):
     """A state, seldom 0 or one that no brain of the game has."""
     if chance(r, .3):
-        return r.choice([r.randrange(game.states), game.states, 9999, 10000, MOST, 65536])
+        return r.choice([r.randrange(STATES), STATES, 9999, 10000, MOST, 65536])
     if chance(r, .15):
         return 0
-    return r.randrange(1, game.states + 1)
+    return r.randrange(1, STATES + 1)
 
 
 def one_break(r, game):
@@ -57,7 +51,7 @@ def one_break(r, game):
         rounds = game.rounds
         return 'Round %d' % r.choice([0, r.randint(2, rounds + 1), rounds, rounds, rounds + 1, MOST])
     if kind == 'State':
-        return 'State %s %d' % (colour(r), state(r, game))
+        return 'State %s %d' % (colour(r), state(r))
     if kind == 'Stand':
         return 'Stand %s %d %d' % (colour(r), column(r, game), row(r, game))
     if kind == 'Food':

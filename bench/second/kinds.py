@@ -1,39 +1,53 @@
-"""The kinds of cases, by their names."""
+"""The commands and the kinds of cases, which their files register."""
+import collections
+import glob
+import importlib
+import os
 import random
 
-import cases
-import fights
-import odd_files
-import odd_words
+HERE = os.path.dirname(os.path.abspath(__file__))
 
-KINDS = {
-    'fight': fights.case_of_fight,
-    'show': cases.case_of_show,
-    'brain': cases.case_of_brain,
-    'minimise': cases.case_of_minimise,
-    'states': cases.case_of_states,
-    'same': cases.case_of_same,
-    'trace': cases.case_of_trace,
-    'run': cases.case_of_run,
-    'asm': cases.case_of_asm,
-    'labels': cases.case_of_labels,
-    'save': cases.case_of_save,
-    'resume': cases.case_of_resume,
-    'gen': cases.case_of_gen,
-    'cup': cases.case_of_cup,
-    'games': fights.case_of_games,
-    'view': cases.case_of_view,
-    'workload': cases.case_of_workload,
-    'words': odd_words.case_of_words,
-    'limits': odd_words.case_of_limits,
-    'order': odd_files.case_of_order,
-    'size': odd_files.case_of_size,
-}
-
-# Of some kinds no more cases than these are made, since each takes long.
-MOST = {'size': 180, 'gen': 1500, 'workload': 300}
+Command = collections.namedtuple('Command', ['heads', 'places', 'limits', 'flags'])
+Kind = collections.namedtuple('Kind', ['make', 'most', 'share'])
+COMMANDS = {}
+KINDS = {}
 
 
-def case_of(kind, seed, number):
-    """The case of this number; it depends on nothing else."""
-    return KINDS[kind](random.Random('%s-%s-%d' % (seed, kind, number)))
+def command(word, heads, places=None, limits=None, flags=()):
+    """Registers a command.
+
+    Each of `heads` is words that it takes before its options, with the files of odd_words.SMALL_FILES. `places` has
+    words near the limits of the numbers among them, by their places, and `limits` of what stands behind an option.
+    `flags` are its other options.
+    """
+    COMMANDS[word] = Command(heads, places or {}, limits or {}, list(flags))
+
+
+def kind(name, most=None, share=1):
+    """Registers a function as what makes the cases of a kind.
+
+    No more cases than `most` are made, where each takes long. `share` is how common they are where cases of any command
+    are wanted.
+    """
+    def register(make):
+        """Registers it."""
+        KINDS[name] = Kind(make, most, share)
+        return make
+    return register
+
+
+def read_files():
+    """Reads the files that register commands and kinds."""
+    for path in sorted(glob.glob(os.path.join(HERE, 'commands', '*.py')) + glob.glob(os.path.join(HERE, 'odd_*.py'))):
+        importlib.import_module(os.path.relpath(path, HERE)[:-len('.py')].replace(os.sep, '.'))
+
+
+def case_of(name, seed, number):
+    """The case of this number of a kind; it depends on nothing else."""
+    return KINDS[name].make(random.Random('%s-%s-%d' % (seed, name, number)))
+
+
+def case_of_any(r):
+    """A case of any command."""
+    makers = [it.make for it in KINDS.values() for _ in range(it.share)]
+    return r.choice(makers)(r)

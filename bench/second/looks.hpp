@@ -4,6 +4,8 @@
 
 #include "turn.hpp"
 
+constexpr uint64_t most_turns = 16384;  // of a window
+
 struct Counts {
     uint64_t turns = 0;
     uint64_t taken = 0;

@@ -1,8 +1,7 @@
 // A second program of the ant world, written from docs/RULES.md: the section "The commands".
 #include <csignal>
-#include <map>
 
-#include "commands.hpp"
+#include "command.hpp"
 
 int main(int count, char** arguments) {
     std::signal(SIGPIPE, SIG_IGN);
@@ -12,15 +11,9 @@ int main(int count, char** arguments) {
             return 1;
         }
     }
-    const std::map<std::string, void (*)(Words&)> commands = {
-        {"show", show},         {"brain", print_brain}, {"minimise", minimise}, {"run", run},   {"asm", assemble},
-        {"save", save},         {"resume", resume},     {"gen", generate},      {"view", view}, {"cup", cup},
-        {"workload", workload}, {"trace", trace},       {"same", same},         {"help", help}, {"--help", help},
-        {"--version", version},
-    };
     Words words(all);
-    const auto command = commands.find(words.next());
-    if (command == commands.end()) {
+    const auto command = commands().find(words.next());
+    if (command == commands().end()) {
         words.refuse_next();
     }
     words.skip();

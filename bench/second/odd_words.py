@@ -1,84 +1,38 @@
 """Random cases of words at fault, and of numbers at their limits."""
-from cases import (
-    Case, case_of_asm, case_of_brain, case_of_cup, case_of_gen, case_of_labels, case_of_minimise, case_of_resume,
-    case_of_run, case_of_same, case_of_save, case_of_show, case_of_states, case_of_trace, case_of_view,
-    case_of_workload, shuffled,
-)
-from fights import case_of_games
+from cases import DUMP, ROUNDS, Case, shuffled
+from kinds import COMMANDS, case_of_any, kind
 from saves import Save
 from spelling import chance
 
-COMMANDS = [
-    'show', 'run', 'brain', 'gen', 'minimise', 'cup', 'view', 'workload', 'asm', 'save', 'resume', 'trace', 'same',
-    'help',
-]
-DUMPS = [
-    'none', 'all', 'None', 'ALL', '0', '1,2', '1,,2', '1,2,', ',1', ',', '', '1000000', '1000001', '00000000001',
-    '0000000001', '1-3', '1, 2', '-1', 'none,1', '1,none', 'all,', '1000000,1000000', '0000000000,1', '+1', ' 1',
-    '1\n', '１',
-]
-OPTIONS = [
-    '--seed', '--rounds', '--dump', '--workers', '--window', '--stats', '--surround', '--corpse', '--rest', '--width',
-    '--height', '--rocks', '--blobs', '--worlds', '--brains', '--far', '--from', '--labels', '--states', '--games',
-]
 OTHER_WORDS = [
     '--', '-', '---', '-x', '--help', '--version', '--Seed', '--seed=1', '--SEED', '--label', '--Games',
     '', ' ', 'w', 'r', 'b', './--w', 'a b', 'é', '--é', '0', '1', '2', '3', '4', '5', '6', '7', '9', '10', '14', '16', '17', '255', '256', '512',
     '513', '16384', '16385', '1000000', '1000001', '4294967295', '4294967296', '9999999999', '10000000000',
     '0000000001', '00000000001', '-1', '+1', '01', 'x', '1x', '0x1', '1 ', ' 1', '1.0', '٣', 'none', 'all',
 ]
-WORDS = COMMANDS + ['minimize', 'Show'] + OPTIONS + OTHER_WORDS + DUMPS
-FIRST_WORDS = [
-    [], ['help', 'x'], ['--help', 'x'], ['trace'], ['same'], ['show'], ['run'], ['cup'], ['view'], ['gen'], ['workload'],
-    ['brain'], ['minimise'], ['asm'], ['save'], ['resume'], ['--version'], ['--version', '--version'],
-    ['asm', '--labels'], ['minimise', '--states'], ['cup', '--games'],
-]
-GOOD_CASES = [
-    case_of_show, case_of_brain, case_of_minimise, case_of_run, case_of_run, case_of_gen, case_of_cup, case_of_view,
-    case_of_workload, case_of_asm, case_of_save, case_of_resume, case_of_trace, case_of_same, case_of_labels,
-    case_of_states, case_of_games,
-]
-NEAR_LIMITS = {
-    '--seed': ['0', '4294967295', '4294967296', '9999999999'],
-    '--rounds': ['0', '1', '1000001', '1000002', '9999999999'],
-    '--surround': ['3', '4', '5', '6', '7', '0', '10'],
-    '--corpse': ['0', '9', '10', '8'],
-    '--rest': ['0', '255', '256', '254'],
-    '--workers': ['0', '1', '16', '17', '15'],
-    '--window': ['0', '1', '16384', '16385', '16383'],
-    '--dump': DUMPS,
-    '--from': ['0', '1', '1000000', '1000001'],
-    '--width': ['2', '3', '13', '14', '512', '513', '0'],
-    '--height': ['2', '3', '14', '15', '512', '513', '0'],
-    '--rocks': ['0', '255', '256'],
-    '--blobs': ['0', '255', '256'],
-}
-HEADS = {
-    'run': ['run', 'w', 'r', 'b'],
-    'gen': ['gen', '1'],
-    'cup': ['cup', '--worlds', 'w', '--brains', 'r', 'b'],
-    'view': ['view', 'w', 'r', 'b', 'k'],
-    'save': ['save', 'w', 'r', 'b'],
-    'resume': ['resume', 's'],
-    'trace': ['trace', 'w', 'r', 'b', '1'],
-}
-OPTIONS_OF = {
-    'run': ['--seed', '--rounds', '--surround', '--corpse', '--rest', '--dump', '--workers', '--window'],
-    'gen': ['--width', '--height', '--rocks', '--blobs'],
-    'cup': ['--seed', '--rounds', '--workers'],
-    'view': ['--seed', '--rounds'],
-    'save': ['--seed', '--rounds', '--surround', '--corpse', '--rest', '--workers', '--window'],
-    'resume': ['--rounds', '--dump', '--workers'],
-    'trace': ['--seed', '--rounds', '--from', '--surround', '--corpse', '--rest'],
-}
-SMALL_SAVE = Save(['####', '#+.#', '#-.#', '####'])
 SMALL_FILES = {
     'w': b'4\n4\n####\n#+.#\n#-.#\n####\n',
-    'b': b'Move 0 0\n',
+    'v': b'3\n3\n###\n#-#\n###\n',
     'r': b'Flip 2 0 0\n',
+    'b': b'Move 0 0\n',
+    'a': b'Drop 0\n',
     'k': b'Killed 0\n',
-    's': SMALL_SAVE.text(),
+    's': Save(['####', '#+.#', '#-.#', '####']).text(),
 }
+
+
+def any_word(r):
+    """A word that some command takes, or one near such a word."""
+    taken = [words for it in COMMANDS.values() for words in it.heads + [it.flags, it.limits]]
+    options = sorted({word for words in taken for word in words if word[:2] == '--'})
+    return r.choice(list(COMMANDS) + ['help', 'minimize', 'Show'] + options + OTHER_WORDS + DUMP['--dump'])
+
+
+def first_words(r):
+    """The words of a command that ends before its files."""
+    name = r.choice(list(COMMANDS))
+    usual = [[name, flag] for flag in COMMANDS[name].flags] + [[name]]
+    return r.choice(usual + [[], ['help', 'x'], ['--help', 'x'], ['--version'], ['--version', '--version']])
 
 
 def with_option_twice(r, words):
@@ -92,21 +46,21 @@ def with_option_twice(r, words):
 
 def with_other_word(r, words):
     """The words with one of them taken away, changed, added, doubled or moved."""
-    kind = r.random()
+    way = r.random()
     if not words:
-        return [r.choice(WORDS)]
+        return [any_word(r)]
     place = r.randrange(len(words))
-    if kind < .2:
+    if way < .2:
         del words[place]
-    elif kind < .35:
+    elif way < .35:
         words = words[:place]
-    elif kind < .6:
-        words[place] = r.choice(WORDS)
-    elif kind < .75:
-        words.insert(r.randint(0, len(words)), r.choice(WORDS))
-    elif kind < .85:
+    elif way < .6:
+        words[place] = any_word(r)
+    elif way < .75:
+        words.insert(r.randint(0, len(words)), any_word(r))
+    elif way < .85:
         words.insert(r.randint(0, len(words)), words[place])
-    elif kind < .92:
+    elif way < .92:
         other = r.randrange(len(words))
         words[place], words[other] = words[other], words[place]
     else:
@@ -123,10 +77,9 @@ def without_long_games(words):
     """The words with few rounds in place of very many."""
     words = list(words)
     for place in range(1, len(words)):
-        if words[place - 1] == '--rounds' and is_between(words[place], 2001, 1000000):
+        is_rounds = words[0] in COMMANDS and COMMANDS[words[0]].places.get(place) is ROUNDS
+        if (is_rounds or words[place - 1] == '--rounds') and is_between(words[place], 601, 1000000):
             words[place] = '3'
-    if words[:1] == ['workload'] and len(words) > 2 and is_between(words[2], 401, 1000000):
-        words[2] = '2'
     return words
 
 
@@ -138,12 +91,12 @@ def with_many_names(r, words):
     return words[:2] + worlds + ['--brains'] + names + words[place + 3:]
 
 
+@kind('words', share=0)
 def case_of_words(r):
     """Words of which most often one is refused."""
     if r.random() < .03:
-        return Case(r.choice(FIRST_WORDS))
-    make = r.choice(GOOD_CASES)
-    case = make(r)
+        return Case(first_words(r))
+    case = case_of_any(r)
     if case.words[0] == 'cup' and chance(r, .1):
         case.words = with_many_names(r, case.words)
     case.further = []
@@ -155,22 +108,20 @@ def case_of_words(r):
     return case
 
 
+@kind('limits', share=0)
 def case_of_limits(r):
-    """Options with numbers at their limits."""
-    case = Case()
-    case.files = dict(SMALL_FILES)
-    command = r.choice(['run', 'run', 'gen', 'cup', 'view', 'save', 'save', 'resume', 'trace'])
-    options = []
-    for name in OPTIONS_OF[command]:
+    """Numbers at their limits, as words and behind options."""
+    command = r.choice([it for it in COMMANDS.values() if it.places or it.limits])
+    case = Case(r.choice(command.heads), SMALL_FILES)
+    for place, values in command.places.items():
+        if chance(r, .6):
+            case.words[place] = r.choice(values)
+    options = [[flag] for flag in command.flags if chance(r, .3)]
+    for name, values in command.limits.items():
         if name in ('--seed', '--rounds') or chance(r, .4):
-            value = r.choice(NEAR_LIMITS[name])
-            if chance(r, .1) and is_between(value, 0, 999999999) and len(value) < 10:
+            value = r.choice(values)
+            if chance(r, .1) and is_between(value, 0, 999999999):
                 value = value.zfill(r.choice([10, 11]))
             options.append([name, value])
-    for name, commands in (('--stats', ['run', 'resume']), ('--far', ['run']), ('--games', ['cup'])):
-        if command in commands and chance(r, .3):
-            options.append([name])
-    case.words = HEADS[command] + shuffled(r, options)
-    if command == 'trace':
-        case.words[4] = r.choice(['0', '1', '2', '3', '16383', '16384', '9999999999'])
+    case.words += shuffled(r, options)
     return case

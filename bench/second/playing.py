@@ -5,8 +5,9 @@ import os
 import shutil
 import subprocess
 
+from kinds import HERE
+
 SECONDS = 100  # that a program has for a case
-HERE = os.path.dirname(os.path.abspath(__file__))
 
 # What a program did: its standard output, its standard error, and its status, which is None where it took too long.
 Outcome = collections.namedtuple('Outcome', ['text', 'fault', 'status'])
@@ -15,8 +16,8 @@ Outcome = collections.namedtuple('Outcome', ['text', 'fault', 'status'])
 def build(folder):
     """Builds the second program in the folder, and tells its name."""
     program = os.path.join(folder, 'second')
-    sources = sorted(glob.glob(os.path.join(HERE, '*.cpp')))
-    subprocess.run(['c++', '-std=c++17', '-O2', '-o', program] + sources, check=True)
+    sources = sorted(glob.glob(os.path.join(HERE, '**', '*.cpp'), recursive=True))
+    subprocess.run(['c++', '-std=c++17', '-O2', '-iquote', HERE, '-o', program] + sources, check=True)
     return program
 
 

@@ -1,6 +1,7 @@
 // What is printed of a world: the section "What is printed" of docs/RULES.md.
 #include "printed.hpp"
 
+#include "files.hpp"
 #include "text.hpp"
 
 namespace {
@@ -75,4 +76,29 @@ std::string score_line(const World& world) {
 std::string counts_line(const Counts& counts) {
     return "turns " + decimal(counts.turns) + " taken " + decimal(counts.taken) + " redone " + decimal(counts.redone) +
            "\n";
+}
+
+void play(Game& game, const Telling& told, std::string text, uint64_t round, const Counts& counts) {
+    Windows windows(game, told.window);
+    windows.counts = counts;
+    while (round < told.rounds) {
+        round++;
+        if (told.has_counts) {
+            windows.play_round();
+        } else {
+            game.play_round();
+        }
+        if (told.dumps.has(round)) {
+            text += dump_text(game.world, round);
+        }
+        if (text.size() > most_text) {
+            print(text);
+            text.clear();
+        }
+    }
+    text += "\n" + score_line(game.world);
+    if (told.has_counts) {
+        text += counts_line(windows.counts);
+    }
+    print(text);
 }

@@ -5,6 +5,7 @@
 
 #include "looks.hpp"
 #include "turn.hpp"
+#include "words.hpp"
 
 std::string seed_line(uint64_t seed);
 std::string cells_text(const World& world);
@@ -12,3 +13,15 @@ std::string cell_line(const World& world, int place);
 std::string dump_text(const World& world, uint64_t round);
 std::string score_line(const World& world);
 std::string counts_line(const Counts& counts);
+
+// What is told of a game.
+struct Telling {
+    uint64_t rounds = 0;
+    uint64_t window = most_turns;
+    bool has_counts = false;
+    Dumps dumps;
+};
+
+// Plays on behind a round, and prints the chosen dumps of the later rounds, the score and the counts. `text` is what is
+// printed before them; `counts` are those of the rounds before.
+void play(Game& game, const Telling& told, std::string text, uint64_t round, const Counts& counts);

@@ -12,9 +12,7 @@ namespace {
 constexpr size_t most_digits = 11;
 constexpr uint64_t any_count = 99999999999;
 constexpr uint64_t any_state = 9999999999;
-constexpr uint64_t most_window = 16384;
 constexpr uint64_t most_weight = 2340900;
-constexpr uint64_t most_states = 10000;
 constexpr uint64_t weight_of_ant = 9;
 constexpr char first_byte = '0';  // of markers and of food: none of them
 constexpr uint64_t most_sets = 63;
@@ -179,7 +177,7 @@ void Reader::read_head(Saved& saved) {
     saved.seed = numbers({"seed", up_to(most_of_32_bits)})[0];
     const std::vector<uint64_t> sheet = numbers({"sheet", "4..6", "0..9", "0..255"});
     saved.sheet = {sheet[0], sheet[1], sheet[2]};
-    saved.window = numbers({"window", "1.." + decimal(most_window)})[0];
+    saved.window = numbers({"window", "1.." + decimal(most_turns)})[0];
     saved.round = numbers({"round", up_to(most_rounds)})[0];
     saved.place = numbers({"place", up_to(any_count)})[0];
     const std::vector<uint64_t> counts = numbers({"taken", up_to(any_count), "redone", up_to(any_count)});
@@ -192,7 +190,7 @@ void Reader::read_head(Saved& saved) {
 
 // A line of a brain that isn't as the canonical text would have it is refused, but for a state that is too large.
 Brain Reader::read_program(const std::string& colour) {
-    const uint64_t count = numbers({colour, "1.." + decimal(most_states)})[0];
+    const uint64_t count = numbers({colour, "1.." + decimal(most_instructions)})[0];
     Brain brain;
     for (uint64_t i = 0; i < count; i++) {
         const std::string line = next();
@@ -282,7 +280,7 @@ void Reader::read_ants() {
         done--;
         const std::vector<uint64_t> it =
             numbers({"ant", decimal(least) + ".." + decimal(most_ants - 1), colour, up_to(width - 1), up_to(height - 1),
-                     "0..5", "0..1", up_to(most_states - 1), "0..255"});
+                     "0..5", "0..1", up_to(most_instructions - 1), "0..255"});
         Ant ant;
         ant.id = static_cast<int>(it[0]);
         ant.colour = colour == colours[RED] ? RED : BLACK;

@@ -3,22 +3,16 @@
 #include <cstdint>
 #include <string>
 
-#include "brain.hpp"
 #include "looks.hpp"
 #include "turn.hpp"
-#include "world.hpp"
 
 // A game at the end of a round, with all that it takes to go on.
-struct Saved {
-    uint64_t seed = 0;
-    Sheet sheet;
-    uint64_t window = 0;
+struct Saved : Setup {
+    uint64_t window = most_turns;
     uint64_t round = 0;
     uint64_t place = 0;
     uint64_t taken = 0;
     uint64_t redone = 0;
-    Brain brains[2];
-    World world;
 };
 
 std::string saved_text(const Saved& saved);

@@ -1,4 +1,5 @@
 """Making a case smaller as long as both programs still differ in it."""
+import copy
 import time
 
 MOST_TRIALS = 1000  # for one case
@@ -11,14 +12,14 @@ MOST_SIZE = 60000  # of all files of a case that is made smaller
 
 def with_words(case, words):
     """The case with other words."""
-    smaller = case.copy()
+    smaller = copy.deepcopy(case)
     smaller.words = words
     return smaller
 
 
 def with_file(case, name, text):
     """The case with another text of a file."""
-    smaller = case.copy()
+    smaller = copy.deepcopy(case)
     smaller.files[name] = text
     return smaller
 

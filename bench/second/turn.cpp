@@ -188,6 +188,10 @@ Game::Game(const World& world, const Rules& rules, uint64_t seed, uint64_t place
     : world(world), rules(rules), random(seed, place) {
 }
 
+Game::Game(const Setup& it, uint64_t place)
+    : Game(it.world, {{&it.brains[RED], &it.brains[BLACK]}, it.sheet}, it.seed, place) {
+}
+
 void Game::play_round() {
     Trace trace;
     for (size_t id = 0; id < world.places.size(); id++) {

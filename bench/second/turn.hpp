@@ -53,11 +53,20 @@ struct Score {
 
 Score score_of(const World& world);
 
+// What a game begins with.
+struct Setup {
+    uint64_t seed = 0;
+    Sheet sheet;
+    Brain brains[2];
+    World world;
+};
+
 struct Game {
     World world;
     Rules rules;
     Random random;
 
     Game(const World& world, const Rules& rules, uint64_t seed, uint64_t place = 0);
+    explicit Game(const Setup& setup, uint64_t place = 0);  // whose brains live longer than the game
     void play_round();
 };

@@ -8,10 +8,25 @@
 
 namespace {
 
-Option number_option(const std::string& word, bool is_needed, uint64_t least, uint64_t most, uint64_t& number) {
-    return {word, is_needed, [least, most, &number](Words& words) {
-                number = words.number(least, most);
-            }};
+bool read_dumps(const std::string& word, Dumps& dumps) {
+    if (word == "none") {
+        return true;
+    }
+    if (word == "all") {
+        dumps.is_all = true;
+        return true;
+    }
+    size_t start = 0;
+    while (start <= word.size()) {
+        const size_t end = std::min(word.find(',', start), word.size());
+        uint64_t round = 0;
+        if (!read_number(word.substr(start, end - start), 0, most_rounds, round)) {
+            return false;
+        }
+        dumps.rounds.insert(round);
+        start = end + 1;
+    }
+    return true;
 }
 
 // How many bytes follow the first byte of a character, and between which bytes the second one is; the others are from
@@ -75,27 +90,6 @@ bool is_file_name(const std::string& word) {
     return !word.empty() && word.compare(0, 2, "--") != 0;
 }
 
-bool read_dumps(const std::string& word, Dumps& dumps) {
-    if (word == "none") {
-        return true;
-    }
-    if (word == "all") {
-        dumps.is_all = true;
-        return true;
-    }
-    size_t start = 0;
-    while (start <= word.size()) {
-        const size_t end = std::min(word.find(',', start), word.size());
-        uint64_t round = 0;
-        if (!read_number(word.substr(start, end - start), 0, most_rounds, round)) {
-            return false;
-        }
-        dumps.rounds.insert(round);
-        start = end + 1;
-    }
-    return true;
-}
-
 Words::Words(std::vector<std::string> words) : words(std::move(words)) {
 }
 
@@ -143,16 +137,7 @@ uint64_t Words::number(uint64_t least, uint64_t most) {
     return number;
 }
 
-Dumps Words::dumps() {
-    Dumps dumps;
-    if (!read_dumps(next(), dumps)) {
-        refuse_next();
-    }
-    skip();
-    return dumps;
-}
-
-void Words::options(const std::vector<Option>& options) {
+void Words::options(const Options& options) {
     std::set<std::string> read;
     while (!is_end()) {
         const Option* found = nullptr;
@@ -181,15 +166,33 @@ void Words::end() {
 }
 
 Option needed_number(const std::string& word, uint64_t least, uint64_t most, uint64_t& number) {
-    return number_option(word, true, least, most, number);
+    Option option = free_number(word, least, most, number);
+    option.is_needed = true;
+    return option;
 }
 
 Option free_number(const std::string& word, uint64_t least, uint64_t most, uint64_t& number) {
-    return number_option(word, false, least, most, number);
+    return {word, false, [least, most, &number](Words& words) {
+                number = words.number(least, most);
+            }};
+}
+
+Option dumps_option(Dumps& dumps) {
+    return {"--dump", false, [&dumps](Words& words) {
+                if (!read_dumps(words.next(), dumps)) {
+                    words.refuse_next();
+                }
+                words.skip();
+            }};
 }
 
 Option flag(const std::string& word, bool& is_there) {
     return {word, false, [&is_there](Words&) {
                 is_there = true;
             }};
+}
+
+Options operator+(Options left, const Options& right) {
+    left.insert(left.end(), right.begin(), right.end());
+    return left;
 }

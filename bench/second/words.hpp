@@ -10,6 +10,7 @@
 #include "text.hpp"
 
 constexpr uint64_t most_rounds = 1000000;
+constexpr uint64_t most_workers = 16;
 
 bool is_utf8(const std::string& text);
 bool is_file_name(const std::string& word);
@@ -23,9 +24,8 @@ struct Dumps {
     }
 };
 
-bool read_dumps(const std::string& word, Dumps& dumps);
-
 struct Option;
+using Options = std::vector<Option>;
 
 // The words from left to right. Each call takes a word, and refuses it where it doesn't fit or isn't there.
 class Words {
@@ -39,8 +39,7 @@ class Words {
     void keyword(const std::string& word);
     std::string file_name();
     uint64_t number(uint64_t least, uint64_t most);
-    Dumps dumps();
-    void options(const std::vector<Option>& options);
+    void options(const Options& options);
     void end();
 
   private:
@@ -56,4 +55,6 @@ struct Option {
 
 Option needed_number(const std::string& word, uint64_t least, uint64_t most, uint64_t& number);
 Option free_number(const std::string& word, uint64_t least, uint64_t most, uint64_t& number);
+Option dumps_option(Dumps& dumps);
 Option flag(const std::string& word, bool& is_there);
+Options operator+(Options left, const Options& right);

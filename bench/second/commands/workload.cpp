@@ -1,10 +1,8 @@
-// Workloads: the section of this name of docs/RULES.md.
-#include "commands.hpp"
-#include "files.hpp"
+// `workload`: the section "Workloads" of docs/RULES.md.
+#include "command.hpp"
 #include "generate.hpp"
 #include "looks.hpp"
 #include "printed.hpp"
-#include "turn.hpp"
 
 namespace {
 
@@ -47,7 +45,7 @@ std::string alive_line(const World& world) {
 
 }  // namespace
 
-void workload(Words& words) {
+static const Command here("workload", [](Words& words) {
     const uint64_t seed = words.number(0, most_of_32_bits);
     const uint64_t rounds = words.number(0, most_rounds);
     words.number(1, most_workers);
@@ -63,4 +61,4 @@ void workload(Words& words) {
     }
     print("workload seed " + decimal(seed) + " rounds " + decimal(rounds) + "\n" + start_lines(world) +
           alive_line(game.world) + score_line(game.world) + counts_line(windows.counts));
-}
+});

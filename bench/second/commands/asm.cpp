@@ -1,13 +1,10 @@
-// Programs with labels and blocks: the section "Programs with labels and blocks" of docs/RULES.md.
-#include "assemble.hpp"
-
+// `asm`: the section "Programs with labels and blocks" of docs/RULES.md.
 #include <algorithm>
 #include <map>
 #include <optional>
 #include <set>
 
-#include "files.hpp"
-#include "text.hpp"
+#include "command.hpp"
 
 namespace {
 
@@ -29,7 +26,7 @@ struct Body {
     std::string name;
     uint64_t line = 0;
     std::vector<std::string> parameters;
-    std::map<std::string, size_t> labels;    // the item that follows, or the number of items
+    std::map<std::string, size_t> labels;     // the item that follows, or the number of items
     std::vector<std::string> ordered_labels;  // in the order of their lines
     std::vector<Item> items;
     size_t size = 0;  // how many instructions it expands to
@@ -323,12 +320,15 @@ Program read_program(const std::string& name, const std::string& text) {
 
 }  // namespace
 
-Brain assembled(const std::string& name, const std::string& text) {
-    const Program program = read_program(name, text);
-    return Expansion(program).brain();
-}
-
-void print_labels(const std::string& name, const std::string& text) {
-    const Program program = read_program(name, text);
-    Expansion(program).print_labels();
-}
+static const Command here("asm", [](Words& words) {
+    const std::string name = words.file_name();
+    bool tells_labels = false;
+    words.options({flag("--labels", tells_labels)});
+    const Program program = read_program(name, fetch(name));
+    const Expansion expansion(program);
+    if (tells_labels) {
+        expansion.print_labels();
+    } else {
+        print(canonical_text(expansion.brain()));
+    }
+});

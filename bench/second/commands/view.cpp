@@ -1,11 +1,18 @@
-// Breaks: the section of this name of docs/RULES.md.
-#include "breaks.hpp"
-
-#include "files.hpp"
-#include "text.hpp"
-#include "turn.hpp"
+// `view`: the section "Breaks" of docs/RULES.md.
+#include "command.hpp"
+#include "printed.hpp"
 
 namespace {
+
+enum BreakKind { ROUND_BREAK, STATE_BREAK, STAND_BREAK, FOOD_BREAK, KILLED_BREAK, SCORE_BREAK };
+
+struct Break {
+    int kind = ROUND_BREAK;
+    int colour = RED;
+    uint64_t x = 0;
+    uint64_t y = 0;
+    uint64_t number = 0;
+};
 
 constexpr size_t most_breaks = 256;
 
@@ -47,8 +54,7 @@ bool is_in_state(const World& world, int id, int colour, uint64_t state) {
     return ant.colour == colour && static_cast<uint64_t>(ant.state) == state;
 }
 
-}  // namespace
-
+// Refuses a text that is no text of breaks.
 std::vector<Break> read_breaks(const std::string& name, const std::string& text) {
     std::vector<Break> breaks;
     uint64_t line_number = 0;
@@ -68,6 +74,7 @@ std::vector<Break> read_breaks(const std::string& name, const std::string& text)
     return breaks;
 }
 
+// Whether the break holds after the turn of this id in this round.
 bool holds(const Break& it, const World& world, uint64_t round, int id) {
     const Cell* cell = clear_cell(world, it.x, it.y);
     switch (it.kind) {
@@ -88,3 +95,43 @@ bool holds(const Break& it, const World& world, uint64_t round, int id) {
     }
     return false;
 }
+
+// The number of the first break that holds, counted from 1; 0 where none does.
+size_t break_that_holds(const std::vector<Break>& breaks, const World& world, uint64_t round, int id) {
+    for (size_t i = 0; i < breaks.size(); i++) {
+        if (holds(breaks[i], world, round, id)) {
+            return i + 1;
+        }
+    }
+    return 0;
+}
+
+std::string view_text(Game& game, const std::vector<Break>& breaks, uint64_t rounds) {
+    Trace trace;
+    const int ids = static_cast<int>(game.world.places.size());
+    for (uint64_t round = 1; round <= rounds; round++) {
+        for (int id = 0; id < ids; id++) {
+            take_turn(game.world, game.rules, game.random, id, trace);
+            const size_t number = break_that_holds(breaks, game.world, round, id);
+            if (number > 0) {
+                return "stop: round " + decimal(round) + ", ant " + decimal(id) + ", break " + decimal(number) + "\n" +
+                       cells_text(game.world);
+            }
+        }
+    }
+    return "no stop in " + decimal(rounds) + " rounds\n";
+}
+
+}  // namespace
+
+static const Command here("view", [](Words& words) {
+    const GameFiles files(words);
+    const std::string breaks_name = words.file_name();
+    Setup setup;
+    uint64_t rounds = 0;
+    words.options(seed_and_rounds(setup.seed, rounds));
+    files.fetch(setup);
+    const std::vector<Break> breaks = read_breaks(breaks_name, fetch(breaks_name));
+    Game game(setup);
+    print(seed_line(setup.seed) + view_text(game, breaks, rounds));
+});

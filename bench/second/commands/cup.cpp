@@ -1,9 +1,7 @@
-// Cups: the section of this name of docs/RULES.md.
+// `cup`: the section "Cups" of docs/RULES.md.
 #include <algorithm>
 
-#include "commands.hpp"
-#include "files.hpp"
-#include "turn.hpp"
+#include "command.hpp"
 
 namespace {
 
@@ -15,7 +13,6 @@ struct Cup {
     std::vector<std::string> brain_names;
     uint64_t seed = 0;
     uint64_t rounds = 0;
-    uint64_t workers = 1;
     bool tells_games = false;
 };
 
@@ -57,10 +54,7 @@ Cup read_cup(Words& words) {
     Cup cup;
     read_world_names(words, cup);
     read_brain_names(words, cup);
-    words.options({needed_number("--seed", 0, most_of_32_bits, cup.seed),
-                   needed_number("--rounds", 0, most_rounds, cup.rounds),
-                   free_number("--workers", 1, most_workers, cup.workers),
-                   flag("--games", cup.tells_games)});
+    words.options(seed_and_rounds(cup.seed, cup.rounds) + Options{workers_option(), flag("--games", cup.tells_games)});
     return cup;
 }
 
@@ -120,7 +114,7 @@ std::string standing_line(const Standing& it) {
 
 }  // namespace
 
-void cup(Words& words) {
+static const Command here("cup", [](Words& words) {
     const Cup cup = read_cup(words);
     std::vector<World> worlds;
     for (const std::string& name : cup.world_names) {
@@ -130,8 +124,7 @@ void cup(Words& words) {
     std::vector<Standing> standings;
     for (const std::string& name : cup.brain_names) {
         brains.push_back(fetch_brain(name));
-        standings.push_back(Standing());
-        standings.back().name = name;
+        standings.push_back({name});
     }
     std::string text;
     size_t number = 0;
@@ -151,4 +144,4 @@ void cup(Words& words) {
         text += standing_line(standing);
     }
     print(text);
-}
+});

@@ -1,0 +1,18 @@
+// `resume`: the section "Saved games" of docs/RULES.md.
+#include "command.hpp"
+#include "printed.hpp"
+#include "saved.hpp"
+
+static const Command here("resume", [](Words& words) {
+    const std::string name = words.file_name();
+    Telling told;
+    words.options({needed_number("--rounds", 0, most_rounds, told.rounds), dumps_option(told.dumps), workers_option(),
+                   flag("--stats", told.has_counts)});
+    const Saved saved = read_saved(name, fetch(name));
+    if (saved.round > told.rounds) {
+        refuse(5, name + ": already at round " + decimal(saved.round));
+    }
+    told.window = saved.window;
+    Game game(saved, saved.place);
+    play(game, told, "", saved.round, {saved.taken + saved.redone, saved.taken, saved.redone});
+});
