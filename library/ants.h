@@ -26,11 +26,18 @@
            return (int)status;
        }
 
-   TO LINK. One file is enough; it needs the C library alone.
+   TO LINK. One file is enough; it needs the C library alone. The header is for C from C99 on, and for C++ from C++11 on.
 
        cc -O2 -I. game.c libants.a -o game                       the static library, which is in this folder, as this header is
        cc -O2 game.c -o game $(pkg-config --cflags --libs ants)  libants.so, where `make install` or a package has put it; the system
                                                                  finds it as any, by ldconfig, LD_LIBRARY_PATH or -Wl,-rpath
+
+   WHICH VERSION. ANTS_VERSION is the header's, and ants_version() writes the library's. Where both can part, as with libants.so, ask first:
+
+       uint8_t version[32];
+       size_t used = 0;
+       if (ants_version(version, sizeof version, &used) != ANTS_DONE || used != strlen(ANTS_VERSION) || memcmp(version, ANTS_VERSION, used))
+           return 1;
 
    EACH CALL answers a status:
 
@@ -38,11 +45,21 @@
        ANTS_NUMBER   a number is beyond its limits: more than 1,000,000 rounds; a width or height that isn't 3 to 512; more than 255
                      rocks or blobs
        ANTS_NO_ROOM  the room is too small. A call that writes a text into `out` has written the length that the text has to `used`,
-                     and as much of the text as has room to `out`: call again with room for `used` bytes
+                     and as much of the text as has room to `out`: call again with room for `used` bytes. The whole call is made
+                     again then, also the game that it plays: choose a first room that is seldom too small
        ANTS_REFUSED  a text is refused, the first one that is: `fault` says which text and why in numbers, and `words` in words, as
                      many bytes as have room (no zero byte ends them; they have fault.words bytes in full). Or an element of a
                      generated world has no room
        ANTS_MEMORY   memory could not be had; nothing was kept
+
+   HOW MUCH ROOM is always enough, in bytes; no call reads or writes what it doesn't need of it:
+
+       ants_run, ants_resume                100 + dumps * (30 + 150 * width * height), for as many dumps as come; most cells have 20 to 25
+       ants_save                            4,194,304; mostly some 4 for a cell, and the two brains
+       ants_brain, ants_minimise, ants_asm  420,000, which is 42 for each state
+       ants_same                            200
+       ants_gen                             20 + height * (2 * width + 1)
+       words of a fault                     100
 
    The numbers are looked at first, then the room for scores, then the texts in their order. A result is written at ANTS_DONE alone, `used`
    and `out` at ANTS_NO_ROOM too, `fault` and `words` at ANTS_REFUSED alone; all else stays as it was. A text that is done is in the first
@@ -50,20 +67,19 @@
 
    WHAT A CALLER OWES, and nobody checks. The functions are proved for callers that keep to this:
 
-    1. No pointer is NULL, and each is aligned for its type, also where its length is 0.
+    1. No pointer is NULL, and each is aligned for its type; but one whose length is 0 may be anything, as NULL, and is not looked at.
     2. As many elements lie there as the length says, in one block of at most 2^63 - 1 bytes that may be read, and written to where the
        parameter has no `const`.
     3. What a call may write to (score, scores, out, used, fault, words) overlaps nothing else that it is passed, is initialised before
        the call, and is read and written by nobody else during it. What it only reads is written by nobody during it.
-    4. This header and the library are of one version: nothing is checked at the link.
+    4. This header and the library are of one version: nothing is checked at the link, but ants_version() can be asked.
     5. malloc, realloc and free are of one allocator, and align a block to each power of two up to 16 that divides its size. One that
        stands in for them replaces all three.
     6. No call comes from a signal handler, nor from the forked child of a process with threads.
     7. There is stack enough. No proof bounds it; 16 KB were enough for the largest texts, so a thread with 64 KB is safe.
     8. The system is Linux on x86-64 with glibc, and the processor has x86-64-v2 (SSE4.2 and POPCNT), as all have since 2013: on one
        without it a call dies of an illegal instruction.
-    9. In a static link the names ants_*, rattle_alloc, rattle_realloc and rattle_dealloc mean the library's own functions. A second
-       library that brings these three is linked with libants.so, which shows ants_* alone.
+    9. In the link the names ants_* mean the library's own functions. It shows no others.
    10. No call is cut off halfway, as by longjmp or pthread_cancel: it would keep its memory. A call can't be stopped: 1,000,000 rounds
        of 16,384 ants may take hours, so choose rounds with care.
 
@@ -78,6 +94,9 @@
 #ifdef __cplusplus
 extern "C" {
 #endif
+
+// The version of this source, which is the program's: three numbers, and `-dev` behind them where it is of no release (this project's own).
+#define ANTS_VERSION "1.1.0"
 
 // What a call answers.
 enum ants_status {
@@ -122,6 +141,12 @@ struct ants_score_data {
     uint32_t black;
 };
 
+// Lays the version of the library over `out`, such as `1.1.0`: what the program's `--version` prints behind `ants ` (this project's own).
+// Returns 0 or 4, and writes for each what `ants_run` writes. This function stays as it is in each version, so that a caller who was built for
+// another one can ask before any other call.
+uint32_t ants_version(
+    uint8_t *out, size_t out_len, size_t *used);
+
 // Plays a game by the contest's rules, turn after turn, and gives its score (the task's game play). The status is
 // - 0: the texts are those of a world and of two brains, and the score is that of their game after so many rounds with this seed;
 // - 2: there are more than 1,000,000 rounds;
@@ -163,19 +188,19 @@ uint32_t ants_brain(
     uint8_t *words, size_t words_len);
 
 // Lays the canonical text of a brain, minimised, over `out`: what the program's `minimise` writes below its first line (over the task's
-// neurology). The status is 0, 4, 5 or 6, and what is written is so, as at `ants_run`.
+// neurology). Returns 0, 4, 5 or 6, and writes for each what `ants_run` writes.
 uint32_t ants_minimise(
     const uint8_t *brain, size_t brain_len, uint8_t *out, size_t out_len, size_t *used, struct ants_fault_data *fault,
     uint8_t *words, size_t words_len);
 
-// Lays the canonical text of the brain that a labelled program becomes over `out`, as the program's `asm` (this project's own). The status is
-// 0, 4, 5 or 6, and what is written is so, as at `ants_run`.
+// Lays the canonical text of the brain that a labelled program becomes over `out`, as the program's `asm` (this project's own).
+// Returns 0, 4, 5 or 6, and writes for each what `ants_run` writes.
 uint32_t ants_asm(
     const uint8_t *program, size_t program_len, uint8_t *out, size_t out_len, size_t *used,
     struct ants_fault_data *fault, uint8_t *words, size_t words_len);
 
-// Lays `same`, or the three lines of where two brains first differ, over `out`, as the program's `same` (over the task's neurology). The
-// status is 0, 4, 5 or 6, and what is written is so, as at `ants_run`.
+// Lays `same`, or the three lines of where two brains first differ, over `out`, as the program's `same` (over the task's neurology).
+// Returns 0, 4, 5 or 6, and writes for each what `ants_run` writes.
 uint32_t ants_same(
     const uint8_t *first, size_t first_len, const uint8_t *second, size_t second_len, uint8_t *out, size_t out_len,
     size_t *used, struct ants_fault_data *fault, uint8_t *words, size_t words_len);
@@ -191,7 +216,7 @@ uint32_t ants_gen(
     size_t *used, struct ants_fault_data *fault, uint8_t *words, size_t words_len);
 
 // Plays a game as `ants_score` does, and lays the text of its save after so many rounds over `out`, as the program's `save` (this project's own).
-// The status is 0, 2, 4, 5 or 6, and what is written is so, as at `ants_run`. Nothing is written before the last round is played.
+// Returns 0, 2, 4, 5 or 6, and writes for each what `ants_run` writes. Nothing is written before the last round is played.
 uint32_t ants_save(
     const uint8_t *world, size_t world_len, const uint8_t *red, size_t red_len, const uint8_t *black, size_t black_len,
     uint32_t seed, uint32_t rounds, uint8_t *out, size_t out_len, size_t *used, struct ants_fault_data *fault,

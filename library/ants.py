@@ -4,31 +4,39 @@
     world, brain = open("contest.world").read(), open("sample.brain").read()
     red, black = ants.score(world, brain, brain, seed=12345, rounds=1000)
 
-A text is given as str or bytes, and comes as str: what the program `ants` writes for it. A text that is refused raises `Refused`, with the program's
-words; a number beyond its limits raises ValueError, and memory that could not be had MemoryError. Any threads may call at once: while a call runs, other
-threads of Python run too. No call is made in a forked child of a process with threads: `multiprocessing` begins its processes by "spawn".
+A text is given as str or bytes, and comes as str: what the program `ants` writes for it. What is neither, as a file's name in a Path, is a TypeError. A
+text that is refused raises `Refused`, with the program's words; a number beyond its limits raises ValueError, and memory that could not be had
+MemoryError. Any threads may call at once: while a call runs, other threads of Python run too. No call is made in a forked child of a process with
+threads: `multiprocessing` begins its processes by "spawn".
 
 The library is the file that the variable ANTS_LIBRARY names; else libants.so beside this file, in the folder `lib` that this file is in or that is
-beside it, or in that of Python; else the one that the system finds.
+beside it, or in that of Python; else the one that the system finds. Where it is not there, or of another version than this file, importing is an
+ImportError.
 """
 import ctypes
+import mmap
 import operator
 import os
 import pathlib
+import re
 import sys
-from ctypes import POINTER, byref, c_char_p, c_size_t, c_uint32, c_uint64
-from typing import Dict, Iterable, List, NamedTuple, Sequence, Union
+from array import array
+from ctypes import POINTER, byref, c_char, c_char_p, c_size_t, c_uint32, c_uint64
+from typing import Dict, Iterable, List, NamedTuple, Optional, Union
 
-__all__ = ["Refused", "Score", "asm", "brain", "gen", "minimise", "resume", "run", "same", "save", "score", "scores"]
+__all__ = ["Difference", "Refused", "Score", "asm", "brain", "difference", "gen", "minimise", "resume", "run", "same", "save", "score", "scores"]
 
 Text = Union[str, bytes, bytearray, memoryview]
 
-MOST = 2 ** 32 - 1
-LIMITS = "rounds are 0 to 1,000,000, width and height 3 to 512, rocks and blobs 0 to 255"
-WORDS = 1024  # bytes for the words of a fault, which have some dozens
+_MOST = 2 ** 32 - 1
+_MOST_ROUNDS = 10 ** 6
+_MOST_CELLS = 512 * 512
+_WORDS = 1024  # bytes for the words of a fault, which have some dozens
+_MOST_GUESSED = 1 << 28  # bytes of a room for a text whose length isn't known; only those that are written take memory
 
 
 # made: declarations
+__version__ = "1.1.0"
 _DONE = 0  # Done.
 _NUMBER = 2  # A number is beyond its limits.
 _NO_ROOM = 4  # The caller's room is too small.
@@ -45,6 +53,7 @@ class _Score(ctypes.Structure):
 
 
 _DECLARED = {
+    "ants_version": [c_char_p, c_size_t, POINTER(c_size_t)],
     "ants_score": [c_char_p, c_size_t, c_char_p, c_size_t, c_char_p, c_size_t, c_uint32, c_uint32, POINTER(_Score), POINTER(_Fault),
         c_char_p, c_size_t],
     "ants_scores": [c_char_p, c_size_t, c_char_p, c_size_t, c_char_p, c_size_t, POINTER(c_uint32), c_size_t, c_uint32, POINTER(_Score),
@@ -71,6 +80,18 @@ class Score(NamedTuple):
     black: int
 
 
+class Difference(NamedTuple):
+    """Where two brains first differ: after how many answers, and in which state each is then, with its instruction there.
+
+    An answer is what an instruction comes to: met, or unmet where it names two states.
+    """
+    answers: int
+    first_state: int
+    first: str
+    second_state: int
+    second: str
+
+
 class Refused(ValueError):
     """A text is refused, or an element of a generated world has no room. It reads as the program's line does, with the text's name for a file's.
 
@@ -78,7 +99,7 @@ class Refused(ValueError):
     kind, line, column, number: the same in numbers; library/ants.h says what they mean.
     """
 
-    def __init__(self, name: str, words: str, kind: int, line: int, column: int, number: int):
+    def __init__(self, name: str, words: str, kind: int, line: int, column: int, number: int) -> None:
         super().__init__(name, words, kind, line, column, number)
         self.name, self.words, self.kind, self.line, self.column, self.number = name, words, kind, line, column, number
 
@@ -101,130 +122,181 @@ def _places() -> Iterable[str]:
 
 
 def _load() -> ctypes.CDLL:
-    """The library, with the types of its functions."""
+    """The library, of this version, with the types of its functions."""
     place = next(iter(_places()))
     try:
         library = ctypes.CDLL(place)
     except OSError as fault:
         raise ImportError("%s; ANTS_LIBRARY may name libants.so, which `make library` makes" % fault) from None
     for name, given in _DECLARED.items():
-        function = getattr(library, name)
+        try:
+            function = getattr(library, name)
+        except AttributeError:
+            raise ImportError("%s: no %s in it, so it is not libants.so of version %s" % (place, name, __version__)) from None
         function.argtypes, function.restype = given, c_uint32
+    out, used = ctypes.create_string_buffer(64), c_size_t()
+    library.ants_version(out, len(out), byref(used))
+    if out.value.decode("ascii", "replace") != __version__:
+        raise ImportError("%s: of version %s, and ants.py is of %s" % (place, out.value.decode("ascii", "replace"), __version__))
     return library
 
 
 _library = _load()
 
 
-def _bytes(text: Text) -> bytes:
-    return text.encode("utf-8", "surrogateescape") if isinstance(text, str) else bytes(text)
+def _bytes(name: str, text: Text) -> bytes:
+    """The bytes of a text."""
+    if isinstance(text, str):
+        return text.encode("utf-8", "surrogateescape")
+    try:
+        view = memoryview(text)
+        is_text = view.ndim == 1 and view.format in ("B", "b", "c")
+    except TypeError:
+        is_text = False
+    if not is_text:
+        raise TypeError("%s: a text is wanted, as str or bytes, and not a file's name or anything else: %s" % (name, type(text).__name__))
+    return text if isinstance(text, bytes) else view.tobytes()
 
 
-def _number(name: str, value: int) -> int:
-    """A number that fits, since ctypes would take it modulo 2^32."""
+def _texts(**texts: Text) -> Dict[str, bytes]:
+    """The bytes of texts by their names."""
+    return {name: _bytes(name, text) for name, text in texts.items()}
+
+
+def _number(name: str, value: int, least: int = 0, most: int = _MOST) -> int:
+    """A number within its limits, which ctypes would take modulo 2^32."""
     number = operator.index(value)
-    if not 0 <= number <= MOST:
-        raise ValueError("%s: %d is not 0 to %d" % (name, number, MOST))
+    if not least <= number <= most:
+        raise ValueError("%s: %d is not %d to %d" % (name, number, least, most))
     return number
 
 
-def _numbers(name: str, values: Iterable[int]):
-    """An array of numbers that isn't null, and how many there are."""
-    numbers = [_number(name, it) for it in values]
-    return (c_uint32 * max(1, len(numbers)))(*numbers), len(numbers)
+def _dumped(dumps: Iterable[int], rounds: int) -> List[int]:
+    """The rounds after which a dump comes, each once: none comes after the last round."""
+    return sorted({it for it in (_number("dumps", it) for it in dumps) if it <= rounds})
 
 
-def _done(function: str, texts: Dict[str, Text], *more) -> bool:
+def _numbers(numbers: Iterable[int]) -> "array[int]":
+    """Numbers as C has them, with one behind them, so that their place is no null."""
+    return array("I", [*numbers, 0])
+
+
+def _done(function: str, texts: Dict[str, bytes], *more: object) -> bool:
     """Calls a function of the library; whether it had room enough."""
-    given: List = []
-    for text in map(_bytes, texts.values()):
+    given: List[object] = []
+    for text in texts.values():
         given += [text, len(text)]
-    fault, words = _Fault(), ctypes.create_string_buffer(WORDS)
-    status = getattr(_library, function)(*given, *more, byref(fault), words, WORDS)
+    fault, words = _Fault(), ctypes.create_string_buffer(_WORDS)
+    status = getattr(_library, function)(*given, *more, byref(fault), words, _WORDS)
     if status == _NUMBER:
-        raise ValueError("a number is beyond its limits: " + LIMITS)
+        raise ValueError("a number is beyond its limits")
     if status == _REFUSED:
         line = words.raw[:fault.words].decode("utf-8", "replace")
         raise Refused(["", *texts][fault.text], line, fault.kind, fault.line, fault.column, fault.number)
     if status == _MEMORY:
         raise MemoryError("memory could not be had")
-    return status == _DONE
+    return bool(status == _DONE)
 
 
-def _text(function: str, texts: Dict[str, Text], *more, room: int = 1 << 16) -> str:
+def _text(function: str, texts: Dict[str, bytes], *more: object, room: int = 1 << 16) -> str:
     """Calls a function that writes a text, once more where the text turns out to be longer than the room."""
     while True:
-        out, used = ctypes.create_string_buffer(room), c_size_t()
-        if _done(function, texts, *more, out, room, byref(used)):
-            return ctypes.string_at(out, used.value).decode("ascii")
+        try:
+            area = mmap.mmap(-1, room, flags=mmap.MAP_PRIVATE | mmap.MAP_ANONYMOUS)
+        except OSError:
+            raise MemoryError("memory could not be had") from None
+        out, used = c_char.from_buffer(area), c_size_t()
+        if _done(function, texts, *more, byref(out), room, byref(used)):
+            with memoryview(area) as view:
+                return str(view[:used.value], "ascii")
         room = used.value
 
 
-def _cells(world: Text) -> int:
+def _cells(world: bytes) -> int:
     """How many cells a world's text has, or some more."""
-    return len(world) - _bytes(world).count(b" ")
+    return min(len(world) - world.count(b" "), _MOST_CELLS)
 
 
-def _room_of_run(count: int, cells: int) -> int:
-    """A guess of how long the text of a game with this number of dumps is, so that it is seldom played twice: a cell of a dump has some 20 bytes."""
-    return (1 << 12) + count * cells * 32
+def _room_of_run(dumps: int, cells: int) -> int:
+    """A guess of how long the text of a game is, so that it is seldom played twice: a cell of a dump has some 20 to 25 bytes, and at most 150."""
+    return min((1 << 12) + dumps * cells * 40, _MOST_GUESSED)
 
 
 def score(world: Text, red: Text, black: Text, seed: int, rounds: int) -> Score:
     """The score of a game after this number of rounds."""
+    game = _texts(world=world, red=red, black=black)
     found = _Score()
-    _done("ants_score", {"world": world, "red": red, "black": black}, _number("seed", seed), _number("rounds", rounds), byref(found))
+    _done("ants_score", game, _number("seed", seed), _number("rounds", rounds, most=_MOST_ROUNDS), byref(found))
     return Score(found.red, found.black)
 
 
 def scores(world: Text, red: Text, black: Text, seeds: Iterable[int], rounds: int) -> List[Score]:
     """The score of a game for each of these seeds; the texts are read once."""
-    numbers, count = _numbers("seed", seeds)
-    found = (_Score * max(1, count))()
-    _done("ants_scores", {"world": world, "red": red, "black": black}, numbers, count, _number("rounds", rounds), found, count)
+    game = _texts(world=world, red=red, black=black)
+    rounds = _number("rounds", rounds, most=_MOST_ROUNDS)
+    numbers = _numbers(_number("seeds", it) for it in seeds)
+    count = len(numbers) - 1
+    found = (_Score * (count + 1))()
+    _done("ants_scores", game, byref(c_uint32.from_buffer(numbers)), count, rounds, found, count)
     return [Score(it.red, it.black) for it in found[:count]]
 
 
-def run(world: Text, red: Text, black: Text, seed: int, rounds: int, dumps: Sequence[int] = ()) -> str:
+def run(world: Text, red: Text, black: Text, seed: int, rounds: int, dumps: Iterable[int] = ()) -> str:
     """What `ants run` prints of a game, with a dump after each of these rounds."""
-    numbers, count = _numbers("dump", dumps)
-    room = _room_of_run(min(count, rounds + 1), _cells(world))
-    return _text("ants_run", {"world": world, "red": red, "black": black}, _number("seed", seed), _number("rounds", rounds), numbers, count, room=room)
+    game = _texts(world=world, red=red, black=black)
+    seed, rounds = _number("seed", seed), _number("rounds", rounds, most=_MOST_ROUNDS)
+    dumped = _dumped(dumps, rounds)
+    room = _room_of_run(len(dumped), _cells(game["world"]))
+    return _text("ants_run", game, seed, rounds, byref(c_uint32.from_buffer(_numbers(dumped))), len(dumped), room=room)
 
 
 def save(world: Text, red: Text, black: Text, seed: int, rounds: int) -> str:
     """The game as it stands after this number of rounds, as `ants save` prints it."""
-    room = (1 << 12) + 8 * _cells(world) + 4 * (len(red) + len(black))  # a cell has four bytes of a save
-    return _text("ants_save", {"world": world, "red": red, "black": black}, _number("seed", seed), _number("rounds", rounds), room=room)
+    game = _texts(world=world, red=red, black=black)
+    room = (1 << 12) + 8 * _cells(game["world"]) + 4 * (len(game["red"]) + len(game["black"]))  # a cell has four bytes of a save
+    return _text("ants_save", game, _number("seed", seed), _number("rounds", rounds, most=_MOST_ROUNDS), room=min(room, _MOST_GUESSED))
 
 
-def resume(save: Text, rounds: int, dumps: Sequence[int] = ()) -> str:
+def resume(save: Text, rounds: int, dumps: Iterable[int] = ()) -> str:
     """What `ants resume` prints of a saved game that goes on to this number of rounds in all."""
-    numbers, count = _numbers("dump", dumps)
-    return _text("ants_resume", {"save": save}, _number("rounds", rounds), numbers, count, room=_room_of_run(min(count, rounds + 1), len(save) // 4))
+    saved = _texts(save=save)
+    rounds = _number("rounds", rounds, most=_MOST_ROUNDS)
+    dumped = _dumped(dumps, rounds)
+    room = _room_of_run(len(dumped), min(len(saved["save"]) // 4, _MOST_CELLS))
+    return _text("ants_resume", saved, rounds, byref(c_uint32.from_buffer(_numbers(dumped))), len(dumped), room=room)
 
 
 def brain(text: Text) -> str:
     """The canonical text of a brain."""
-    return _text("ants_brain", {"brain": text})
+    return _text("ants_brain", {"brain": _bytes("brain", text)})
 
 
 def minimise(brain: Text) -> str:
     """The canonical text of the brain with equivalent states merged and unreached ones dropped: what `ants minimise` prints below its first line."""
-    return _text("ants_minimise", {"brain": brain})
+    return _text("ants_minimise", _texts(brain=brain))
 
 
 def asm(program: Text) -> str:
     """The canonical text of the brain that a program with labels and blocks becomes."""
-    return _text("ants_asm", {"program": program})
+    return _text("ants_asm", _texts(program=program))
 
 
-def same(first: Text, second: Text) -> str:
-    """Whether two brains are the same but for the numbers of their states: "same", or where they first differ, as `ants same` prints it."""
-    return _text("ants_same", {"first": first, "second": second})
+def same(first: Text, second: Text) -> bool:
+    """Whether two brains are the same but for the numbers of their states."""
+    return difference(first, second) is None
+
+
+def difference(first: Text, second: Text) -> Optional[Difference]:
+    """Where two brains first differ, or None where they are the same but for the numbers of their states."""
+    text = _text("ants_same", _texts(first=first, second=second))
+    if text == "same\n":
+        return None
+    found = re.fullmatch(r"different after (\d+) answers\nfirst (\d+): (.*)\nsecond (\d+): (.*)\n", text)
+    assert found, text
+    return Difference(int(found[1]), int(found[2]), found[3], int(found[4]), found[5])
 
 
 def gen(seed: int, width: int = 150, height: int = 150, rocks: int = 14, blobs: int = 11) -> str:
     """A world in the contest's manner, as `ants gen` prints it."""
-    numbers = (_number(name, it) for name, it in (("seed", seed), ("width", width), ("height", height), ("rocks", rocks), ("blobs", blobs)))
-    return _text("ants_gen", {}, *numbers)
+    sides = _number("width", width, 3, 512), _number("height", height, 3, 512)
+    return _text("ants_gen", {}, _number("seed", seed), *sides, _number("rocks", rocks, most=255), _number("blobs", blobs, most=255))

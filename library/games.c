@@ -26,14 +26,16 @@ int main(int count, char **given) {
     uint8_t words[200] = {0};
     size_t lengths[3];
     uint8_t *texts[3];
-    if (count != 5) {
+    char *end = "";
+    unsigned long rounds = count == 5 ? strtoul(given[4], &end, 10) : 0;
+    if (count != 5 || given[4] == end || *end || rounds > 1000000) {
         fprintf(stderr, "usage: games WORLD RED BLACK ROUNDS\n");
         return 2;
     }
     for (int i = 0; i < 3; i++) texts[i] = content(given[1 + i], &lengths[i]);
     for (uint32_t i = 0; i < GAMES; i++) seeds[i] = i;
     uint32_t status = ants_scores(texts[0], lengths[0], texts[1], lengths[1], texts[2], lengths[2], seeds, GAMES,
-                                  (uint32_t)strtoul(given[4], NULL, 10), scores, GAMES, &fault, words, sizeof words);
+                                  (uint32_t)rounds, scores, GAMES, &fault, words, sizeof words);
     if (status == ANTS_REFUSED)
         fprintf(stderr, "games: %s: %.*s\n", given[fault.text], (int)sizeof words, (const char *)words);
     else if (status != ANTS_DONE)

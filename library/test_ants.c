@@ -73,6 +73,29 @@ static void text_rows(void) {
     ROW(is_fault(1, 50, 1, 0, 0, "line 1: not a save"));
 }
 
+/* A place of no elements may be anything, as NULL. */
+static void null_rows(void) {
+    const char *text = "random seed: 7\n\nscore: red 0 black 0\n";
+    uint8_t *off = (uint8_t *)1;
+    clear();
+    ROW(ants_run(TEXT(world), TEXT(drop), TEXT(drop), 7, 0, NULL, 0, NULL, 0, &used, &fault, NULL, 0) == ANTS_NO_ROOM && used == strlen(text) && stays());
+    ROW(ants_run(TEXT(world), TEXT(drop), TEXT(drop), 7, 0, (uint32_t *)off, 0, out, 64, &used, &fault, off, 0) == ANTS_DONE && memcmp(out, text, used) == 0);
+    ROW(ants_scores(TEXT(world), TEXT(drop), TEXT(drop), NULL, 0, 1, NULL, 0, &fault, NULL, 0) == ANTS_DONE && stays());
+    ROW(ants_score(NULL, 0, TEXT(drop), TEXT(drop), 1, 1, scores, &fault, NULL, 0) == ANTS_REFUSED && fault.text == 1 && fault.kind == 10 && words[0] == '.');
+    clear();
+    ROW(ants_brain(NULL, 0, NULL, 0, &used, &fault, words, 64) == ANTS_REFUSED && is_fault(1, 26, 0, 0, 0, "no instruction") && used == 99);
+    ROW(ants_same(NULL, 0, NULL, 0, NULL, 0, &used, &fault, NULL, 0) == ANTS_REFUSED && fault.text == 1);
+    ROW(ants_resume(NULL, 0, 1, NULL, 0, NULL, 0, &used, &fault, NULL, 0) == ANTS_REFUSED && fault.kind == 50);
+}
+
+static void version_rows(void) {
+    clear();
+    ROW(ants_version(out, 64, &used) == ANTS_DONE && used == strlen(ANTS_VERSION) && memcmp(out, ANTS_VERSION, used) == 0 && out[used] == '.');
+    clear();
+    ROW(ants_version(out, 2, &used) == ANTS_NO_ROOM && used == strlen(ANTS_VERSION) && memcmp(out, ANTS_VERSION, 2) == 0 && out[2] == '.');
+    ROW(ants_version(NULL, 0, &used) == ANTS_NO_ROOM && used == strlen(ANTS_VERSION));
+}
+
 static void run_row(void) {
     const char *text = "random seed: 7\n\nscore: red 0 black 0\n";
     clear();
@@ -85,5 +108,7 @@ int main(void) {
     play_rows();
     text_rows();
     run_row();
+    null_rows();
+    version_rows();
     return failures != 0;
 }

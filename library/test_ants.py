@@ -3,11 +3,14 @@
 
 PROGRAM names the program, if it isn't that of the tree; the library is found as ants.py finds it.
 """
+import array
 import concurrent.futures
 import glob
 import os
+import pathlib
 import pickle
 import subprocess
+import sys
 import tempfile
 import unittest
 
@@ -133,7 +136,10 @@ class Games(Beside):
             for call in (ants.run, ants.save):
                 self.assertRaisesRegex(ants.Refused, "^" + name, lambda: call(**game, seed=1, rounds=1))
             self.assertRaisesRegex(ants.Refused, "^" + name, lambda: ants.scores(**game, seeds=[1], rounds=1))
-        self.assertRaisesRegex(ants.Refused, "^red", lambda: ants.score(good["world"], "", "", seed=1, rounds=1))
+        for first, second in (("world", "red"), ("world", "black"), ("red", "black")):
+            game = {**good, first: "", second: ""}
+            fault = self.assert_refused(lambda: ants.score(**game, seed=1, rounds=1), *self.run_words("run", 1, 1), **game)
+            self.assertEqual(fault.name, first)
 
     def test_threads_at_once(self):
         game = self.game("heap.world", "bring_home.brain", "trail.brain")
@@ -151,7 +157,8 @@ class Texts(Beside):
             self.assertEqual(ants.brain(brain), self.written("brain", "brain", brain=brain))
             _, _, below = self.written("minimise", "brain", brain=brain).partition("\n")
             self.assertEqual(ants.minimise(brain), below)
-            self.assertEqual(ants.same(brain, below), "same\n")
+            self.assertIs(ants.same(brain, below), True)
+            self.assertIsNone(ants.difference(brain, below))
 
     def test_brain_whose_text_is_longer_than_the_first_room(self):
         brain = "Flip 4294967295 9999 9999\n" * MOST_STATES
@@ -165,9 +172,14 @@ class Texts(Beside):
 
     def test_brains_that_differ(self):
         first, second = "Move 1 0\nDrop 0\n", "Move 1 0\nTurn Left 0\n"
-        self.assertEqual(ants.same(first, second), self.written("same", "first", "second", first=first, second=second))
-        for texts in (("", second), (first, "Drop 1\n")):
-            self.assert_refused(lambda: ants.same(*texts), "same", "first", "second", first=texts[0], second=texts[1])
+        self.assertIs(ants.same(first, second), False)
+        found = ants.difference(first, second)
+        self.assertEqual(found, (1, 1, "Drop 0", 1, "Turn Left 0"))
+        printed = self.written("same", "first", "second", first=first, second=second)
+        self.assertEqual("different after %d answers\nfirst %d: %s\nsecond %d: %s\n" % found, printed)
+        for name, texts in (("first", ("", second)), ("second", (first, "Drop 1\n")), ("first", ("", "Drop 1\n"))):
+            fault = self.assert_refused(lambda: ants.same(*texts), "same", "first", "second", first=texts[0], second=texts[1])
+            self.assertEqual(fault.name, name)
 
     def test_generated_worlds(self):
         self.assertEqual(ants.gen(12345), example("contest.world"))
@@ -197,6 +209,25 @@ class Texts(Beside):
         self.assertEqual((fault.name, fault.kind, fault.line, fault.column, fault.number), ("brain", 27, 2, 0, 7))
         self.assertEqual(str(fault), str(caught.exception))
 
+    def test_numbers_and_texts_at_their_limits(self):
+        stand = WORLD, "Drop 0\n", "Drop 0\n"
+        self.assertEqual(ants.score(*stand, 1, 1000000), (0, 0))
+        self.assertEqual(ants.scores(*stand, [1], 1000000), [(0, 0)])
+        self.assertTrue(ants.run(*stand, 1, 1000000).endswith("score: red 0 black 0\n"))
+        self.assertIn("round 1000000\n", ants.save(*stand, 1, 1000000))
+        self.assertTrue(ants.resume(ants.save(*stand, 1, 0), 1000000).endswith("score: red 0 black 0\n"))
+        longest = "Drop 0".ljust(MOST_BYTES)
+        self.assertEqual(ants.brain(longest), "Drop 0\n")
+        self.assertEqual(ants.score(WORLD.ljust(MOST_BYTES), longest, longest, 1, 0), (0, 0))
+        self.assertEqual(ants.asm("Drop next\nDrop next".ljust(MOST_BYTES)), "Drop 1\nDrop 0\n")
+        with self.assertRaises(ants.Refused) as caught:
+            ants.resume("x".ljust(MOST_BYTES), 1)
+        self.assertEqual(caught.exception.kind, 50)
+        for width, height, rocks, blobs in ((3, 3, 0, 0), (3, 512, 255, 255), (512, 3, 255, 255)):
+            with self.assertRaises(ants.Refused) as caught:
+                ants.gen(1, width=width, height=height, rocks=rocks, blobs=blobs)
+            self.assertEqual(caught.exception.kind, 60)
+
     def test_numbers_beyond_their_limits(self):
         for call in (
             lambda: ants.score(WORLD, "Drop 0\n", "Drop 0\n", 1, 1000001), lambda: ants.score(WORLD, "Drop 0\n", "Drop 0\n", MOST_SEED + 1, 1),
@@ -207,6 +238,76 @@ class Texts(Beside):
                 call()
             self.assertNotIsInstance(caught.exception, ants.Refused)
         self.assertRaises(TypeError, lambda: ants.score(WORLD, "Drop 0\n", "Drop 0\n", 1.5, 1))
+
+
+class WhatIsNoText(unittest.TestCase):
+    def test_is_a_type_error_that_names_it(self):
+        numbers = [68, 114, 111, 112, 32, 48, 10]  # "Drop 0", as a list of its bytes
+        for wrong in (pathlib.Path("contest.world"), 5, 5000000, True, 1.5, None, numbers, tuple(numbers), iter(numbers), {}, array.array("I", numbers)):
+            for call in (
+                lambda: ants.score(wrong, "", "", 1, 1), lambda: ants.scores(wrong, "", "", [1], 1), lambda: ants.run(wrong, "", "", 1, 1),
+                lambda: ants.save(wrong, "", "", 1, 1),
+            ):
+                self.assertRaisesRegex(TypeError, "^world: a text is wanted, as str or bytes, and not a file's name", call)
+            for call in (lambda: ants.brain(wrong), lambda: ants.minimise(wrong)):
+                self.assertRaisesRegex(TypeError, "^brain: a text is wanted", call)
+            self.assertRaisesRegex(TypeError, "^red: a text is wanted", lambda: ants.score(WORLD, wrong, "", 1, 1))
+            self.assertRaisesRegex(TypeError, "^program: a text is wanted", lambda: ants.asm(wrong))
+            self.assertRaisesRegex(TypeError, "^second: a text is wanted", lambda: ants.same("Drop 0\n", wrong))
+            self.assertRaisesRegex(TypeError, "^save: a text is wanted", lambda: ants.resume(wrong, 1))
+
+    def test_each_sort_of_bytes_is_a_text(self):
+        text = b"drop 00\n"
+        for right in (text, text.decode(), bytearray(text), memoryview(text), memoryview(b"x" + text)[1:], array.array("B", text)):
+            self.assertEqual(ants.brain(right), "Drop 0\n")
+
+
+class Memory(unittest.TestCase):
+    """What a call takes, in a process of its own."""
+
+    def python(self, lines, **more):
+        environ = {**os.environ, "PYTHONPATH": os.path.dirname(os.path.abspath(ants.__file__)), **more}
+        ran = subprocess.run([sys.executable, "-c", lines], env=environ, stdout=subprocess.PIPE, stderr=subprocess.PIPE, universal_newlines=True)
+        return ran.stdout, ran.stderr
+
+    def game(self):
+        return "import ants, resource\nworld = open(%r).read()\n" % os.path.join(TOP, "examples", "contest.world")
+
+    def test_a_dump_that_is_asked_for_again_costs_nothing(self):
+        limit = "resource.setrlimit(resource.RLIMIT_AS, (1 << 29, 1 << 29))\n"
+        call = "once, often = [ants.run(world, 'Drop 0', 'Drop 0', 1, 2, [2] * count) for count in (1, 100000)]\nprint(once == often)\n"
+        self.assertEqual(self.python(self.game() + limit + call), ("True\n", ""))
+
+    def test_too_many_rounds_are_refused_before_their_dumps(self):
+        self.assertRaisesRegex(ValueError, "^rounds: 1000001 is not 0 to 1000000$", lambda: ants.run(WORLD, "Drop 0", "Drop 0", 1, 1000001, iter(self.fail, 0)))
+        self.assertRaisesRegex(ValueError, "^rounds: ", lambda: ants.resume("", 2 ** 32 - 1, range(10 ** 12)))
+
+    def test_a_text_costs_twice_its_bytes(self):
+        peak = "resource.getrusage(resource.RUSAGE_SELF).ru_maxrss * 1024"
+        call = "before = %s\ntext = ants.run(world, 'Drop 0', 'Drop 0', 1, 160, range(160))\nprint(len(text), %s - before)\n" % (peak, peak)
+        said, faults = self.python(self.game() + call)
+        self.assertEqual(faults, "")
+        size, cost = map(int, said.split())
+        self.assertGreater(size, 60000000)
+        self.assertLess(cost, 2.2 * size)
+
+    def test_another_library_is_an_import_error(self):
+        with tempfile.TemporaryDirectory(prefix="ants-") as folder:
+            source, other = os.path.join(folder, "other.c"), os.path.join(folder, "other.so")
+            for version, names, words in (("0.9.0", ants._DECLARED, "of version 0.9.0, and ants.py is of "), (ants.__version__, ["ants_version"], "no ants_score in it")):
+                with open(source, "w", encoding="ascii") as file:
+                    file.write("#include <string.h>\nunsigned ants_version(char *out, unsigned long room, unsigned long *used)\n")
+                    file.write('{ *used = strlen("%s"); memcpy(out, "%s", *used); return room == 0; }\n' % (version, version))
+                    file.writelines("void %s(void) {}\n" % name for name in names if name != "ants_version")
+                subprocess.run(["cc", "-shared", "-fPIC", source, "-o", other], check=True)
+                said, faults = self.python("try:\n    import ants\nexcept ImportError as fault:\n    print(fault)\n", ANTS_LIBRARY=other)
+                self.assertTrue(said.startswith(other + ": " + words), said + faults)
+            said, faults = self.python("try:\n    import ants\nexcept ImportError as fault:\n    print(fault)\n", ANTS_LIBRARY=os.path.join(folder, "none"))
+            self.assertIn("ANTS_LIBRARY may name libants.so", said, faults)
+
+    def test_the_version_is_that_of_the_program(self):
+        printed = subprocess.run([PROGRAM, "--version"], stdout=subprocess.PIPE, check=True).stdout.decode()
+        self.assertEqual(printed, "ants %s\n" % ants.__version__)
 
 
 if __name__ == "__main__":

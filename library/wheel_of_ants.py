@@ -29,6 +29,7 @@ def row(name, data):
 def build_wheel(wheel_directory, config_settings=None, metadata_directory=None):
     """Writes the wheel into a folder, and gives its name: what pip calls."""
     project = dict(re.findall(r'^([a-z-]+) = "(.*)"$', content("pyproject.toml").decode().partition("[project]")[2], re.M))
+    project["version"] = project["version"].replace("-dev", ".dev0")  # as Python spells it
     stem = "%(name)s-%(version)s" % project
     files = {name: content(name) for name in FILES}
     files[stem + ".dist-info/METADATA"] = (METADATA % project).encode()

@@ -8,7 +8,7 @@ fn main() -> Result<(), Box<dyn Error>> {
     };
     let (world, red, black) = (fs::read(world)?, fs::read(red)?, fs::read(black)?);
     let seeds: Vec<u32> = (0..1000).collect();
-    let game = ants::Game { world: &world, red: &red, black: &black };
+    let game = ants::Game::new(&world, &red, &black);
     for (seed, score) in seeds.iter().zip(game.scores(&seeds, rounds.parse()?)?) {
         println!("{seed} {} {}", score.red, score.black);
     }

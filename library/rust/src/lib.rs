@@ -1,33 +1,61 @@
 //! The ant world of the ICFP Programming Contest 2004 for Rust: safe calls of the proved library `libants.a`.
 //!
-//! A text is bytes, and comes as a `String`: what the program `ants` writes for it. No call has a condition that a caller in safe Rust could break, but for
-//! what the head of `library/ants.h` says of the machine, the stack, signal handlers and forked children.
-#![deny(unsafe_op_in_unsafe_fn)]
+//! A text is given as anything that is bytes, as a `&str` or what `fs::read` gives, and comes as a `String`: what the program `ants` writes for it. No
+//! call has a condition that a caller in safe Rust could break, but for what the head of `library/ants.h` says of the machine, the stack, signal handlers
+//! and forked children.
+//!
+//! ```
+//! let world = "6\n4\n######\n#+.3-#\n #.5..#\n######\n";
+//! let game = ants::Game::new(world, "Move 1 0\nPickUp 0 0\n", "Flip 2 0 0\n");
+//! for score in game.scores(&[12345, 7], 1000)? {
+//!     println!("red {} black {}", score.red, score.black);
+//! }
+//! # Ok::<(), ants::Stop>(())
+//! ```
+#![deny(unsafe_op_in_unsafe_fn, missing_docs)]
 
 pub mod raw;
 
-use raw::{Fault, Score};
+pub use raw::{Fault, Score};
+use std::collections::BTreeSet;
 use std::fmt;
 
 /// Why a call has no result.
+///
+/// ```
+/// let stop = ants::minimise("Move 0 7\n").unwrap_err();
+/// assert_eq!(stop.to_string(), "brain: line 1: no such state 7");
+/// let ants::Stop::Refused { name, fault, .. } = stop else { panic!("{stop}") };
+/// assert_eq!((name, fault.kind, fault.line, fault.number), ("brain", 27, 1, 7));
+/// ```
 #[derive(Clone, Debug, PartialEq, Eq)]
+#[non_exhaustive]
 pub enum Stop {
     /// A number is beyond its limits: rounds 0 to 1,000,000, width and height 3 to 512, rocks and blobs 0 to 255.
     Limit,
-    /// A text is refused, or an element of a generated world has no room: the numbers, and the program's words. It is displayed behind the text's
-    /// number, from 1 in the order of the call.
-    Refused(Fault, String),
+    /// A text is refused, or an element of a generated world has no room. It is displayed as the program's line, with the text's name for a file's.
+    Refused {
+        /// Which text, as the call's parameter is called, or the game's; empty where it is none.
+        name: &'static str,
+        /// The program's words.
+        words: String,
+        /// The same in numbers.
+        fault: Fault,
+    },
     /// Memory could not be had.
     OutOfMemory,
+    /// The `libants.a` that is linked is of this version, and this crate is of [`raw::VERSION`].
+    OtherVersion(String),
 }
 
 impl fmt::Display for Stop {
     fn fmt(&self, f: &mut fmt::Formatter<'_>) -> fmt::Result {
         match self {
             Stop::Limit => f.write_str("a number is beyond its limits"),
-            Stop::Refused(fault, words) if fault.text > 0 => write!(f, "text {}: {words}", fault.text),
-            Stop::Refused(_, words) => f.write_str(words),
+            Stop::Refused { name: "", words, .. } => f.write_str(words),
+            Stop::Refused { name, words, .. } => write!(f, "{name}: {words}"),
             Stop::OutOfMemory => f.write_str("out of memory"),
+            Stop::OtherVersion(version) => write!(f, "libants.a is of version {version}, and this crate of {}", raw::VERSION),
         }
     }
 }
@@ -35,90 +63,275 @@ impl fmt::Display for Stop {
 impl std::error::Error for Stop {}
 
 /// The two hills' brains on a world, as texts.
+///
+/// ```
+/// let (world, red) = (ants::world(12345, 150, 150, 14, 11)?, String::from("Move 0 0\n"));
+/// let game = ants::Game::new(&world, &red, b"Drop 0\n");
+/// assert_eq!(game.score(7, 0)?, ants::Score { red: 0, black: 0 });
+/// # Ok::<(), ants::Stop>(())
+/// ```
 #[derive(Clone, Copy, Debug)]
 pub struct Game<'a> {
+    /// The world.
     pub world: &'a [u8],
+    /// The brain of the red ants.
     pub red: &'a [u8],
+    /// The brain of the black ants.
     pub black: &'a [u8],
 }
 
-/// Calls a function with room for a fault and its words; whether the room for its result was enough.
-fn done(call: impl FnOnce(&mut Fault, &mut [u8]) -> u32) -> Result<bool, Stop> {
+/// Where two brains first differ. An answer is what an instruction comes to: met, or unmet where it names two states.
+#[derive(Clone, Debug, PartialEq, Eq)]
+pub struct Difference {
+    /// After how many answers they differ.
+    pub answers: u64,
+    /// In which state the first brain is then.
+    pub first_state: u32,
+    /// Its instruction there.
+    pub first: String,
+    /// In which state the second brain is then.
+    pub second_state: u32,
+    /// Its instruction there.
+    pub second: String,
+}
+
+/// How many bytes a room for a text whose length isn't known has at most; only those that are written take memory.
+const MOST_GUESSED: usize = 1 << 28;
+
+/// The room for a short text.
+const ROOM: usize = 1 << 16;
+
+/// Whether the library is of this crate's version.
+fn look() -> Result<(), Stop> {
+    let (mut out, mut used) = ([0; 64], 0);
+    raw::ants_version(&mut out, &mut used);
+    let version = &out[..used.min(out.len())];
+    if version == raw::VERSION.as_bytes() {
+        Ok(())
+    } else {
+        Err(Stop::OtherVersion(String::from_utf8_lossy(version).into_owned()))
+    }
+}
+
+/// Calls a function over the texts of these names, with room for a fault and its words; whether the room for its result was enough.
+fn done(names: &[&'static str], call: impl FnOnce(&mut Fault, &mut [u8]) -> u32) -> Result<bool, Stop> {
+    look()?;
     let (mut fault, mut words) = (Fault::default(), [0; 1024]);
     match call(&mut fault, &mut words) {
         raw::DONE => Ok(true),
         raw::NO_ROOM => Ok(false),
         raw::NUMBER => Err(Stop::Limit),
         raw::REFUSED => {
+            let name = (fault.text as usize).checked_sub(1).and_then(|at| names.get(at)).copied().unwrap_or("");
             let length = usize::try_from(fault.words).map_or(words.len(), |it| it.min(words.len()));
-            Err(Stop::Refused(fault, String::from_utf8_lossy(&words[..length]).into_owned()))
+            Err(Stop::Refused { name, words: String::from_utf8_lossy(&words[..length]).into_owned(), fault })
         }
         _ => Err(Stop::OutOfMemory),
     }
 }
 
-/// Calls a function that writes a text, once more where the text turns out to be longer than the room.
-fn text(call: impl Fn(&mut [u8], &mut usize, &mut Fault, &mut [u8]) -> u32) -> Result<String, Stop> {
-    let (mut out, mut used) = (vec![0; 1 << 16], 0);
-    while !done(|fault, words| call(&mut out, &mut used, fault, words))? {
+/// Calls a function that writes a text into this much room, once more where the text turns out to be longer.
+fn text(names: &[&'static str], room: usize, call: impl Fn(&mut [u8], &mut usize, &mut Fault, &mut [u8]) -> u32) -> Result<String, Stop> {
+    let (mut out, mut used) = (vec![0; room], 0);
+    while !done(names, |fault, words| call(&mut out, &mut used, fault, words))? {
         out = vec![0; used];
     }
     out.truncate(used);
-    Ok(String::from_utf8_lossy(&out).into_owned())
+    out.shrink_to_fit();
+    Ok(String::from_utf8(out).unwrap_or_else(|other| String::from_utf8_lossy(other.as_bytes()).into_owned()))
 }
 
-impl Game<'_> {
+/// How many cells a world's text has, or some more.
+fn cells(world: &[u8]) -> usize {
+    world.iter().filter(|it| **it != b' ').count().min(512 * 512)
+}
+
+/// A guess of how long the text of a game is, so that it is seldom played twice: a cell of a dump has some 20 to 25 bytes, and at most 150.
+fn room_of_run(dumps: &[u32], rounds: u32, cells: usize) -> usize {
+    let come: BTreeSet<_> = dumps.iter().filter(|it| **it <= rounds).collect();
+    (4096 + come.len() * cells * 40).min(MOST_GUESSED)
+}
+
+impl<'a> Game<'a> {
+    const NAMES: [&'static str; 3] = ["world", "red", "black"];
+
+    /// The game of these texts.
+    pub fn new<W, R, B>(world: &'a W, red: &'a R, black: &'a B) -> Game<'a>
+    where
+        W: AsRef<[u8]> + ?Sized,
+        R: AsRef<[u8]> + ?Sized,
+        B: AsRef<[u8]> + ?Sized,
+    {
+        Game { world: world.as_ref(), red: red.as_ref(), black: black.as_ref() }
+    }
+
     /// The score after this number of rounds.
+    ///
+    /// ```
+    /// let game = ants::Game::new("3\n3\n###\n#+#\n###\n", "Drop 0\n", "Drop 0\n");
+    /// assert_eq!(game.score(12345, 10)?, ants::Score { red: 0, black: 0 });
+    /// # Ok::<(), ants::Stop>(())
+    /// ```
     pub fn score(self, seed: u32, rounds: u32) -> Result<Score, Stop> {
         let mut score = Score::default();
-        done(|fault, words| raw::ants_score(self.world, self.red, self.black, seed, rounds, &mut score, fault, words))?;
+        done(&Self::NAMES, |fault, words| raw::ants_score(self.world, self.red, self.black, seed, rounds, &mut score, fault, words))?;
         Ok(score)
     }
 
     /// The score of a game for each of these seeds; the texts are read once.
+    ///
+    /// ```
+    /// let game = ants::Game::new("3\n3\n###\n#+#\n###\n", "Drop 0\n", "Drop 0\n");
+    /// assert_eq!(game.scores(&[1, 2, 3], 10)?, [ants::Score { red: 0, black: 0 }; 3]);
+    /// # Ok::<(), ants::Stop>(())
+    /// ```
     pub fn scores(self, seeds: &[u32], rounds: u32) -> Result<Vec<Score>, Stop> {
         let mut scores = vec![Score::default(); seeds.len()];
-        done(|fault, words| raw::ants_scores(self.world, self.red, self.black, seeds, rounds, &mut scores, fault, words))?;
+        done(&Self::NAMES, |fault, words| raw::ants_scores(self.world, self.red, self.black, seeds, rounds, &mut scores, fault, words))?;
         Ok(scores)
     }
 
     /// What `ants run` prints, with a dump after each of these rounds.
+    ///
+    /// ```
+    /// let game = ants::Game::new("3\n3\n###\n#+#\n###\n", "Drop 0\n", "Drop 0\n");
+    /// assert_eq!(game.run(7, 0, &[1])?, "random seed: 7\n\nscore: red 0 black 0\n");
+    /// # Ok::<(), ants::Stop>(())
+    /// ```
     pub fn run(self, seed: u32, rounds: u32, dumps: &[u32]) -> Result<String, Stop> {
-        text(|out, used, fault, words| raw::ants_run(self.world, self.red, self.black, seed, rounds, dumps, out, used, fault, words))
+        let room = room_of_run(dumps, rounds, cells(self.world));
+        text(&Self::NAMES, room, |out, used, fault, words| {
+            raw::ants_run(self.world, self.red, self.black, seed, rounds, dumps, out, used, fault, words)
+        })
     }
 
     /// The game as it stands after this number of rounds, as `ants save` prints it.
+    ///
+    /// ```
+    /// let game = ants::Game::new("3\n3\n###\n#+#\n###\n", "Drop 0\n", "Drop 0\n");
+    /// assert!(game.save(7, 10)?.starts_with("ants save "));
+    /// # Ok::<(), ants::Stop>(())
+    /// ```
     pub fn save(self, seed: u32, rounds: u32) -> Result<String, Stop> {
-        text(|out, used, fault, words| raw::ants_save(self.world, self.red, self.black, seed, rounds, out, used, fault, words))
+        text(&Self::NAMES, self.room_of_save(), |out, used, fault, words| {
+            raw::ants_save(self.world, self.red, self.black, seed, rounds, out, used, fault, words)
+        })
+    }
+
+    /// A guess of how long a save is: a cell has some four bytes.
+    fn room_of_save(self) -> usize {
+        (4096 + 8 * cells(self.world) + 4 * (self.red.len() + self.black.len())).min(MOST_GUESSED)
     }
 }
 
 /// What `ants resume` prints of a saved game that goes on to this number of rounds in all.
-pub fn resume(save: &[u8], rounds: u32, dumps: &[u32]) -> Result<String, Stop> {
-    text(|out, used, fault, words| raw::ants_resume(save, rounds, dumps, out, used, fault, words))
+///
+/// ```
+/// let game = ants::Game::new("3\n3\n###\n#+#\n###\n", "Drop 0\n", "Drop 0\n");
+/// assert_eq!(ants::resume(game.save(7, 10)?, 20, &[])?, "\nscore: red 0 black 0\n");
+/// # Ok::<(), ants::Stop>(())
+/// ```
+pub fn resume(save: impl AsRef<[u8]>, rounds: u32, dumps: &[u32]) -> Result<String, Stop> {
+    let save = save.as_ref();
+    let room = room_of_run(dumps, rounds, (save.len() / 4).min(512 * 512));
+    text(&["save"], room, |out, used, fault, words| raw::ants_resume(save, rounds, dumps, out, used, fault, words))
 }
 
 /// The canonical text of a brain.
-pub fn brain(brain: &[u8]) -> Result<String, Stop> {
-    text(|out, used, fault, words| raw::ants_brain(brain, out, used, fault, words))
+///
+/// ```
+/// assert_eq!(ants::brain("flip 02 0 0 ; draws\n")?, "Flip 2 0 0\n");
+/// # Ok::<(), ants::Stop>(())
+/// ```
+pub fn brain(brain: impl AsRef<[u8]>) -> Result<String, Stop> {
+    text(&["brain"], ROOM, |out, used, fault, words| raw::ants_brain(brain.as_ref(), out, used, fault, words))
 }
 
 /// The canonical text of a brain with equivalent states merged: what `ants minimise` prints below its first line.
-pub fn minimise(brain: &[u8]) -> Result<String, Stop> {
-    text(|out, used, fault, words| raw::ants_minimise(brain, out, used, fault, words))
+///
+/// ```
+/// assert_eq!(ants::minimise("Drop 1\nDrop 0\n")?, "Drop 0\n");
+/// # Ok::<(), ants::Stop>(())
+/// ```
+pub fn minimise(brain: impl AsRef<[u8]>) -> Result<String, Stop> {
+    text(&["brain"], ROOM, |out, used, fault, words| raw::ants_minimise(brain.as_ref(), out, used, fault, words))
 }
 
 /// The canonical text of the brain that a program with labels and blocks becomes.
-pub fn asm(program: &[u8]) -> Result<String, Stop> {
-    text(|out, used, fault, words| raw::ants_asm(program, out, used, fault, words))
+///
+/// ```
+/// assert_eq!(ants::asm("on:\ndrop on\n")?, "Drop 0\n");
+/// # Ok::<(), ants::Stop>(())
+/// ```
+pub fn asm(program: impl AsRef<[u8]>) -> Result<String, Stop> {
+    text(&["program"], ROOM, |out, used, fault, words| raw::ants_asm(program.as_ref(), out, used, fault, words))
 }
 
-/// Whether two brains are the same but for the numbers of their states, as `ants same` prints it.
-pub fn same(first: &[u8], second: &[u8]) -> Result<String, Stop> {
-    text(|out, used, fault, words| raw::ants_same(first, second, out, used, fault, words))
+/// Whether two brains are the same but for the numbers of their states.
+///
+/// ```
+/// assert!(ants::same("Drop 0\n", "Drop 1\nDrop 0\n")?);
+/// # Ok::<(), ants::Stop>(())
+/// ```
+pub fn same(first: impl AsRef<[u8]>, second: impl AsRef<[u8]>) -> Result<bool, Stop> {
+    Ok(difference(first, second)?.is_none())
+}
+
+/// Where two brains first differ, or `None` where they are the same but for the numbers of their states.
+///
+/// ```
+/// let found = ants::difference("Move 1 0\nDrop 0\n", "Move 1 0\nTurn Left 0\n")?.unwrap();
+/// assert_eq!((found.answers, found.first_state, found.first.as_str()), (1, 1, "Drop 0"));
+/// assert_eq!((found.second_state, found.second.as_str()), (1, "Turn Left 0"));
+/// # Ok::<(), ants::Stop>(())
+/// ```
+pub fn difference(first: impl AsRef<[u8]>, second: impl AsRef<[u8]>) -> Result<Option<Difference>, Stop> {
+    let (first, second) = (first.as_ref(), second.as_ref());
+    let said = text(&["first", "second"], ROOM, |out, used, fault, words| raw::ants_same(first, second, out, used, fault, words))?;
+    Ok(if said == "same\n" { None } else { Some(told(&said).expect("three lines tell of a difference")) })
+}
+
+/// What the three lines of a difference tell.
+fn told(lines: &str) -> Option<Difference> {
+    let rest = lines.strip_prefix("different after ")?;
+    let (answers, rest) = rest.split_once(" answers\nfirst ")?;
+    let (first, second) = rest.strip_suffix('\n')?.split_once("\nsecond ")?;
+    let ((first_state, first), (second_state, second)) = (first.split_once(": ")?, second.split_once(": ")?);
+    Some(Difference {
+        answers: answers.parse().ok()?,
+        first_state: first_state.parse().ok()?,
+        first: first.to_string(),
+        second_state: second_state.parse().ok()?,
+        second: second.to_string(),
+    })
 }
 
 /// A world in the contest's manner, as `ants gen` prints it.
+///
+/// ```
+/// assert!(ants::world(12345, 150, 150, 14, 11)?.starts_with("150\n150\n# # # "));
+/// # Ok::<(), ants::Stop>(())
+/// ```
 pub fn world(seed: u32, width: u32, height: u32, rocks: u32, blobs: u32) -> Result<String, Stop> {
-    text(|out, used, fault, words| raw::ants_gen(seed, width, height, rocks, blobs, out, used, fault, words))
+    text(&[], ROOM, |out, used, fault, words| raw::ants_gen(seed, width, height, rocks, blobs, out, used, fault, words))
+}
+
+#[cfg(test)]
+mod tests {
+    use super::*;
+
+    #[test]
+    fn the_first_room_has_the_dumps_and_the_save_of_the_contests_world() {
+        let world = world(12345, 150, 150, 14, 11).unwrap();
+        let game = Game::new(&world, "Mark 0 1\nMove 0 0\n", "Mark 0 1\nMove 0 0\n");
+        let (dumps, rounds) = ([50, 100, 100, 7000], 100);
+        assert!(game.run(1, rounds, &dumps).unwrap().len() <= room_of_run(&dumps, rounds, cells(game.world)));
+        assert!(room_of_run(&dumps, rounds, cells(game.world)) <= 2 << 20);
+        assert!(game.save(1, rounds).unwrap().len() <= game.room_of_save());
+    }
+
+    #[test]
+    fn another_version_is_told() {
+        assert_eq!(Stop::OtherVersion("0.9.0".to_string()).to_string(), format!("libants.a is of version 0.9.0, and this crate of {}", raw::VERSION));
+    }
 }

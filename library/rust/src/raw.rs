@@ -3,6 +3,9 @@
 //! Each function hands on what a slice and a reference are, which is all that the library asks of a pointer. So it is safe.
 #![allow(clippy::too_many_arguments)]
 
+/// The version of this source, which is the program's: three numbers, and `-dev` behind them where it is of no release (this project's own).
+pub const VERSION: &str = "1.1.0";
+
 /// Done.
 pub const DONE: u32 = 0;
 /// A number is beyond its limits.
@@ -50,6 +53,13 @@ pub struct Score {
     pub red: u32,
     /// The food on the black hill.
     pub black: u32,
+}
+
+/// Lays the version of the library over `out`, such as `1.1.0`: what the program's `--version` prints behind `ants ` (this project's own).
+/// Returns 0 or 4, and writes for each what `ants_run` writes. This function stays as it is in each version, so that a caller who was built for
+/// another one can ask before any other call.
+pub fn ants_version(out: &mut [u8], used: &mut usize) -> u32 {
+    unsafe { c::ants_version(out.as_mut_ptr(), out.len(), used) }
 }
 
 /// Plays a game by the contest's rules, turn after turn, and gives its score (the task's game play). The status is
@@ -161,19 +171,19 @@ pub fn ants_brain(brain: &[u8], out: &mut [u8], used: &mut usize, fault: &mut Fa
 }
 
 /// Lays the canonical text of a brain, minimised, over `out`: what the program's `minimise` writes below its first line (over the task's
-/// neurology). The status is 0, 4, 5 or 6, and what is written is so, as at `ants_run`.
+/// neurology). Returns 0, 4, 5 or 6, and writes for each what `ants_run` writes.
 pub fn ants_minimise(brain: &[u8], out: &mut [u8], used: &mut usize, fault: &mut Fault, words: &mut [u8]) -> u32 {
     unsafe { c::ants_minimise(brain.as_ptr(), brain.len(), out.as_mut_ptr(), out.len(), used, fault, words.as_mut_ptr(), words.len()) }
 }
 
-/// Lays the canonical text of the brain that a labelled program becomes over `out`, as the program's `asm` (this project's own). The status is
-/// 0, 4, 5 or 6, and what is written is so, as at `ants_run`.
+/// Lays the canonical text of the brain that a labelled program becomes over `out`, as the program's `asm` (this project's own).
+/// Returns 0, 4, 5 or 6, and writes for each what `ants_run` writes.
 pub fn ants_asm(program: &[u8], out: &mut [u8], used: &mut usize, fault: &mut Fault, words: &mut [u8]) -> u32 {
     unsafe { c::ants_asm(program.as_ptr(), program.len(), out.as_mut_ptr(), out.len(), used, fault, words.as_mut_ptr(), words.len()) }
 }
 
-/// Lays `same`, or the three lines of where two brains first differ, over `out`, as the program's `same` (over the task's neurology). The
-/// status is 0, 4, 5 or 6, and what is written is so, as at `ants_run`.
+/// Lays `same`, or the three lines of where two brains first differ, over `out`, as the program's `same` (over the task's neurology).
+/// Returns 0, 4, 5 or 6, and writes for each what `ants_run` writes.
 pub fn ants_same(first: &[u8], second: &[u8], out: &mut [u8], used: &mut usize, fault: &mut Fault, words: &mut [u8]) -> u32 {
     unsafe {
         c::ants_same(
@@ -212,7 +222,7 @@ pub fn ants_gen(
 }
 
 /// Plays a game as `ants_score` does, and lays the text of its save after so many rounds over `out`, as the program's `save` (this project's own).
-/// The status is 0, 2, 4, 5 or 6, and what is written is so, as at `ants_run`. Nothing is written before the last round is played.
+/// Returns 0, 2, 4, 5 or 6, and writes for each what `ants_run` writes. Nothing is written before the last round is played.
 pub fn ants_save(
     world: &[u8],
     red: &[u8],
@@ -271,6 +281,7 @@ mod c {
     use super::{Fault, Score};
 
     extern "C" {
+        pub fn ants_version(out: *mut u8, out_len: usize, used: *mut usize) -> u32;
         pub fn ants_score(
             world: *const u8,
             world_len: usize,

@@ -42,24 +42,28 @@ fn a_saved_game_goes_on() {
     let saved = GAME.save(7, 10).unwrap();
     assert_eq!(saved, written("save", "save world red black --seed 7 --rounds 10"));
     let whole = GAME.run(7, 20, &[]).unwrap();
-    assert_eq!(ants::resume(saved.as_bytes(), 20, &[]).unwrap().lines().last(), whole.lines().last());
+    assert_eq!(ants::resume(&saved, 20, &[]).unwrap().lines().last(), whole.lines().last());
 }
 
 #[test]
 fn texts_are_those_of_the_program() {
     assert_eq!(ants::brain(RED).unwrap(), written("brain", "brain red"));
     assert_eq!(ants::minimise(RED).unwrap(), written("minimise", "minimise red").split_once('\n').unwrap().1);
-    assert_eq!(ants::same(RED, BLACK).unwrap(), written("same", "same red black"));
+    let found = ants::difference(RED, BLACK).unwrap().unwrap();
+    let (first, second) = (format!("first {}: {}", found.first_state, found.first), format!("second {}: {}", found.second_state, found.second));
+    assert_eq!(format!("different after {} answers\n{first}\n{second}\n", found.answers), written("same", "same red black"));
+    assert!(!ants::same(RED, BLACK).unwrap());
     assert_eq!(ants::asm(b"on:\nMove on on\n").unwrap(), "Move 0 0\n");
     assert_eq!(ants::world(12345, 150, 150, 14, 11).unwrap(), written("gen", "gen 12345"));
 }
 
 #[test]
 fn a_refusal_has_the_words_of_the_program() {
-    let Err(Stop::Refused(fault, words)) = ants::brain(WORLD) else { panic!("a world is no brain") };
+    let Err(Stop::Refused { name, words, fault }) = ants::brain(WORLD) else { panic!("a world is no brain") };
     assert_eq!(format!("ants: world: {words}\n"), written("refused", "brain world"));
-    assert_eq!((fault.text, fault.line), (1, 1));
+    assert_eq!((name, fault.text, fault.line), ("brain", 1, 1));
     assert_eq!(GAME.score(1, 1_000_001), Err(Stop::Limit));
     let refused = Game { black: b"hop\n", ..GAME }.score(1, 1).unwrap_err();
-    assert_eq!(refused.to_string(), "text 3: line 1: unknown word");
+    assert_eq!(refused.to_string(), "black: line 1: unknown word");
+    assert_eq!(ants::world(1, 12, 12, 14, 11).unwrap_err().to_string(), "no room for element 0");
 }

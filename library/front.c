@@ -1,0 +1,129 @@
+/* What stands between a caller in C and the proved functions; made of the same source as ants.h by `make documents`, and not proved. The place of no
+   elements may be anything in C, as NULL, and may not in Rattle: another one is handed on for it. library/link gives the proved functions their names
+   here, and shows none of them. */
+#include "ants.h"
+
+/* The place of no elements: it is aligned for each type, and nobody reads or writes there. */
+static _Alignas(16) uint8_t none[16];
+#define PLACE(elements) (elements##_len ? elements : (void *)none)
+
+uint32_t proved_ants_version(
+    uint8_t *out, size_t out_len, size_t *used);
+uint32_t ants_version(
+    uint8_t *out, size_t out_len, size_t *used) {
+    return proved_ants_version(
+        PLACE(out), out_len, used);
+}
+
+uint32_t proved_ants_score(
+    const uint8_t *world, size_t world_len, const uint8_t *red, size_t red_len, const uint8_t *black, size_t black_len,
+    uint32_t seed, uint32_t rounds, struct ants_score_data *score, struct ants_fault_data *fault, uint8_t *words,
+    size_t words_len);
+uint32_t ants_score(
+    const uint8_t *world, size_t world_len, const uint8_t *red, size_t red_len, const uint8_t *black, size_t black_len,
+    uint32_t seed, uint32_t rounds, struct ants_score_data *score, struct ants_fault_data *fault, uint8_t *words,
+    size_t words_len) {
+    return proved_ants_score(
+        PLACE(world), world_len, PLACE(red), red_len, PLACE(black), black_len, seed, rounds, score, fault, PLACE(words),
+        words_len);
+}
+
+uint32_t proved_ants_scores(
+    const uint8_t *world, size_t world_len, const uint8_t *red, size_t red_len, const uint8_t *black, size_t black_len,
+    const uint32_t *seeds, size_t seeds_len, uint32_t rounds, struct ants_score_data *scores, size_t scores_len,
+    struct ants_fault_data *fault, uint8_t *words, size_t words_len);
+uint32_t ants_scores(
+    const uint8_t *world, size_t world_len, const uint8_t *red, size_t red_len, const uint8_t *black, size_t black_len,
+    const uint32_t *seeds, size_t seeds_len, uint32_t rounds, struct ants_score_data *scores, size_t scores_len,
+    struct ants_fault_data *fault, uint8_t *words, size_t words_len) {
+    return proved_ants_scores(
+        PLACE(world), world_len, PLACE(red), red_len, PLACE(black), black_len, PLACE(seeds), seeds_len, rounds,
+        PLACE(scores), scores_len, fault, PLACE(words), words_len);
+}
+
+uint32_t proved_ants_run(
+    const uint8_t *world, size_t world_len, const uint8_t *red, size_t red_len, const uint8_t *black, size_t black_len,
+    uint32_t seed, uint32_t rounds, const uint32_t *dumps, size_t dumps_len, uint8_t *out, size_t out_len, size_t *used,
+    struct ants_fault_data *fault, uint8_t *words, size_t words_len);
+uint32_t ants_run(
+    const uint8_t *world, size_t world_len, const uint8_t *red, size_t red_len, const uint8_t *black, size_t black_len,
+    uint32_t seed, uint32_t rounds, const uint32_t *dumps, size_t dumps_len, uint8_t *out, size_t out_len, size_t *used,
+    struct ants_fault_data *fault, uint8_t *words, size_t words_len) {
+    return proved_ants_run(
+        PLACE(world), world_len, PLACE(red), red_len, PLACE(black), black_len, seed, rounds, PLACE(dumps), dumps_len,
+        PLACE(out), out_len, used, fault, PLACE(words), words_len);
+}
+
+uint32_t proved_ants_brain(
+    const uint8_t *brain, size_t brain_len, uint8_t *out, size_t out_len, size_t *used, struct ants_fault_data *fault,
+    uint8_t *words, size_t words_len);
+uint32_t ants_brain(
+    const uint8_t *brain, size_t brain_len, uint8_t *out, size_t out_len, size_t *used, struct ants_fault_data *fault,
+    uint8_t *words, size_t words_len) {
+    return proved_ants_brain(
+        PLACE(brain), brain_len, PLACE(out), out_len, used, fault, PLACE(words), words_len);
+}
+
+uint32_t proved_ants_minimise(
+    const uint8_t *brain, size_t brain_len, uint8_t *out, size_t out_len, size_t *used, struct ants_fault_data *fault,
+    uint8_t *words, size_t words_len);
+uint32_t ants_minimise(
+    const uint8_t *brain, size_t brain_len, uint8_t *out, size_t out_len, size_t *used, struct ants_fault_data *fault,
+    uint8_t *words, size_t words_len) {
+    return proved_ants_minimise(
+        PLACE(brain), brain_len, PLACE(out), out_len, used, fault, PLACE(words), words_len);
+}
+
+uint32_t proved_ants_asm(
+    const uint8_t *program, size_t program_len, uint8_t *out, size_t out_len, size_t *used,
+    struct ants_fault_data *fault, uint8_t *words, size_t words_len);
+uint32_t ants_asm(
+    const uint8_t *program, size_t program_len, uint8_t *out, size_t out_len, size_t *used,
+    struct ants_fault_data *fault, uint8_t *words, size_t words_len) {
+    return proved_ants_asm(
+        PLACE(program), program_len, PLACE(out), out_len, used, fault, PLACE(words), words_len);
+}
+
+uint32_t proved_ants_same(
+    const uint8_t *first, size_t first_len, const uint8_t *second, size_t second_len, uint8_t *out, size_t out_len,
+    size_t *used, struct ants_fault_data *fault, uint8_t *words, size_t words_len);
+uint32_t ants_same(
+    const uint8_t *first, size_t first_len, const uint8_t *second, size_t second_len, uint8_t *out, size_t out_len,
+    size_t *used, struct ants_fault_data *fault, uint8_t *words, size_t words_len) {
+    return proved_ants_same(
+        PLACE(first), first_len, PLACE(second), second_len, PLACE(out), out_len, used, fault, PLACE(words), words_len);
+}
+
+uint32_t proved_ants_gen(
+    uint32_t seed, uint32_t width, uint32_t height, uint32_t rocks, uint32_t blobs, uint8_t *out, size_t out_len,
+    size_t *used, struct ants_fault_data *fault, uint8_t *words, size_t words_len);
+uint32_t ants_gen(
+    uint32_t seed, uint32_t width, uint32_t height, uint32_t rocks, uint32_t blobs, uint8_t *out, size_t out_len,
+    size_t *used, struct ants_fault_data *fault, uint8_t *words, size_t words_len) {
+    return proved_ants_gen(
+        seed, width, height, rocks, blobs, PLACE(out), out_len, used, fault, PLACE(words), words_len);
+}
+
+uint32_t proved_ants_save(
+    const uint8_t *world, size_t world_len, const uint8_t *red, size_t red_len, const uint8_t *black, size_t black_len,
+    uint32_t seed, uint32_t rounds, uint8_t *out, size_t out_len, size_t *used, struct ants_fault_data *fault,
+    uint8_t *words, size_t words_len);
+uint32_t ants_save(
+    const uint8_t *world, size_t world_len, const uint8_t *red, size_t red_len, const uint8_t *black, size_t black_len,
+    uint32_t seed, uint32_t rounds, uint8_t *out, size_t out_len, size_t *used, struct ants_fault_data *fault,
+    uint8_t *words, size_t words_len) {
+    return proved_ants_save(
+        PLACE(world), world_len, PLACE(red), red_len, PLACE(black), black_len, seed, rounds, PLACE(out), out_len, used,
+        fault, PLACE(words), words_len);
+}
+
+uint32_t proved_ants_resume(
+    const uint8_t *save, size_t save_len, uint32_t rounds, const uint32_t *dumps, size_t dumps_len, uint8_t *out,
+    size_t out_len, size_t *used, struct ants_fault_data *fault, uint8_t *words, size_t words_len);
+uint32_t ants_resume(
+    const uint8_t *save, size_t save_len, uint32_t rounds, const uint32_t *dumps, size_t dumps_len, uint8_t *out,
+    size_t out_len, size_t *used, struct ants_fault_data *fault, uint8_t *words, size_t words_len) {
+    return proved_ants_resume(
+        PLACE(save), save_len, rounds, PLACE(dumps), dumps_len, PLACE(out), out_len, used, fault, PLACE(words),
+        words_len);
+}
