@@ -1,13 +1,13 @@
 # The doors of the repository; each is a line or two over `rt`.
 #   make try ARGS="show examples/one_ant.world 12345"      a quick look, without a proof
 #   make run ARGS="show examples/one_ant.world 12345"
-#   make test · make documents · make library · make install PREFIX=DIR · make dist · make deb · make bench
+#   make test · make documents · make library · make install PREFIX=DIR · make uninstall PREFIX=DIR · make dist · make deb · make bench
 PREFIX ?= /usr/local
 PROGRAM = crates/ants/out/ants
 ARCHIVE = crates/ants_c/out/libants_c.a
 SOURCES = crates.txt $(shell find crates -name out -prune -o \( -name '*.rt' -o -name '*.antt' \) -print)
 
-.PHONY: build run try test documents library install dist deb bench
+.PHONY: build run try test documents library install uninstall dist deb bench
 
 build: $(PROGRAM)
 
@@ -36,13 +36,17 @@ $(ARCHIVE): $(SOURCES)
 	cd crates/ants_c && rt lib
 	@touch $@
 
-library/libants.a: $(ARCHIVE) library/link library/exports
+library/libants.a: $(ARCHIVE) library/link library/front.c library/ants.h
 	library/link $(ARCHIVE) library
 
 library/libants.so: library/libants.a
+	@[ -e $@ ] || library/link $(ARCHIVE) library
 
 install: build library
-	package/install $(DESTDIR)$(PREFIX)
+	package/install "$(DESTDIR)$(PREFIX)" "$(PREFIX)"
+
+uninstall:
+	package/install --remove "$(DESTDIR)$(PREFIX)" "$(PREFIX)"
 
 dist: build library
 	package/make tar

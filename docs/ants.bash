@@ -5,19 +5,19 @@ _ants() {
     local word=${COMP_WORDS[COMP_CWORD]} before=${COMP_WORDS[COMP_CWORD-1]} options=
     COMPREPLY=()
     if [ "$COMP_CWORD" -eq 1 ]; then
-        COMPREPLY=($(compgen -W 'show brain minimise run gen cup view workload --help help --version asm save resume trace same' -- "$word"))
+        COMPREPLY=($(compgen -W 'run save resume view trace cup workload show gen brain minimise same asm help --help --version' -- "$word"))
         return
     fi
     case ${COMP_WORDS[1]} in
-    minimise) options='--states' ;;
     run) options='--seed --rounds --dump --workers --window --surround --corpse --rest --stats --far' ;;
-    gen) options='--width --height --rocks --blobs' ;;
-    cup) options='--worlds --brains --seed --rounds --workers --games' ;;
-    view) options='--seed --rounds' ;;
-    asm) options='--labels' ;;
     save) options='--seed --rounds --workers --window --surround --corpse --rest' ;;
     resume) options='--rounds --dump --workers --stats' ;;
+    view) options='--seed --rounds' ;;
     trace) options='--seed --rounds --from --surround --corpse --rest' ;;
+    cup) options='--worlds --brains --seed --rounds --workers --games' ;;
+    gen) options='--width --height --rocks --blobs' ;;
+    minimise) options='--states' ;;
+    asm) options='--labels' ;;
     esac
     case $before in
     --seed | --rounds | --workers | --window | --surround | --corpse | --rest | --width | --height | --rocks | --blobs | --from) return ;;

@@ -1,34 +1,73 @@
-"""docs/BENT_RULES.md, a summary of docs/bent_rules.txt, in which each bent rule stands with what refuses it and how it was tried.
+"""docs/BENT_RULES.md, a summary of docs/bent_rules.txt, in which each bent rule stands with what refuses it and how it was tried; and the edits there.
 
 A row is `- BEND | REFUSED BY; REFUSED BY; .. | HOW`, where each of the middle is one of
 
     lemma NAME of CRATE and N more      lemmas NAME, NAME of CRATE      law NAME of CRATE
     tests in FILE, TABLE                test NAME of CRATE              tests of CRATE
     RULES, SECTION                      README, SECTION                 a remark may stand behind a colon
-    test NAME of the library            rows of test_ants.c
+    test NAME of the library            rows of test_ants.c                 rows of .ci/options.txt
+
+Where HOW is `again` the row's edit stands below it, as in must-fail/, which `.ci/bend` puts into a copy: the first of the middle names lemmas then, and
+one of them refuses it. Several `new:` are several lines. A line `or` begins another edit of the same row.
+
+      file: crates/NAME/specs/FILE.antt
+      old: TEXT
+      new: TEXT
 """
 import re
 
-from tree import Unknown, crates, exists, read, source_files
+from tree import Unknown, below, crates, exists, read, source_files
 
 FILE = "docs/bent_rules.txt"
 EXAMPLES = {"RULES": "docs/RULES.md", "README": "README.md"}
-LIBRARY_TESTS, LIBRARY_ROWS = "library/test_ants.py", "library/test_ants.c"
-HOW = {"place": "in place", "copy": "in a copy", "code": "with its code", "read": "by eye"}
+LIBRARY_TESTS, LIBRARY_ROWS, OPTION_ROWS = "library/test_ants.py", "library/test_ants.c", ".ci/options.txt"
+HOW = {"again": "again", "place": "in place", "copy": "in a copy", "code": "with its code", "read": "by eye"}
+
+
+class Lemma:
+    """A lemma that a row names, with the file of proofs/ in which it stands."""
+
+    def __init__(self, crate, name, file):
+        self.crate, self.name, self.file = crate, name, file
+
+
+class Row:
+    """A bent rule: the number of its line, its section, what refuses it, how it was tried, and the lines of its edits."""
+
+    def __init__(self, number, section, line):
+        parts = line[2:].split(" | ")
+        if len(parts) != 3 or parts[2] not in HOW:
+            raise Unknown("%s:%d: a row is a bend, what refuses it, and one of %s" % (FILE, number, ", ".join(HOW)))
+        self.number, self.section, self.line, self.bend, self.how = number, section, line, parts[0], parts[2]
+        self.refused_by, self.edits = parts[1].split("; "), [[]]
+
+    def add(self, line):
+        if line == "or":
+            self.edits.append([])
+        else:
+            self.edits[-1].append(line)
+
+
+class Bend:
+    """An edit of a row: the lemmas of one crate, of which one has to refuse it, and the texts of the files that it changes."""
+
+    def __init__(self, row, lemmas, texts):
+        self.number, self.row, self.bend, self.lemmas, self.texts = row.number, row.line, row.bend, lemmas, texts
+        self.crate = lemmas[0].crate
 
 
 class Evidence:
     """Where lemmas, laws, tests and examples stand."""
 
     def __init__(self):
-        self.lemmas, self.functions, self.texts = {}, {}, {}
+        self.lemmas, self.twice, self.functions, self.texts = {}, set(), {}, {}
         self.names = [it.name for it in crates()]
         for crate in self.names:
             for file in source_files("crates/%s/proofs" % crate, ".antt"):
                 for line in read(file).split("\n"):
                     found = re.match(r"(?:pub |abbrev |unfoldable )*([^\s:]+) :", line)
-                    if found:
-                        self.lemmas.setdefault((crate, found[1]), file)
+                    if found and self.lemmas.setdefault((crate, found[1]), file) != file:
+                        self.twice.add((crate, found[1]))
             for file in source_files("crates/%s/src" % crate, ".rt"):
                 self.texts[file] = read(file)
                 for name in re.findall(r"^\s*(?:pub )?fn (\w+)", self.texts[file], re.M):
@@ -59,13 +98,17 @@ class Evidence:
         if (crate, name) not in where:
             raise Unknown("%s: %s has no %s %s" % (FILE, crate, what, name))
 
+    def named(self, text):
+        """The lemmas that a part of a row names; Unknown where one isn't there."""
+        it = re.fullmatch(r"lemmas? (.+) of (\w+)( and \d+ more)?", text.partition(": ")[0].replace("`", ""))
+        for name in it[1].split(", ") if it else ():
+            self.check_named(self.lemmas, it[2], name, "lemma")
+        return [Lemma(it[2], name, self.lemmas[it[2], name]) for name in it[1].split(", ")] if it else []
+
     def kind(self, text):
         """What sort of thing refuses a bend; Unknown where it isn't there."""
         words = text.partition(": ")[0].replace("`", "")
-        it = re.fullmatch(r"lemmas? (.+) of (\w+)( and \d+ more)?", words)
-        if it:
-            for name in it[1].split(", "):
-                self.check_named(self.lemmas, it[2], name, "lemma")
+        if self.named(text):
             return "lemma"
         it = re.fullmatch(r"(law|test) (\w+) of (\w+)", words)
         if it:
@@ -76,7 +119,7 @@ class Evidence:
             if not re.search(r"^    def %s\(self\):$" % it[1], read(LIBRARY_TESTS), re.M):
                 raise Unknown("%s: %s has no test %s" % (FILE, LIBRARY_TESTS, it[1]))
             return "test"
-        if words == "rows of test_ants.c" and exists(LIBRARY_ROWS):
+        if words == "rows of test_ants.c" and exists(LIBRARY_ROWS) or words == "rows of .ci/options.txt" and exists(OPTION_ROWS):
             return "test"
         it = re.fullmatch(r"tests in ([\w/]+\.rt)(?:, (\w+))?", words)
         if it:
@@ -95,30 +138,73 @@ class Evidence:
 
 
 def rows():
-    """Each row's section, what kinds of things refuse it, and how it was tried."""
-    evidence, section = Evidence(), None
+    """The rows, each with its edits."""
+    found, section = [], None
     for number, line in enumerate(read(FILE).split("\n"), 1):
         if line.startswith("## "):
             section = line[3:]
         elif line.startswith("- "):
-            parts = line[2:].split(" | ")
-            if len(parts) != 3 or parts[2] not in HOW:
-                raise Unknown("%s:%d: a row is a bend, what refuses it, and one of %s" % (FILE, number, ", ".join(HOW)))
-            yield section, {evidence.kind(it) for it in parts[1].split("; ")}, parts[2]
+            found.append(Row(number, section, line))
+        elif found and re.match(r"  (file|old): .|  new:|  or$", line):
+            found[-1].add(line[2:])
+    for row in found:
+        if bool(row.edits[0]) != (row.how == "again"):
+            raise Unknown("%s:%d: a row has an edit exactly where it says that it is bent again" % (FILE, row.number))
+    return found
+
+
+def edited(where, lines, within):
+    """The texts of the files that an edit changes; Unknown where it can't be applied."""
+    path, pairs, texts = None, [], {}
+    for line in lines:
+        head, text = re.fullmatch(r"(file|old|new):(?: (.*))?", line).groups(default="")
+        if head == "file":
+            path = text
+        elif head == "old":
+            pairs.append((path, text, []))
+        elif pairs:
+            pairs[-1][2].append(text)
+    if not pairs or not all(path and new for path, _, new in pairs):
+        raise Unknown("%s: an edit is a `file:` and pairs of `old:` and `new:`" % where)
+    for path, old, new in pairs:
+        it = re.fullmatch(r"crates/(\w+)/specs/[\w/]+\.antt", path)
+        if not it or it[1] not in within or not exists(path):
+            raise Unknown("%s: %s is no file of specs/ of a crate on which the lemma stands" % (where, path))
+        whole = texts.get(path) or read(path)
+        if whole.count(old) != 1:
+            raise Unknown("%s: `%s` stands in %s %d times, not once" % (where, old, path, whole.count(old)))
+        texts[path] = whole.replace(old, "\n".join(new))
+    return texts
+
+
+def bends():
+    """The edits of all rows; Unknown where one can't be applied."""
+    evidence, found = Evidence(), []
+    for row in rows():
+        lemmas = evidence.named(row.refused_by[0])
+        for lines in row.edits if row.edits[0] else ():
+            where = "%s:%d" % (FILE, row.number)
+            if not lemmas:
+                raise Unknown("%s: the first thing that refuses an edit is a lemma" % where)
+            for it in lemmas:
+                if (it.crate, it.name) in evidence.twice:
+                    raise Unknown("%s: two files of %s have a lemma %s" % (where, it.crate, it.name))
+            found.append(Bend(row, lemmas, edited(where, lines, below(lemmas[0].crate))))
+    return found
 
 
 def page():
-    found, sections = list(rows()), []
-    for section, _, _ in found:
-        if section not in sections:
-            sections.append(section)
+    evidence, edits = Evidence(), len(bends())
+    found = [(it.section, {evidence.kind(part) for part in it.refused_by}, it.how) for it in rows()]
+    sections = [*dict.fromkeys(section for section, _, _ in found)]
     kinds = ("lemma", "law", "test", "example")
     out = [
         "# Bent rules",
         "",
         "Made from [bent_rules.txt](bent_rules.txt), which has the rows, by `.ci/make-documents`; not edited by hand. Code is proved against definitions. A definition that is wrong together with its",
         "code would be proved as well; only a value from outside both can refuse it: a computed lemma, a row of a test, or an example of RULES that is run. So each of %d bent rules has a row there, with" % len(found),
-        "what refuses it. How that was tried: in place, in the definitions themselves; in a copy of them, whose values were computed; with its code, in a copy of both, or the code alone;",
+        "what refuses it. How that is tried: again, by `.ci/bend all`, which puts each of %d edits of the rows into a copy of the definitions, and checks that the named lemma is refused;" % edits,
+        "or once: in place, in the definitions themselves; in a copy of them, whose values were computed; with its code, in a copy of both, or the code alone;",
         "or by eye, from the law or the rows, whose values were worked by hand: then nothing was changed or run.",
         "",
         "| rules | bends | " + " | ".join("by a " + it if it != "example" else "by an example" for it in kinds) + " | " + " | ".join(HOW.values()) + " |",

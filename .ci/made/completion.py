@@ -43,6 +43,6 @@ def page():
     return PAGE % {
         "commands": " ".join(words.commands),
         "options": "\n".join(lines),
-        "numbers": " | ".join(it for it, kind in words.takes.items() if kind == "Number"),
-        "dumps": " | ".join(it for it, kind in words.takes.items() if kind == "Dumps"),
+        "numbers": " | ".join(it for it, form in words.forms.items() if form in ("needed", "number")),
+        "dumps": " | ".join(it for it, form in words.forms.items() if form == "dump"),
     }

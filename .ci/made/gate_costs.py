@@ -8,7 +8,7 @@ FILE = "docs/gate_costs.txt"
 KINDS = ("proof", "tests", "edits")
 HEAD = """# What a crate costs in one `rt ci`: processor seconds of its proof, of the same with its tests, and of its wrong bodies together.
 # Written by `.ci/gate-costs` from the log of a `.ci/timed-ci`; what that run didn't prove anew stays as an earlier one measured it. A dash: it
-# has none, or none was measured. The tilde: a third proof's time, of the wrong bodies, where the first one's was not measured.
+# has none, or none was measured.
 """
 
 

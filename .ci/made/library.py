@@ -6,7 +6,7 @@ import textwrap
 from tree import Unknown, read, source_files
 
 SOURCE = "crates/ants_c/src"
-STATUSES = SOURCE + "/status.rt"
+STATUSES, VERSION = SOURCE + "/status.rt", SOURCE + "/version.rt"
 HEAD = "library/ants.h.in"
 PLAIN = {"u8": "uint8_t", "u32": "uint32_t", "u64": "uint64_t", "usize": "size_t"}
 WIDTH, RUST_WIDTH = 120, 150
@@ -14,6 +14,15 @@ RUST_HEAD = """//! The structs and functions of the library as `library/ants.h` 
 //!
 //! Each function hands on what a slice and a reference are, which is all that the library asks of a pointer. So it is safe.
 #![allow(clippy::too_many_arguments)]
+"""
+FRONT_HEAD = """/* What stands between a caller in C and the proved functions; made of the same source as ants.h by `make documents`, and not proved. The place of no
+   elements may be anything in C, as NULL, and may not in Rattle: another one is handed on for it. library/link gives the proved functions their names
+   here, and shows none of them. */
+#include "ants.h"
+
+/* The place of no elements: it is aligned for each type, and nobody reads or writes there. */
+static _Alignas(16) uint8_t none[16];
+#define PLACE(elements) (elements##_len ? elements : (void *)none)
 """
 
 
@@ -96,6 +105,14 @@ def exports(texts):
         yield Export(it[1], docs_above(text, it.start()), [(name, kind) for name, kind in given if kind != "Global"])
 
 
+def version():
+    """The version of the source: its docs, and its text."""
+    found = re.findall(r'((?:///.*\n)*)pub const VERSION: &str = "([^"]*)";', read(VERSION))
+    if len(found) != 1:
+        raise Unknown("%s: no one version" % VERSION)
+    return " ".join(docs_above(found[0][0], len(found[0][0]))), found[0][1]
+
+
 def statuses():
     """What a call answers: each name with its docs and its number."""
     rows = re.findall(r"((?:///.*\n)*)pub const (\w+): u32 = (\d+);", read(STATUSES))
@@ -108,6 +125,7 @@ class Library:
     def __init__(self):
         texts = sources()
         self.structs, self.exports, self.statuses = {it.name: it for it in structs(texts)}, list(exports(texts)), statuses()
+        self.version_says, self.version = version()
         if not self.exports or not self.statuses:
             raise Unknown("%s: no exports, or no statuses" % SOURCE)
 
@@ -117,6 +135,9 @@ class Library:
         if rust in self.structs:
             return "struct " + self.structs[rust].c_name
         raise Unknown("%s: no C type for %s" % (SOURCE, rust))
+
+    def c_version(self):
+        return '// %s\n#define ANTS_VERSION "%s"\n' % ("\n// ".join(textwrap.wrap(self.version_says, WIDTH + 20)), self.version)
 
     def c_statuses(self):
         lines = ["    ANTS_%s = %s, // %s" % (name, number, docs) for name, docs, number in self.statuses]
@@ -129,13 +150,25 @@ class Library:
         return comment(struct.docs, "// ") + "\n".join(lines) + "\n};\n"
 
     def c_export(self, export):
+        return comment(export.docs, "// ") + self.c_signature(export.name, export) + ";\n"
+
+    def c_signature(self, name, export):
         given = ["const " * (it.behind and not it.changes) + self.c_type(it.kind) + " " + "*" * it.behind + it.name for it in export.parameters]
-        lines = textwrap.wrap(", ".join(it.replace(" ", "\0") for it in given), WIDTH - 4, break_long_words=False)
-        return comment(export.docs, "// ") + "uint32_t %s(\n    " % export.name + "\n    ".join(lines).replace("\0", " ") + ");\n"
+        return c_call("uint32_t %s" % name, given, "    ")
+
+    def front(self):
+        """library/front.c: each function of the header, over the proved one."""
+        out = [FRONT_HEAD]
+        for it in self.exports:
+            lengths = {parameter.name for parameter in it.parameters}
+            passed = ["PLACE(%s)" % given.name if given.name + "_len" in lengths else given.name for given in it.parameters]
+            call = c_call("    return proved_%s" % it.name, passed, "        ")
+            out.append("%s;\n%s {\n%s;\n}\n" % (self.c_signature("proved_" + it.name, it), self.c_signature(it.name, it), call))
+        return "\n".join(out)
 
     def header(self):
         """library/ants.h: the head, which says what a caller owes, and the declarations."""
-        declared = [self.c_statuses()] + [self.c_struct(it) for it in self.structs.values()] + [self.c_export(it) for it in self.exports]
+        declared = [self.c_version(), self.c_statuses()] + [self.c_struct(it) for it in self.structs.values()] + [self.c_export(it) for it in self.exports]
         head = read(HEAD)
         if head.count("@declarations@\n") != 1:
             raise Unknown("%s: no one place for the declarations" % HEAD)
@@ -143,7 +176,7 @@ class Library:
 
     def rust(self):
         """library/rust/src/raw.rs: the same for Rust, and each function over slices and references, which have all that it asks of a pointer."""
-        out = [RUST_HEAD, "\n".join("/// %s\npub const %s: u32 = %s;" % (docs, name, number) for name, docs, number in self.statuses) + "\n"]
+        out = [RUST_HEAD, '/// %s\npub const VERSION: &str = "%s";\n' % (self.version_says, self.version), "\n".join("/// %s\npub const %s: u32 = %s;" % (docs, name, number) for name, docs, number in self.statuses) + "\n"]
         for it in self.structs.values():
             fields = "".join("%s    pub %s: %s,\n" % (comment(docs, "    /// "), name, kind) for name, kind, docs in it.fields)
             out.append("%s#[repr(C)]\n#[derive(Clone, Copy, Debug, Default, PartialEq, Eq)]\npub struct %s {\n%s}\n" % (comment(it.docs, "/// "), it.plain_name, fields))
@@ -171,7 +204,8 @@ class Library:
 
     def python(self):
         """The made part of library/ants.py: the structs, and the types of what each function is given."""
-        out = ["_%s = %s  # %s" % (name, number, docs) for name, docs, number in self.statuses] + ["", ""]
+        out = ['__version__ = "%s"' % self.version]
+        out += ["_%s = %s  # %s" % (name, number, docs) for name, docs, number in self.statuses] + ["", ""]
         for it in self.structs.values():
             fields = ", ".join('("%s", %s)' % (name, c_types(kind)) for name, kind, _ in it.fields)
             out += ["class _%s(ctypes.Structure):" % it.plain_name] + wrapped("_fields_ = [%s]" % fields, "    ") + ["", ""]
@@ -185,6 +219,12 @@ class Library:
         kind = parameter.kind
         of = "_" + self.structs[kind].plain_name if kind in self.structs else c_types(kind)
         return "c_char_p" if parameter.behind and kind == "u8" else "POINTER(%s)" % of if parameter.behind else of
+
+
+def c_call(name, given, indent):
+    """A call or a signature in C, wrapped below its name."""
+    lines = textwrap.wrap(", ".join(it.replace(" ", "\0") for it in given), WIDTH - len(indent), break_long_words=False)
+    return "%s(\n%s%s)" % (name, indent, ("\n" + indent).join(lines).replace("\0", " "))
 
 
 def rust_call(before, name, given, after):
@@ -219,5 +259,6 @@ def python_page(library):
 def pages():
     library = Library()
     yield "library/ants.h", library.header()
+    yield "library/front.c", library.front()
     yield "library/rust/src/raw.rs", library.rust()
     yield "library/ants.py", python_page(library)

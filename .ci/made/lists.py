@@ -39,8 +39,8 @@ def planted_table():
 
 def gate_page():
     return (
-        "# The gate\n\nMade by `.ci/make-documents` from `docs/gate_costs.txt`, `docs/planted.txt` and the wrong bodies on disk.\n\n## What it costs\n\nProcessor seconds of `rt ci`; `docs/gate_costs.txt` says how they were measured. A tilde marks the time of\n"
-        "the proof that wrong bodies begin with, where the first one's was not measured. `.ci/timed-ci > LOG` is `rt ci` with its times, and `.ci/gate-costs LOG` writes that file from them.\n\n"
+        "# The gate\n\nMade by `.ci/make-documents` from `docs/gate_costs.txt`, `docs/planted.txt` and the wrong bodies on disk.\n\n## What it costs\n\nProcessor seconds of `rt ci`; `docs/gate_costs.txt` says how they were measured.\n"
+        "`.ci/timed-ci > LOG` is `rt ci` with its times, and `.ci/gate-costs LOG` writes that file from them.\n\n"
         "A crate with tests is proved twice; its wrong bodies begin with a third proof and share it. So write the answer of a goal whose search takes seconds. Beside that a wrong body costs 5 to\n"
         "40 seconds, since a check first loads what the crate stands on; a test that hands a table to a helper costs 1 to 5, one with assertions of its own\n"
         "10 to 30. A table of structs is a `static`. Texts cost by their number times their length, so a long table stands alone or is split.\n\n" + cost_table()

@@ -1,4 +1,4 @@
-"""docs/RUN.md and docs/run.html: all that has to be believed of one `run`, and nothing else, in an order by hand.
+"""docs/RUN.md: all that has to be believed of one `run`, and nothing else, in an order by hand.
 
 docs/run_page.txt has the order. Its lines are
 
@@ -18,11 +18,12 @@ import re
 import forms
 import items
 import shown
+from specification import lines_of
 from tree import CodeType, Contract, Definition, Tree, Unknown, below, goes_on, left_of, names_of, read, source_files, words_of
 
 ORDER, WORDS = "docs/run_page.txt", "docs/library_words.txt"
 CRATE, ROOT = "ants", "KeepsPromise"
-MOST_LINES = 620
+MOST_LINES = 630
 PACE = 10  # lines a minute, of a reader who reads each
 
 
@@ -288,8 +289,8 @@ class RunPage:
         types = {it.name: it for it in self.parts if isinstance(it, CodeType)}
         out = [("#", "What one run promises")]
         out += [("p", it) for it in self.introduction()]
-        rows = [[("[%s](#%s)" % (it.title, re.sub(r"[^\w\- ]", "", it.title.lower()).replace(" ", "-"))), str(self.of_chapter(it)), str(round(self.of_chapter(it) / PACE) or 1)] for it in self.chapters]
-        out.append(("table", ["chapter", "lines", "minutes"], rows))
+        rows = [[("[%s](#%s)" % (it.title, re.sub(r"[^\w\- ]", "", it.title.lower()).replace(" ", "-"))), str(self.of_chapter(it))] for it in self.chapters]
+        out.append(("table", ["chapter", "lines"], rows))
         for chapter in self.chapters:
             out.append(("##", chapter.title))
             out.append(("p", " ".join(chapter.says)))
@@ -324,8 +325,9 @@ class RunPage:
         law = Contract.of(CRATE, "headline")
         yield (
             "Made from the tree by `.ci/make-documents`; not edited by hand. All that has to be believed of `ants run WORLD RED BLACK --seed N --rounds N ..` without `--stats`: "
-            "%d lines of at most %d columns with %s words, types of the code counted and comments not; %d minutes at %d lines a minute. A name leads to where it is defined; what a definition names stands above it."
-            % (self.total(), items.MOST, "{:,}".format(sum(self.words(it) for it in self.parts)), round(self.total() / PACE), PACE)
+            "%d lines of at most %d columns with %s words, types of the code counted and comments not, which in the sources are %s lines, %d minutes at %d a minute. "
+            "A name leads to where it is defined; what a definition names stands above it."
+            % (self.total(), items.MOST, "{:,}".format(sum(self.words(it) for it in self.parts)), "{:,}".format(lines_of(self.parts + self.inside)), round(lines_of(self.parts + self.inside) / PACE), PACE)
         )
         yield (
             "The promise is [`KeepsPromise`](#the-promise), of which the law [`headline`](../%s) says that it holds of each run of `run_to_exit`, the one call that `main` makes. "
@@ -337,11 +339,12 @@ class RunPage:
             "`(x : A) → B` says that B holds for every x, `(x : A) × B` that it does for some x; `λ x. b` is the function that gives b at x; `{A : Type 0}` stands for any type A. `r.f` is the field f of r, `record { f = y }` has y for its field f, "
             "and `record r { f = y }` is r but for that. `let x = a in b` is b, where x is a. `Unit {0}` has one value; as a fact it always holds. A text between quotes is its bytes. "
             "A `u8`, `u16`, `u32` or `u64` of a type of the code is a whole number in a definition, a `bool` a test, a `Vec` or a `&[T]` a list; a case `C { a, b }` of it is `C a b`. "
-            "`*`, `/` and `%` bind before `+` and `-`, these before `∷`, `++` and `+++`, and these before `==`, `≡`, `≤` and their like; a function binds before all of them."
+            "`*`, `/` and `%` bind before `+` and `-`, these before `∷`, `++` and `+++`, and these before `==`, `≡`, `≤` and their like; a function binds before all of them. Of `*`, `/` and `%`, and of `+` and `-`, the sign to the left binds first."
         )
         yield (
             "Each definition has the words of its source, to which its file's name leads, in fewer lines. `abbrev`, `unfoldable` and `pub`, which mean nothing to a reader, are left out, a function's name stands once, "
-            "and of an enum of mere names its comment alone. In place of %s stands what they are." % quoted([it.name for it in self.inside])
+            "and of an enum of mere names its comment alone. %d small definitions are written out where they are used; [run_page.txt](run_page.txt) lists them. "
+            "The scripts that rewrite them so are [trusted](PROMISES.md#trusted)." % len(self.inside)
         )
 
     def library(self):
@@ -378,4 +381,3 @@ def pages(page):
     if lost or len(set(places)) < len(places):
         raise Unknown("docs/RUN.md: links that lead nowhere, or to two places: %s" % " ".join(sorted(lost)))
     yield "docs/RUN.md", shown.as_markdown(parts)
-    yield "docs/run.html", shown.as_html(parts, "ants: what one run promises")

@@ -1,7 +1,7 @@
 """How definitions stand on a page: a file's as one block of HTML, in which each name leads to where it is defined.
 
 A page is a list of parts: ("#", text) is a heading, ("##", text) one below it, ("p", text) a paragraph with Markdown's links and backticks,
-("table", header, rows) a table, ("pre", html) a block. `as_markdown` and `as_html` write it.
+("table", header, rows) a table, ("pre", html) a block. `as_markdown` writes it.
 """
 import html
 import re
@@ -184,14 +184,6 @@ class Linker:
         return "\n".join(out)
 
 
-def inline(text):
-    """A paragraph's links and backticks as HTML."""
-    text = html.escape(text, quote=False)
-    text = re.sub(r"`([^`]*)`", r"<code>\1</code>", text)
-    text = re.sub(r"\*\*([^*]+)\*\*", r"<b>\1</b>", text)
-    return re.sub(r"\[([^\]]*)\]\(([^)\s]*)\)", r'<a href="\2">\1</a>', text)
-
-
 def as_markdown(parts):
     out = []
     for kind, *said in parts:
@@ -205,24 +197,3 @@ def as_markdown(parts):
         else:
             out.append("%s %s" % (kind, said[0]))
     return "\n\n".join(out) + "\n"
-
-
-STYLE = "body{max-width:75em;margin:2em auto;padding:0 1em;font:16px/1.5 sans-serif}pre{background:#f6f6f4;padding:.8em;overflow-x:auto;line-height:1.35}" \
-    "pre i{color:#567;font-style:normal}pre a{color:inherit;text-decoration:underline dotted}b:target{background:#fe9}td,th{text-align:left;padding:.2em .8em;vertical-align:top}"
-
-
-def as_html(parts, title):
-    out = ["<!DOCTYPE html>", '<html lang="en">', '<meta charset="utf-8">', "<title>%s</title>" % html.escape(title), "<style>%s</style>" % STYLE]
-    for kind, *said in parts:
-        if kind == "table":
-            rows = ["<tr>%s</tr>" % "".join("<%s>%s</%s>" % (tag, inline(it), tag) for it in row) for tag, row in [("th", said[0])] + [("td", row) for row in said[1]]]
-            out.append("<table>\n%s\n</table>" % "\n".join(rows))
-        elif kind == "pre":
-            out.append("<pre>\n%s\n</pre>" % said[0])
-        elif kind == "p":
-            out.append("<p>%s</p>" % inline(said[0]))
-        else:
-            level = len(kind)
-            name = re.sub(r"[^\w\- ]", "", said[0].lower()).replace(" ", "-")
-            out.append('<h%d id="%s">%s</h%d>' % (level, name, inline(said[0]), level))
-    return "\n".join(out) + "\n</html>\n"

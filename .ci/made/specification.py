@@ -6,14 +6,14 @@ file defines is one block, below the blocks that it names. The chapter of a comm
 import re
 
 import shown
-from tree import CodeType, Contract, Unknown, left_of, pieces_of, words_of
+from tree import CodeType, Contract, Tree, Unknown, left_of, pieces_of, words_of
 
 CRATE, CALLS = "ants", ("run_ants", "run_to_exit")
-COMMANDS = "PlainCommand"  # the data with a constructor for each command
+COMMANDS = "CommandKind"  # the type with a variant for each first word
 FILES = ("FileKind", "FileContent")  # the data with a constructor for each kind of file
-JOBS = ("files_of", "IsJobText")  # what a command reads, and what it writes
+JOBS = "job_by"  # the job of a command, an equation a command
 LAW = "headline"  # the law that says the promise on one page
-GAME, COUNTS = "PrintsTheGame", "totals_of"  # of that page what a game prints; and what only its counts name
+GAME, COUNTS = "PrintsTheGame", "TellsItsCounts"  # of that page what a game prints; and what its counts are, where they are asked for
 WORDS = "IsCommand"  # which words are a command
 
 FIRST = (
@@ -21,8 +21,8 @@ FIRST = (
     ("Worlds and brains as texts", ("OpensAs", "IsBrainText"), "Which bytes are the text of a world or of a brain, and what is read of them."),
     ("The text of a game", ("run_text",), "What `run` prints: the seed line, the chosen dumps, and the score."),
 )
+NEXT = (("Words", ("IsCommand", "IsRefusedAt"), "Which words are a command, what they say, and which word is refused."),)
 LAST = (
-    ("Words", ("IsCommand", "IsRefusedAt"), "Which words are a command, what they say, and which word is refused."),
     ("What is wrong with a file", ("Refuses",), "The one fault of each text that isn't of its file's kind."),
 )
 ENDINGS = ("Endings", "Which files were fetched, how a run ended, what it reported, and its status. The first definitions are those that the clauses name.")
@@ -52,11 +52,16 @@ class Chapter:
 
     @property
     def lines(self):
-        return sum(it.lines for it in self.definitions)
+        return lines_of(self.parts)
 
     @property
     def file(self):
         return re.sub(r"[^\w\- ]", "", self.title.lower()).replace(" ", "-") + ".md"
+
+
+def lines_of(parts):
+    """The one measure of what is to be believed: lines of the source without comments, types of the code counted."""
+    return sum(it.lines for it in parts)
 
 
 def words_in(text):
@@ -67,9 +72,9 @@ def named(tree, it):
     return it.named(tree) if isinstance(it, CodeType) else tree.named_by(it)
 
 
-def reached(tree, roots, without=None):
-    """All that some definitions reach, each once, from the top down; where one is left out, what no other leads to is left out too."""
-    found, seen, left = [], {id(without)}, list(reversed(roots))
+def reached(tree, roots):
+    """All that some definitions reach, each once, from the top down."""
+    found, seen, left = [], set(), list(reversed(roots))
     while left:
         it = left.pop()
         if id(it) not in seen:
@@ -91,12 +96,12 @@ class Specification:
         self.headline = self.headline_chapter()
         self.left = {id(it) for it in self.all}
         self.chapters = []
-        for title, names, says in FIRST:
+        for title, names, says in FIRST + NEXT:
             self.add(title, says, [self.find(name) for name in names])
         self.commands = self.command_names()
         for constructor, word in self.commands:
             says = "What `%s` reads and writes, as far as no chapter above has it." % word
-            self.add("The command %s" % word, says, self.of_command(constructor, JOBS))
+            self.add("The command %s" % word, says, self.of_command(constructor))
         for title, names, says in LAST:
             self.add(title, says, [self.find(name) for name in names])
         self.add(ENDINGS[0], ENDINGS[1], self.roots)
@@ -115,18 +120,21 @@ class Specification:
         return chapter
 
     def game_lines(self):
-        """How many lines the headline's words on a game rest on, with the counts and without."""
-        found = [it for it in self.headline.definitions if it.name == GAME]
-        if len(found) != 1:
-            raise Unknown("the law %s reaches %d definitions named %s" % (LAW, len(found), GAME))
-        whole = self.lines_of(reached(self.tree, found))
-        uncounted = self.lines_of(reached(self.tree, found, self.find(COUNTS)))
-        words = self.lines_of(reached(self.tree, [self.find(WORDS)] + found)) - whole
-        return whole, uncounted, words
+        """How many lines the headline's words on a game rest on, how many more its counts, and how many more what a command's words are."""
+        game, counts = [self.of_headline(it) for it in (GAME, COUNTS)]
+        whole = lines_of(reached(self.tree, [game]))
+        counted = lines_of(reached(self.tree, [game, counts])) - whole
+        words = lines_of(reached(self.tree, [self.find(WORDS), game])) - whole
+        if not counted or not words:
+            raise Unknown("%s has all that %s or %s rest on" % (GAME, COUNTS, WORDS))
+        return whole, counted, words
 
-    @staticmethod
-    def lines_of(parts):
-        return sum(it.lines for it in parts if not isinstance(it, CodeType))
+    def of_headline(self, name):
+        """The one definition of this name on the law's page."""
+        found = [it for it in self.headline.definitions if it.name == name]
+        if len(found) != 1:
+            raise Unknown("the law %s reaches %d definitions named %s" % (LAW, len(found), name))
+        return found[0]
 
     def find(self, name):
         """The one definition of this name that is reached."""
@@ -136,11 +144,25 @@ class Specification:
         return found[0]
 
     def command_names(self):
-        return [(it, re.sub("Command$", "", it).lower()) for it in self.find(COMMANDS).members()]
+        """Each command by its first variant, with the name of its job."""
+        found = {}
+        for constructor, name in re.findall(r"^%s (\w+) \w+ = (\w+)_job\b" % JOBS, "\n".join(self.find(JOBS).text), re.M):
+            found.setdefault(name, constructor)
+        return [(constructor, name) for name, constructor in found.items()]
+
+    def cases_of(self, definition, text, types):
+        """The constructors of some types that a text of a definition names."""
+        module, found = definition.module, set()
+        for name in words_in(text):
+            target = module.names[name][0].split(".") if name in module.names else []
+            owner = Tree.constructed(module, name)
+            if (owner and owner.name in types) or set(target[-2:]) & set(types):
+                found.add(name)
+        return found
 
     def add(self, title, says, roots):
         chapter = Chapter(title, says)
-        skip = {id(self.find(name)) for name in JOBS + (COMMANDS,) + FILES} if title.startswith("The command") else set()
+        skip = {id(self.find(name)) for name in (JOBS,) + FILES} if title.startswith("The command") else set()
         seen, left = set(), list(reversed(roots))
         while left:
             it = left.pop()
@@ -153,29 +175,22 @@ class Specification:
         if chapter.parts:
             self.chapters.append(chapter)
 
-    def of_command(self, constructor, names):
-        """What the equations of some definitions for one command name."""
-        found = []
-        for name in names:
-            definition = self.find(name)
-            for piece in self.pieces(definition):
-                if re.search(r"\b%s\b" % constructor, piece):
-                    found += self.tree.named_in(definition, piece)
-        return [it for it in found if it is not self.find(COMMANDS)]
+    def of_command(self, constructor):
+        """What the equation of a command's job names."""
+        jobs = self.find(JOBS)
+        return [it for piece in self.pieces(jobs) if constructor in self.cases_of(jobs, left_of(piece), (COMMANDS,)) for it in self.tree.named_in(jobs, piece) if not isinstance(it, CodeType)]
 
     def needed(self, constructor):
         """All that a command's promise reaches: of definitions by cases on commands and on files only the cases that it meets."""
-        commands, kinds, contents = [set(self.find(name).members()) for name in (COMMANDS,) + FILES]
         live = {constructor}
         while True:
-            found, met = self.needed_with(live, commands | kinds | contents)
-            met = {it for it in met if it in kinds or it in contents}
+            found, met = self.needed_with(live)
             if met <= live:
                 return found
             live |= met
 
-    def needed_with(self, live, cases):
-        """What is reached where only these cases are met, and which cases the equations name that are then left."""
+    def needed_with(self, live):
+        """What is reached where only these cases are met, and which cases of files the equations name that are then left."""
         seen, found, left, met = set(), [], list(self.roots), set()
         while left:
             it = left.pop()
@@ -187,14 +202,14 @@ class Specification:
                 left += it.named(self.tree)
                 continue
             for piece in self.pieces(it):
-                if it.shape == "data" and set(it.members()) <= cases:
+                if it.shape == "data" and it.name in FILES:
                     piece = "\n".join(line for line in piece.split("\n") if words_in(line) & live)
                     left += self.tree.named_in(it, piece)
                     continue
-                asked = words_in(left_of(piece)) & cases
+                asked = self.cases_of(it, left_of(piece), (COMMANDS,) + FILES)
                 # an equation by cases on a kind of file and a content says which contents a kind has
                 if asked <= live or asked & live and not asked - live - set(self.find(FILES[1]).members()):
-                    met |= words_in(piece) & cases
+                    met |= self.cases_of(it, piece, FILES)
                     left += self.tree.named_in(it, piece)
         return found, met
 
@@ -206,8 +221,7 @@ class Specification:
     def row(self, constructor):
         """Of each chapter how many lines a command needs."""
         these = {id(it) for it in self.needed(constructor)}
-        return [sum(it.lines for it in chapter.definitions if id(it) in these) for chapter in self.chapters]
-
+        return [lines_of(it for it in chapter.parts if id(it) in these) for chapter in self.chapters]
 
     def place(self, it):
         """The address of a definition or a type from docs/, or None where no chapter has it."""
@@ -258,7 +272,7 @@ def introduction(spec):
     )
     yield "For one `run`, [RUN.md](RUN.md) has all of it on one page, in fewer lines."
     yield (
-        "The contest is %s lines without comments; a game from its files to its text %s; all that a `run` rests on, with words and endings, %s; and all commands together %s."
+        "The contest is %s lines without comments, types of the code counted; a game from its files to its text %s; all that a `run` rests on, with words and endings, %s; and all commands together %s."
         % (number(contest), number(game), number(run), number(whole))
     )
 
@@ -285,17 +299,17 @@ def pages(spec):
                 fields.setdefault(name, []).append(it)
     for number_of, chapter in enumerate(chapters):
         linker = shown.Linker(spec.tree, lambda it: where.get(id(it)) and ("" if where[id(it)] is chapter else where[id(it)].file) + "#" + shown.anchor(it), fields)
-        lines = headline_says(spec) if chapter is spec.headline else "%d definitions, %s lines. %s" % (len(chapter.definitions), number(chapter.lines), chapter.says)
+        lines = headline_says(spec) if chapter is spec.headline else "%d definitions and %d types, %s lines. %s" % (len(chapter.definitions), len(chapter.types), number(chapter.lines), chapter.says)
         yield "docs/specification/" + chapter.file, chapter_page(spec, linker, chapter, lines)
     yield "docs/SPECIFICATION.md", index(spec)
 
 
 def headline_says(spec):
-    game, uncounted, words = spec.game_lines()
+    game, counted, words = spec.game_lines()
     return (
         "The law [%s](../../%s): the promise on one page of %d lines. It follows from the clauses, which is checked; so of the chapter on endings only what it names has to be read. "
-        "To believe `%s` for a `run` without `--stats`, read %s lines; `--stats` adds %s, and what the words mean (`%s`) %s."
-        % (LAW, spec.headline.law.file, spec.headline.lines, GAME, number(uncounted), number(game - uncounted), WORDS, number(words))
+        "To believe `%s` for a `run` without `--stats`, read %s lines, types of the code counted; `--stats` adds %s, and what the words mean (`%s`) %s."
+        % (LAW, spec.headline.law.file, spec.headline.lines, GAME, number(game), number(counted), WORDS, number(words))
     )
 
 
@@ -323,16 +337,15 @@ def index(spec):
     return "\n".join(out).rstrip() + "\n"
 
 
-def in_readme(spec, run_lines, pace):
-    """How many lines are to be believed, types of the code counted, and how long it takes at a pace; of one `run` those of its own page."""
-    chapters = [sum(it.lines for it in chapter.parts) for chapter in spec.chapters]
-    these = {id(it) for it in spec.needed(dict((word, it) for it, word in spec.commands)["run"])}
+def in_readme(spec, run_parts, pace):
+    """How many lines are to be believed, and how long it takes at a pace; of one `run` what its own page has, in the lines of the sources as all else."""
+    contest, game, run, whole = counts(spec)
     rows = [
-        ["one `run` without `--stats`, at every status: [one page](docs/RUN.md), which has the same definitions in fewer lines", run_lines],
-        ["the contest's rules", chapters[0]],
-        ["a game: rules, texts of worlds and brains, text of a game", sum(chapters[: len(FIRST)])],
-        ["all that a `run` rests on, with its counts and the fault of each text", sum(it.lines for chapter in spec.chapters for it in chapter.parts if id(it) in these)],
-        ["all commands", sum(chapters)],
+        ["one `run` without `--stats`, at every status, but for which fault a refused text has and which words are no command: [one page](docs/RUN.md), which has the same definitions in fewer lines", lines_of(run_parts)],
+        ["the contest's rules", contest],
+        ["a game: rules, texts of worlds and brains, text of a game", game],
+        ["all that a `run` rests on, with its counts and the fault of each text", run],
+        ["all commands", whole],
     ]
     if spec.headline:
         rows.insert(3, ["the promise of every command on one page, the law `%s`" % LAW, spec.headline.lines])

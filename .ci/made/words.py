@@ -22,22 +22,22 @@ class Words:
     def __init__(self, folder="crates/command_words/specs"):
         texts = [read(file) for file in source_files(folder, ".antt") if "/Inner/" not in file]
         rows = {kind: (word, choices) for kind, word, choices in only(texts, r'^row_of (\w+) = command_row \(codes "([^"]+)"\).* (\[\]|\([^()]*\))$')}
-        options = only(texts, r'^option_row (\w+) = (needed|free|flag)_option \(codes "([^"]+)"\)(?: \(Number (\w+)\))?')
+        options = only(texts, r'^option_row (\w+) = (needed|number|dump|flag)_option \(codes "([^"]+)"\) ?(\w*) ?(\d*)')
         kinds = only(texts, r"^kinds = (.*) ∷ \[\]$")[0].split(" ∷ ")
         least, most = dict(only(texts, r"^least_of (\w+) = (\d+)")), dict(only(texts, r"^most_of (\w+) = (\d+)"))
-        defaults = dict(only(texts, r"^(default_\w+) = (\d+)"))
-        default_of = {choice: defaults[name] for name, choice in only(texts, r"number_or (default_\w+) \w+ \(a\.value (\w+)\)")}
-        word_of = {choice: word for choice, _, word, _ in options}
+        word_of = {choice: word for choice, _, word, _, _ in options}
         self.commands = {}
         for kind in kinds:
             word, choices = rows[kind]
             self.commands[word] = [word_of[it] for it in choices.strip("()").split(" ∷ ") if it != "[]"]
+        helps = dict(only(texts, r'^help_row (\w+) = command_help \(codes "([^"]*)"\)'))
+        self.names = {rows[kind][0]: helps[kind] for kind in kinds}
         self.keywords = list(dict(only(texts, r'^keyword_of (\w+) = codes "([^"]+)"')).values())
         self.options = {}
-        self.takes = dict(only(texts, r'^option_row \w+ = (?:needed|free)_option \(codes "([^"]+)"\) \(?(\w+)'))
-        for choice, form, word, kind in options:
+        self.forms = {word: form for _, form, word, _, _ in options}
+        for choice, form, word, kind, default in options:
             limits = "%s to %s" % (number(least[kind]), number(most[kind])) if kind else None
-            default = "needed" if form == "needed" else number(default_of[choice]) if choice in default_of else None
+            default = "needed" if form == "needed" else number(default) if default else None
             self.options[word] = (limits, default)
 
 

@@ -1,0 +1,25 @@
+"""What examples/map refuses."""
+import os
+import subprocess
+
+from league_tests.folder import MAP, PROGRAM, Folder
+
+
+class Map(Folder):
+    """What examples/map refuses is said in a line."""
+
+    def mapped(self, text, **how):
+        how = {"stdout": subprocess.PIPE, "input": text, **how}
+        ran = subprocess.run([MAP], stderr=subprocess.PIPE, timeout=60, **how)
+        return ran.returncode, ran.stdout, os.fsdecode(ran.stderr)
+
+    def test_dumps_and_streams(self):
+        dump = subprocess.run([PROGRAM, "show", "ambush.world", "1"], stdout=subprocess.PIPE, check=True).stdout
+        self.assertEqual(self.mapped(dump)[::2], (0, ""))
+        for cell in (b"\xd9\xa0, 0", b"9" * 5000 + b", 0", b"0, " + b"9" * 4000, b"0" * 10 ** 7):
+            status, output, faults = self.mapped(dump.replace(b"cell (0, 0)", b"cell (%s)" % cell))
+            self.assertEqual((status, output, faults), (1, b"", "map: line 4: no line of a dump\n"))
+        with open("/dev/full", "w") as full:
+            self.assertEqual(self.mapped(dump, stdout=full), (1, None, "map: standard output: No space left on device\n"))
+        for number, told in ((0, "standard input: Bad file descriptor"), (1, "standard output is closed")):
+            self.assertEqual(self.mapped(dump, preexec_fn=lambda: os.close(number))[::2], (1, "map: %s\n" % told))
