@@ -1,23 +1,10 @@
 //! The program `ants`: a simulator of the ant world of the ICFP Programming Contest 2004.
 //!
-//! `run_ants` does all that the program does, over any shelf of files and any two sinks; `main` hands it the real ones. `run_here` does all of
-//! it except `run --far`, which has to wait for workers. Each command's files, its text, its faults and their lines are definitions in specs/,
-//! and the clauses of `run_ants` say how every run ends.
-//!
-//! What names no section of the contest's task is this project's own: the commands and what they print, the faults, and the statuses.
+//! `run_to_exit` of `ant_commands` does all that the program does, over any shelf of files and any two sinks; `main` hands it the real ones.
 #![tactic(auto)]
 
-mod commands;
-mod files;
-mod laws;
-mod program;
-mod status;
-mod stop;
-#[cfg(test)]
-mod tests;
-
-use crate::program::{exit_without_memory, run_to_exit};
 use ant_base::{ErrSink, FileShelf, NoGate, OutSink};
+use ant_commands::{exit_without_memory, run_to_exit};
 use std::alloc::AllocError;
 use std::env;
 use std::io::{BufWriter, ErrorKind};

@@ -4,7 +4,7 @@ use Rattle.ant_turn.specs.Minds.{contest_minds}
 use Rattle.brain_read.specs.declared.instr.Instr.{Instr}
 use Rattle.cell_world.specs.Grid.{Grid, world_of}
 use Rattle.match_run.specs.Dumps.{has_round}
-use Rattle.match_save.specs.Resumed.{rest_of}
+use Rattle.match_save.specs.Resumed.{resumed_text}
 use Rattle.match_save.specs.Saved.{SavedValue, save_text}
 use Rattle.match_save.specs.Saves.{saved_after}
 use Rattle.ants_c.specs.Played.{IsGame}
@@ -24,8 +24,8 @@ pub record IsSaveOf (world_text red_text black_text : List ℕ) (seed rounds : �
 
 -- a text is that of a save of which no more rounds are done than these, and another one the rest of the text of its game until so many rounds
 -- are done, with the dumps of these rounds, without counts
-pub record IsRestOf (before : List ℕ) (rounds : ℕ) (dumps : List ℕ) (text : List ℕ) : Type 0 where
+pub record IsResumed (before : List ℕ) (rounds : ℕ) (dumps : List ℕ) (text : List ℕ) : Type 0 where
   pub saved : SavedValue
   pub is : GivesSave before saved
   pub early : saved.round ≤ rounds
-  pub is_text : text ≡ rest_of saved rounds (has_round dumps) false
+  pub is_text : text ≡ resumed_text saved rounds (has_round dumps) false

@@ -11,7 +11,7 @@ ghost use Rattle.match_run.specs.Run.{most_rounds};
 ghost use Rattle.ants_c.specs.Played.{AreScored, IsRunText, IsScored, IsStatus};
 ghost use Rattle.ants_c.specs.Refused.{IsRefusedBrain, IsRefusedGame, IsRefusedPair, IsRefusedProgram, IsRefusedSave, IsRefusedShape};
 ghost use Rattle.ants_c.specs.Rooms.{Answers, IsPut, Writes};
-ghost use Rattle.ants_c.specs.Saves.{IsRestOf, IsSaveOf};
+ghost use Rattle.ants_c.specs.Saves.{IsResumed, IsSaveOf};
 ghost use Rattle.ants_c.specs.Texts.{IsAssembledOf, IsCanonicalOf, IsComparisonOf, IsGeneratedText, IsMinimisedOf, IsWithin};
 ghost use Rattle.ants_c.specs.Told.{IsTold};
 ghost use Rattle.ants_c.specs.Version.{version};
@@ -24,7 +24,7 @@ mod room_log;
 mod room_sink;
 mod run;
 mod save;
-mod saves;
+mod resume;
 mod score;
 mod scores;
 mod shapes;
@@ -36,7 +36,7 @@ mod version;
 use crate::read::{Pair, Setting, open_brain, open_pair, open_program, open_texts};
 use crate::run::put_run;
 use crate::save::saved_setting;
-use crate::saves::{open_save, put_rest};
+use crate::resume::{open_save, put_resumed};
 use crate::scores::{score_of_game, scores_of_setting};
 use crate::shapes::{generated, shape_of};
 use crate::status::{DONE, MEMORY, NO_ROOM, NUMBER};
@@ -386,7 +386,7 @@ pub extern "C" fn ants_resume(
     words: &mut [u8],
 ) -> u32
     ensures status { IsStatus result }
-    ensures text { Writes result → Answers (IsRestOf save.now rounds dumps.now) out.old out.new used.new result }
+    ensures text { Writes result → Answers (IsResumed save.now rounds dumps.now) out.old out.new used.new result }
     ensures rounds { (result ≡ 2) ↔ (most_rounds < rounds) }
     ensures refused { result ≡ 5 → IsTold (IsRefusedSave rounds save.now) fault.new words.old words.new }
     ensures out { Writes result ⊎ ((out.new ≡ out.old) × (used.new ≡ used.old)) }
@@ -399,7 +399,7 @@ pub extern "C" fn ants_resume(
         Ok(saved) => saved,
         Err(stop) => return stopped(stop, fault, words),
     };
-    match put_rest(alloc, &saved, rounds, dumps, out, used) {
+    match put_resumed(alloc, &saved, rounds, dumps, out, used) {
         Ok(status) => status,
         Err(_) => MEMORY,
     }

@@ -12,8 +12,8 @@ pub mod CountLaws
 -- The text of a run, and the rest of one.
 pub mod PlayLemmas
 pub mod RunLaws
-pub mod RestLaws
+pub mod LaterLaws
 -- Worked values.
 pub mod CountWorked
 pub mod RunWorked
-pub mod RestWorked
+pub mod LaterWorked

@@ -15,12 +15,12 @@ use Rattle.match_run.specs.Counts.{both, round_totals, totals_of}
 use Rattle.match_run.specs.Game.{GameValue, GoesOnFor, IsRoundPlayed, RisesUpTo, counted_on, now_of, totals_ahead}
 use Rattle.match_run.specs.Inner.Rounds.{RoundStopped, RoundsStop}
 use Rattle.match_run.specs.Play.{PushedBy, PushedProperPrefix, StoppedBy}
-use Rattle.match_run.specs.Rest.{later_dumps}
+use Rattle.match_run.specs.Later.{later_dumps}
 use Rattle.match_run.specs.Run.{chosen_dump}
 use Rattle.match_run.specs.Stopped.{StopsBy, dumps_behind}
 use Rattle.match_run.proofs.CountLemmas.{both-both, both-none, round_totals-turns, sum_windows-turns, totals_of-more, totals_of-turns}
 use Rattle.match_run.proofs.GameLemmas.{whole-moment, whole-totals}
-use Rattle.match_run.proofs.RestLaws.{some_then}
+use Rattle.match_run.proofs.LaterLaws.{some_then}
 
 -- nothing of a text that has something is pushed
 pub prefix_of_nothing : (state : SinkState) (text : List ℕ) → 1 ≤ length text → PushedProperPrefix state state text

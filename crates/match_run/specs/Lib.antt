@@ -5,7 +5,7 @@ pub mod Game
 pub mod GameLaws
 pub mod Inner
 pub mod Play
-pub mod Rest
+pub mod Later
 pub mod Run
 pub mod RunLaws
 pub mod Sequential

@@ -9,7 +9,7 @@ use Rattle.ant_base.specs.declared.push_fault.PushFault.{PushFault}
 use Rattle.ant_base.specs.declared.push_fault.PushFault.TheVariants.{WriteFault, OutOfMemory}
 use Rattle.match_run.specs.Counts.{counts_text}
 use Rattle.match_run.specs.Game.{GameValue, GoesOnFor, IsRoundRefused, now_of}
-use Rattle.match_run.specs.Rest.{later_dumps}
+use Rattle.match_run.specs.Later.{later_dumps}
 use Rattle.match_run.specs.Run.{chosen_dump}
 use Rattle.match_run.specs.Sequential.{IsPlayedOn, SequentialValue, standing}
 

@@ -6,7 +6,7 @@ ghost use Rattle.ant_turn.specs.Rounds.{after_rounds};
 ghost use Rattle.cell_world.specs.Grid.{world_of};
 ghost use Rattle.cell_world.specs.Score.{score_of};
 ghost use Rattle.match_run.specs.Dumps.{chooses};
-ghost use Rattle.match_run.specs.Rest.{later_dumps, plain_rest_text};
+ghost use Rattle.match_run.specs.Later.{later_dumps, plain_later_text};
 ghost use Rattle.match_run.specs.Run.{most_rounds, ended, run_text, world_after};
 ghost use Rattle.match_run.specs.Sequential.{IsPlayedOn, standing};
 ghost use Rattle.match_run.specs.Stopped.{LosesDump, LosesText};
@@ -42,7 +42,7 @@ pub fn play_alone<K: Sink>(
     push_seed(plan.seed, sink)?;
     push_chosen(&world, &plan.dumps, 0, sink)?;
     let mut game = SequentialGame::begin(world, brains, plan.seed);
-    play_rest_alone(&mut game, plan.rounds, &plan.dumps, sink)
+    play_on_alone(&mut game, plan.rounds, &plan.dumps, sink)
 }
 
 /// Plays a game on until so many rounds are done in all, and pushes the rest of its text, without counts: the dump after each later round that
@@ -51,7 +51,7 @@ pub fn play_alone<K: Sink>(
 /// The rounds are at most 1,000,000, and at least those that are done. Gives the score at the end. It fails only where the sink did, whose
 /// count of faults rose then: a prefix of the text was pushed. The game stands at the end of the round at whose dump the sink failed, and else
 /// of the last one. It takes no memory.
-pub fn play_rest_alone<K: Sink>(
+pub fn play_on_alone<K: Sink>(
     game: &mut SequentialGame<'_>,
     rounds: u32,
     dumps: &Dumps,
@@ -60,7 +60,7 @@ pub fn play_rest_alone<K: Sink>(
     requires left { game.old.done ≤ rounds }
     requires few_rounds { rounds ≤ most_rounds }
     ensures text { Pushed (K.state sink.old) (K.state sink.new)
-        (plain_rest_text game.old.minds game.old.seed (standing game.old) game.old.done rounds (chooses dumps.now)) (ended result) }
+        (plain_later_text game.old.minds game.old.seed (standing game.old) game.old.done rounds (chooses dumps.now)) (ended result) }
     ensures score { IfOk result (λ s. s ≡ score_of (after_rounds game.old.minds game.old.seed (standing game.old) (rounds - game.old.done)).world) }
     ensures played { OnOk result (IsPlayedOn game.old game.new (rounds - game.old.done)) }
     ensures stopped { OnErr result (LosesText game.old game.new (rounds - game.old.done) (chooses dumps.now) (K.state sink.old) (K.state sink.new)) }

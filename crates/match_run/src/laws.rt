@@ -1,7 +1,7 @@
 // What holds of all games and runs, as laws of their definitions.
 ghost use Rattle.match_run.specs.CountLaws.{BrokenRoundsGoOn, CountsComeLast, LoneWindowsAreTaken, RoundsGoOn, TotalsAddUp, WholeRounds};
 ghost use Rattle.match_run.specs.GameLaws.{GamesFollowTheRules, GamesGoOnByRounds, GamesKeepTheirHills};
-ghost use Rattle.match_run.specs.Rest.{RunsGoOn};
+ghost use Rattle.match_run.specs.Later.{RunsGoOn};
 ghost use Rattle.match_run.specs.RunLaws.{AllDumps, NoDumps, SameRounds, RepeatAddsNothing, LaterAddsNothing, GamesGoOn};
 
 /// The text of a run with `Dumps::All` is the line of the seed, the dump after each round from 0 to the number of rounds in order, and the
@@ -74,7 +74,7 @@ pub fn broken_rounds_go_on()
 {}
 
 /// The text of a run is the line of the seed, the chosen dumps up to whatever round, and then the rest of its text from that round on. So what
-/// `play_rest` pushes for a game at that round, with the counts of the rounds before it, is what is missing of the run's text (this project's
+/// `play_on` pushes for a game at that round, with the counts of the rounds before it, is what is missing of the run's text (this project's
 /// own). The call does nothing: its clause is the law.
 pub fn runs_go_on()
     ensures { RunsGoOn }

@@ -19,7 +19,7 @@ mod sequential_game;
 mod whole_run;
 mod windows;
 
-pub use alone::{play_alone, play_rest_alone, play_score};
+pub use alone::{play_alone, play_on_alone, play_score};
 pub use ant_base::PushFault as PlayFault;
 pub use dump_print::Totals;
 pub use dumps::{Dumps, Rounds};
@@ -33,4 +33,4 @@ pub use laws::{
 };
 pub use plan::{MOST_ROUNDS, Plan};
 pub use sequential_game::SequentialGame;
-pub use whole_run::{play, play_rest};
+pub use whole_run::{play, play_on};

@@ -12,7 +12,7 @@ ghost use Rattle.match_run.specs.Dumps.{chooses};
 ghost use Rattle.match_run.specs.Game.{GoesOnFor, RisesUpTo, beginning, counted_on, now_of};
 ghost use Rattle.match_run.specs.Inner.Rounds.{RoundShown, RoundsPushed, RoundsStop};
 ghost use Rattle.match_run.specs.Play.{PushedBy};
-ghost use Rattle.match_run.specs.Rest.{later_dumps, rest_text};
+ghost use Rattle.match_run.specs.Later.{later_dumps, later_text};
 ghost use Rattle.match_run.specs.Run.{ended, most_rounds, world_after};
 ghost use Rattle.match_run.specs.Stopped.{StopsBy};
 
@@ -60,7 +60,7 @@ pub fn play<C: Crew, K: Sink>(
     let mut game = game_of(alloc, world, brains, plan)?;
     push_seed(plan.seed, sink)?;
     push_chosen(game.world(), &plan.dumps, 0, sink)?;
-    play_rest(
+    play_on(
         alloc,
         crew,
         &mut game,
@@ -103,7 +103,7 @@ fn game_of<'b>(
 /// and a proper prefix was. Where the sink failed at a dump, the game stands at the end of that round; where at the score or the counts, at
 /// the end of the last one. Out of memory, it stands at the window that was refused, exactly the dumps of the rounds before were pushed,
 /// and it can be gone on with. The crew has counted the turns that the game has, also after a refusal.
-pub fn play_rest<C: Crew, K: Sink>(
+pub fn play_on<C: Crew, K: Sink>(
     alloc: Global,
     crew: &mut C,
     game: &mut Game<'_>,
@@ -118,7 +118,7 @@ pub fn play_rest<C: Crew, K: Sink>(
     requires few_rounds { rounds ≤ most_rounds }
     ensures ready { C.ready crew.new }
     ensures text { PushedBy (K.state sink.old) (K.state sink.new)
-        (rest_text game.old.field.minds game.old.field.seed game.old.window (now_of game.old) game.old.done game.old.totals rounds (chooses dumps.now) stats) result }
+        (later_text game.old.field.minds game.old.field.seed game.old.window (now_of game.old) game.old.done game.old.totals rounds (chooses dumps.now) stats) result }
     ensures score { IfOk result (λ s. s ≡ score_of (after_rounds game.old.field.minds game.old.field.seed (now_of game.old) (rounds - game.old.done)).world) }
     ensures played { OnOk result (GoesOnFor game.old game.new (rounds - game.old.done)) }
     ensures stopped { IfErr result (λ fault. StopsBy game.old game.new (rounds - game.old.done) (chooses dumps.now) stats (K.state sink.old) (K.state sink.new) fault) }

@@ -11,15 +11,15 @@ use Rattle.cell_world.specs.Cell.{rock}
 use Rattle.cell_world.specs.Grid.{Grid, cell_in, world_of}
 use Rattle.ant_turn.specs.Minds.{Fits, Minds, mind_of}
 use Rattle.dump_print.specs.declared.totals.Totals.{Totals}
-use Rattle.match_run.proofs.RestLaws.{rest_text-plain, rest_text-some, runs_go_on}
+use Rattle.match_run.proofs.LaterLaws.{later_text-plain, later_text-some, runs_go_on}
 use Rattle.match_run.specs.Game.{CanGoOn, GameValue, game_at_round, now_of}
-use Rattle.match_run.specs.Rest.{plain_rest_text, rest_text}
+use Rattle.match_run.specs.Later.{plain_later_text, later_text}
 use Rattle.match_run.specs.Sequential.{SequentialValue, standing}
 use Rattle.match_save.specs.Inner.Alone.{sequential_of}
 use Rattle.match_run.specs.Run.{most_rounds}
 use Rattle.round_book.specs.Book.{FieldValue}
 use Rattle.match_save.specs.Draft.{Draft, IsInForm}
-use Rattle.match_save.specs.Resumed.{SavesGoOn, field_of, moment_of, rest_of}
+use Rattle.match_save.specs.Resumed.{SavesGoOn, field_of, moment_of, resumed_text}
 use Rattle.match_save.specs.Saved.{IsSaved, SavedValue, draft_of}
 use Rattle.match_save.specs.State.{IsState, grid_of_draft, hill_count, program_of, turns_of}
 use Rattle.match_save.specs.Inner.Floor.{floor_of}
@@ -48,7 +48,7 @@ fits-of d ok state p ant is = go (ltb p.x d.head.width) is where
 
 -- a run that was saved and gone on with is the run that wasn't
 pub saves_go_on : SavesGoOn
-unfolding rest_of
+unfolding resumed_text
 saves_go_on s w rounds chosen stats is left =
     let on = runs_go_on s.minds s.seed s.window w s.round rounds chosen stats left in cc
 
@@ -100,15 +100,15 @@ pub game-is : (s : SavedValue) (field : FieldValue) (window round : ℕ) (totals
 game-is s field window round totals are = cc
 
 -- what was pushed of a save's game is its rest
-pub rest-is : (s : SavedValue) (game : GameValue) (rounds : ℕ) (chosen : ℕ → Bool) (stats : Bool) → game ≡ game_at_round (field_of s) s.window s.round s.totals
-    → rest_text game.field.minds game.field.seed game.window (now_of game) game.done game.totals rounds chosen stats ≡ rest_of s rounds chosen stats
-unfolding rest_of
-rest-is s game rounds chosen stats e = rw e refl
+pub resumed-is : (s : SavedValue) (game : GameValue) (rounds : ℕ) (chosen : ℕ → Bool) (stats : Bool) → game ≡ game_at_round (field_of s) s.window s.round s.totals
+    → later_text game.field.minds game.field.seed game.window (now_of game) game.done game.totals rounds chosen stats ≡ resumed_text s rounds chosen stats
+unfolding resumed_text
+resumed-is s game rounds chosen stats e = rw e refl
 
 -- the rest of a save has something
-pub rest_of-some : (s : SavedValue) (rounds : ℕ) (chosen : ℕ → Bool) (stats : Bool) → 1 ≤ length (rest_of s rounds chosen stats)
-unfolding rest_of
-rest_of-some s rounds chosen stats = rest_text-some s.minds s.seed s.window (moment_of s) s.round s.totals rounds chosen stats
+pub resumed_text-some : (s : SavedValue) (rounds : ℕ) (chosen : ℕ → Bool) (stats : Bool) → 1 ≤ length (resumed_text s rounds chosen stats)
+unfolding resumed_text
+resumed_text-some s rounds chosen stats = later_text-some s.minds s.seed s.window (moment_of s) s.round s.totals rounds chosen stats
 
 -- a game that is just played stands where the save does
 pub sequential-is : (s : SavedValue) (world : Grid) (minds : Minds) (seed place round : ℕ) → world ≡ s.world → minds ≡ s.minds → seed ≡ s.seed → place ≡ s.place → round ≡ s.round
@@ -131,7 +131,7 @@ place-saved s is =
 
 -- what was pushed of a save's game that is just played is its rest without counts
 pub alone-is : (s : SavedValue) (game : SequentialValue) (rounds : ℕ) (chosen : ℕ → Bool) → game ≡ sequential_of s
-    → plain_rest_text game.minds game.seed (standing game) game.done rounds chosen ≡ rest_of s rounds chosen false
-unfolding rest_of
+    → plain_later_text game.minds game.seed (standing game) game.done rounds chosen ≡ resumed_text s rounds chosen false
+unfolding resumed_text
 alone-is s game rounds chosen e =
-    let plain = rest_text-plain s.minds s.seed s.window (moment_of s) s.round s.totals rounds chosen in cc
+    let plain = later_text-plain s.minds s.seed s.window (moment_of s) s.round s.totals rounds chosen in cc

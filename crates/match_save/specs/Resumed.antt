@@ -9,7 +9,7 @@ use Rattle.dump_print.specs.Texts.{seed_text}
 use Rattle.match_run.specs.Counts.{totals_of, whole_text}
 use Rattle.ant_base.specs.declared.push_fault.PushFault.{PushFault}
 use Rattle.ant_base.specs.declared.push_fault.PushFault.TheVariants.{WriteFault, OutOfMemory}
-use Rattle.match_run.specs.Rest.{rest_text}
+use Rattle.match_run.specs.Later.{later_text}
 use Rattle.match_run.specs.Run.{dumps_text}
 use Rattle.round_book.specs.Book.{FieldValue}
 use Rattle.match_save.specs.Saved.{SavedValue}
@@ -24,8 +24,8 @@ later_world s rounds = (after_rounds s.minds s.seed (moment_of s) rounds).world
 
 -- the text of its rest up to so many rounds in all: the dumps of the later rounds that are chosen, the score of the end, and the counts of all
 -- rounds where they are asked for
-unfoldable pub rest_of : SavedValue → ℕ → (ℕ → Bool) → Bool → List ℕ
-rest_of s rounds chosen stats = rest_text s.minds s.seed s.window (moment_of s) s.round s.totals rounds chosen stats
+unfoldable pub resumed_text : SavedValue → ℕ → (ℕ → Bool) → Bool → List ℕ
+resumed_text s rounds chosen stats = later_text s.minds s.seed s.window (moment_of s) s.round s.totals rounds chosen stats
 
 -- a save stands where so many rounds of a game that starts in w led, and counts their turns
 pub record IsOfGame (s : SavedValue) (w : World) : Type 0 where
@@ -36,7 +36,7 @@ pub record IsOfGame (s : SavedValue) (w : World) : Type 0 where
 abbrev pub SavesGoOn : Type 0
 SavesGoOn = (s : SavedValue) (w : World) (rounds : ℕ) (chosen : ℕ → Bool) (stats : Bool) → IsOfGame s w → s.round ≤ rounds →
     whole_text s.minds s.seed rounds chosen s.window stats w
-    ≡ seed_text s.seed +++ dumps_text s.minds s.seed chosen w (s.round + 1) +++ rest_of s rounds chosen stats
+    ≡ seed_text s.seed +++ dumps_text s.minds s.seed chosen w (s.round + 1) +++ resumed_text s rounds chosen stats
 
 -- where memory was wanting, nothing was pushed
 abbrev pub UnwrittenByMemory : {A : Type 0} → SinkState → SinkState → Result A PushFault → Type 0

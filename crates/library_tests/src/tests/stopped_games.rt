@@ -2,7 +2,7 @@
 use crate::tests::standing_workers::{MOVES, Players, field_on, make_players};
 use ant_base::{Calls, LONGEST, MemSink};
 use ant_turn::{Brains, Sheet};
-use match_run::{Dumps, Game, PlayFault, play_rest};
+use match_run::{Dumps, Game, PlayFault, play_on};
 use round_book::{Crew, SoloCrew};
 use std::alloc::Global;
 use std::process::Abort;
@@ -33,7 +33,7 @@ fn check_stop<R: Abort>(
     let mut game = Game::begin(field_on(alloc, bytes, brains, 12345)?, 16384);
     let mut crew = SoloCrew::new();
     let mut sink = MemSink::with_room(alloc, room, Calls::new(alloc))?;
-    let played = play_rest(
+    let played = play_on(
         alloc,
         &mut crew,
         &mut game,

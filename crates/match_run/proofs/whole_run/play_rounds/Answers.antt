@@ -7,9 +7,9 @@ use Rattle.ant_base.specs.Sink.{PushedAll}
 use Rattle.cell_world.specs.Grid.{world_of}
 use Rattle.match_run.specs.Run.{chosen_dump}
 use Rattle.match_run.specs.Inner.Rounds.{RoundStopped}
-use Rattle.match_run.specs.Rest.{later_dumps}
+use Rattle.match_run.specs.Later.{later_dumps}
 use Rattle.match_run.proofs.PlayLemmas.{GoesOnFor-more, GoesOnFor-none, GoesOnFor-turns, GoesOnFor-world, RoundStopped-turns, RoundsStop-shown, counted-round, counted-start, counted-stopped, rises-all, rises-rounds, later_dumps-front, later_dumps-more, later_dumps-none, stopped-shown}
-use Rattle.match_run.proofs.RestLaws.{some_then}
+use Rattle.match_run.proofs.LaterLaws.{some_then}
 use Rattle.match_run.proofs.whole_run.play_rounds.Goals as goal
 
 pub loop-more-init : goal.loop-more-init

@@ -2,7 +2,7 @@ use Rattle.std.proofs.Common.{◌≡◌, ◌*◌}
 use Rattle.ant_base.specs.Sink.{PushedAll}
 use Rattle.match_run.specs.Dumps.{chooses}
 use Rattle.match_run.specs.Game.{GoesOnFor, counted_on, now_of}
-use Rattle.match_run.specs.Rest.{later_dumps}
+use Rattle.match_run.specs.Later.{later_dumps}
 use Rattle.match_run.proofs.whole_run.play_rounds.Given as goal
 
 -- these rounds are played, and their dumps are pushed

@@ -1,0 +1,32 @@
+-- What follows of the promise where a command was broken off, and where a game was printed.
+use Rattle.std.proofs.Common.{◌≡◌, ℕ, ◌≤◌, true, List, length}
+use Rattle.ant_turn.specs.Rounds.{start_of}
+use Rattle.cell_world.specs.Grid.{world_of}
+use Rattle.command_words.specs.Command.{IsCommand, PlainAsked}
+use Rattle.command_words.specs.declared.table.CommandKind.TheVariants.{Run}
+use Rattle.match_run.specs.Counts.{counts_text, totals_of}
+use Rattle.tournament.specs.Games.{all_played}
+use Rattle.tournament.specs.Told.{games_text}
+use Rattle.ant_commands.specs.Files.{FileContent}
+use Rattle.ant_commands.specs.Headline.{KeepsPromise, PrintsTheGame}
+use Rattle.ant_commands.specs.Job.{WritesInPlay}
+use Rattle.ant_commands.specs.Jobs.{cup_job}
+use Rattle.ant_commands.specs.Outputs.{ReadCup, Tells, TellsFirstWorlds, minds_named, roster_contents, score_between}
+use Rattle.ant_commands.specs.Outside.{Outside}
+use Rattle.ant_commands.specs.Setups.{setup_of}
+
+-- a cup that tells its games has written the lines of its first worlds' games
+cup_in_play : (worlds brains : List (List ℕ)) (seed rounds workers : ℕ) (contents : List FileContent) (front : List ℕ) → WritesInPlay (cup_job worlds brains seed rounds workers true) contents front
+    → Tells roster_contents (TellsFirstWorlds worlds brains seed rounds) contents front
+cup_in_play worlds brains seed rounds workers contents front is = is
+
+-- which are no more than it has
+first_worlds_tell : (worlds names : List (List ℕ)) (seed rounds : ℕ) (cup : ReadCup) (text : List ℕ) → TellsFirstWorlds worlds names seed rounds cup text
+    → (told : ℕ) × (told ≤ length worlds) × (text ≡ games_text worlds names (all_played (length names) told (score_between cup.worlds cup.players seed rounds)) 1)
+first_worlds_tell worlds names seed rounds cup text is = (is.told, is.some, is.is)
+
+-- at status 0 a game was printed with its own counts
+counts_printed : (words : List (List ℕ)) (before after : Outside) (number : ℕ) → KeepsPromise words before after number → number ≡ 0 → (asked : PlainAsked) → IsCommand words asked → asked.kind ≡ Run
+    → (game : PrintsTheGame (asked.file 0) (asked.file 1) (asked.file 2) (setup_of asked) before after)
+    × (game.counts ≡ counts_text (setup_of asked).stats (totals_of (minds_named (setup_of asked) game.red_brain game.black_brain) (setup_of asked).seed (setup_of asked).window (start_of (world_of game.start)) (setup_of asked).rounds))
+counts_printed words before after number promise zero asked is run = let it = promise.game zero asked is run in (it.0, it.1.told)

@@ -1,0 +1,126 @@
+-- The files of a command, and what is accepted of them.
+use Rattle.std.specs.Prelude.{◌≡◌, ℕ, ◌<◌, ◌≤◌, Bool, true, false, List, [], ◌∷◌, ◌++◌, map, Ok, Err, ◌⊎◌}
+use Rattle.ant_asm.specs.Answers.{IsAssembledText}
+use Rattle.ant_asm.specs.Labels.{AreLabelsOf, LabelState}
+use Rattle.ant_asm.specs.Places.{Address}
+use Rattle.ant_asm.specs.Text.{IsAsmFault}
+use Rattle.ant_base.specs.Fetched.{Fetched}
+use Rattle.ant_base.specs.declared.shelf.FetchFault.TheVariants as answer
+use Rattle.brain_read.specs.declared.instr.Instr.{Instr}
+use Rattle.brain_read.specs.Grammar.{IsBrainText}
+use Rattle.brain_read.specs.Faulty.{IsBrainFault}
+use Rattle.break_view.specs.Grammar.{IsBreakText}
+use Rattle.break_view.specs.Faulty.{IsBreakFault}
+use Rattle.break_view.specs.declared.breaks.Break.{Break}
+use Rattle.cell_world.specs.Grid.{Grid}
+use Rattle.match_save.specs.Faulty.{IsSaveFault}
+use Rattle.match_save.specs.Saved.{IsSaveText, SavedValue}
+use Rattle.world_read.specs.Faulty.{IsWorldFault}
+use Rattle.world_read.specs.Opened.{OpensAs}
+use Rattle.ant_commands.specs.declared.stop.FileFault.{FileFault}
+use Rattle.ant_commands.specs.declared.stop.FileFault.TheVariants.{TooLong, World, Brain, Breaks, Labelled, Save, AlreadyAt}
+
+-- what a file is read as; of a labelled program the brain is wanted, or else its labels; a save is one of which at most so many rounds are done
+pub data FileKind : Type 0 where
+  WorldFile : FileKind
+  BrainFile : FileKind
+  BreakFile : FileKind
+  LabelledFile : (labels : Bool) → FileKind
+  SaveFile : (rounds : ℕ) → FileKind
+
+-- a file that a command names
+pub record File : Type 0 where
+  pub name : List ℕ
+  pub kind : FileKind
+
+-- what was read of a file
+pub data FileContent : Type 0 where
+  WorldContent : Grid → FileContent
+  BrainContent : List Instr → FileContent
+  BreakContent : List Break → FileContent
+  -- of a labelled program: its brain, and the address of each of the brain's instructions
+  LabelledContent : (brain : List Instr) → (places : List Address) → FileContent
+  -- or its labels, each with the state to which it leads
+  LabelsContent : List LabelState → FileContent
+  SaveContent : SavedValue → FileContent
+
+-- bytes are read as this content in a file of this kind
+abbrev pub Reads : FileKind → List ℕ → FileContent → Type 0
+Reads WorldFile bytes (WorldContent grid) = OpensAs bytes grid
+Reads BrainFile bytes (BrainContent list) = IsBrainText bytes list
+Reads BreakFile bytes (BreakContent items) = IsBreakText bytes items
+Reads (LabelledFile false) bytes (LabelledContent brain places) = IsAssembledText bytes brain places
+Reads (LabelledFile true) bytes (LabelsContent labels) = AreLabelsOf bytes labels
+Reads (SaveFile rounds) bytes (SaveContent saved) = IsSaveText bytes saved × (saved.round ≤ rounds)
+Reads kind bytes content = ⊥
+
+-- bytes are those of a save of which this many rounds are done, and they are too many
+pub record IsPast (bytes : List ℕ) (rounds round : ℕ) : Type 0 where
+  pub saved : SavedValue
+  pub is : IsSaveText bytes saved
+  pub at : saved.round ≡ round
+  pub past : rounds < round
+
+-- bytes have this fault in a file of this kind
+abbrev pub Refuses : FileKind → List ℕ → FileFault → Type 0
+Refuses WorldFile bytes (World fault) = IsWorldFault bytes fault
+Refuses BrainFile bytes (Brain fault) = IsBrainFault bytes fault
+Refuses BreakFile bytes (Breaks fault) = IsBreakFault bytes fault
+Refuses (LabelledFile labels) bytes (Labelled fault) = IsAsmFault bytes fault
+Refuses (SaveFile rounds) bytes (Save fault) = IsSaveFault bytes fault
+Refuses (SaveFile rounds) bytes (AlreadyAt round) = IsPast bytes rounds round
+Refuses kind bytes fault = ⊥
+
+-- the file was fetched, and its bytes are read as this content
+pub record IsAccepted (file : File) (fetch : Fetched) (content : FileContent) : Type 0 where
+  pub bytes : List ℕ
+  pub got : fetch ≡ record { name = file.name; answer = Ok bytes }
+  pub reads : Reads file.kind bytes content
+
+-- the file was fetched, and its bytes are not in its grammar, with this fault
+pub record IsNoText (file : File) (fetch : Fetched) (fault : FileFault) : Type 0 where
+  pub bytes : List ℕ
+  pub got : fetch ≡ record { name = file.name; answer = Ok bytes }
+  pub refuses : Refuses file.kind bytes fault
+
+-- the file was fetched, and is refused with this fault
+abbrev pub IsRefused : File → Fetched → FileFault → Type 0
+IsRefused file fetch TooLong = fetch ≡ record { name = file.name; answer = Err answer.TooLong }
+IsRefused file fetch (World fault) = IsNoText file fetch (World fault)
+IsRefused file fetch (Brain fault) = IsNoText file fetch (Brain fault)
+IsRefused file fetch (Breaks fault) = IsNoText file fetch (Breaks fault)
+IsRefused file fetch (Labelled fault) = IsNoText file fetch (Labelled fault)
+IsRefused file fetch (Save fault) = IsNoText file fetch (Save fault)
+IsRefused file fetch (AlreadyAt round) = IsNoText file fetch (AlreadyAt round)
+
+-- the files were fetched, each once and in order, and accepted as these contents
+abbrev pub AreAccepted : List File → List Fetched → List FileContent → Type 0
+AreAccepted [] fetches contents = (fetches ≡ []) × (contents ≡ [])
+AreAccepted (file ∷ files) [] contents = ⊥
+AreAccepted (file ∷ files) (fetch ∷ fetches) [] = ⊥
+AreAccepted (file ∷ files) (fetch ∷ fetches) (content ∷ contents) = IsAccepted file fetch content × AreAccepted files fetches contents
+
+-- the files were fetched, each once and in order, up to one at which this came about; each before it was accepted, and none after it was fetched
+abbrev pub StopsAt : (File → Fetched → Type 0) → List File → List Fetched → Type 0
+StopsAt IsSuch [] fetches = ⊥
+StopsAt IsSuch (file ∷ files) [] = ⊥
+StopsAt IsSuch (file ∷ files) (fetch ∷ fetches) =
+    (IsSuch file fetch × (fetches ≡ [])) ⊎ ((content : FileContent) × IsAccepted file fetch content × StopsAt IsSuch files fetches)
+
+-- the file was fetched: its bytes came, or memory could not be had for them
+abbrev pub IsFetched : File → Fetched → Type 0
+IsFetched file fetch =
+    ((bytes : List ℕ) × (fetch ≡ record { name = file.name; answer = Ok bytes }))
+    ⊎ (fetch ≡ record { name = file.name; answer = Err answer.OutOfMemory })
+
+-- the first of the files were fetched, each once and in order: each but perhaps the last was accepted, and none failed or was too long
+abbrev pub AreBegun : List File → List Fetched → Type 0
+AreBegun [] fetches = fetches ≡ []
+AreBegun (file ∷ files) [] = Unit {0}
+AreBegun (file ∷ files) (fetch ∷ fetches) =
+    (IsFetched file fetch × (fetches ≡ [])) ⊎ ((content : FileContent) × IsAccepted file fetch content × AreBegun files fetches)
+
+-- the names that were fetched are those of the first of these files, in order and each once
+pub record AreInOrder (files : List File) (fetches : List Fetched) : Type 0 where
+  pub left : List (List ℕ)
+  pub in_order : map (λ (file : File). file.name) files ≡ map (λ (fetch : Fetched). fetch.name) fetches ++ left

@@ -1,0 +1,39 @@
+-- What the private functions that play a cup ensure.
+use Rattle.std.specs.Prelude.{◌≡◌, ℕ, ◌<◌, ◌≤◌, List, length, map, slice_index_or}
+use Rattle.std.specs.List.{AllByRecursion}
+use Rattle.ant_turn.specs.Minds.{Fits}
+use Rattle.brain_read.specs.declared.instr.Instr.{Instr}
+use Rattle.cell_world.specs.Grid.{Grid, world_of}
+use Rattle.cell_world.specs.Opening.{opening}
+use Rattle.cell_world.specs.declared.kind.Kind.{Kind}
+use Rattle.command_words.specs.Table.{fewest_names, most_names}
+use Rattle.command_words.specs.declared.table.NameList.TheVariants.{Brains, Worlds}
+use Rattle.match_run.specs.Run.{most_rounds}
+use Rattle.ant_commands.specs.Files.{File, FileKind}
+use Rattle.ant_commands.specs.Outputs.{minds_between, nowhere}
+
+-- the files of these names, of one kind
+abbrev pub files_named : FileKind → List (List ℕ) → List File
+files_named kind names = map (λ (name : List ℕ). record { name = name; kind = kind }) names
+
+-- a world at the start of a game
+pub record Opens (world : Grid) : Type 0 where
+  pub kinds : List Kind
+  pub opened : world ≡ opening world.width world.height kinds
+
+-- the worlds and the players of a cup: as many as a cup may have, worlds at the start of a game, and brains with a state at least
+pub record AreReady (worlds : List Grid) (players : List (List Instr)) : Type 0 where
+  pub some_worlds : fewest_names Worlds ≤ length worlds
+  pub few_worlds : length worlds ≤ most_names
+  pub some_players : fewest_names Brains ≤ length players
+  pub few_players : length players ≤ most_names
+  pub opened : AllByRecursion Opens worlds
+  pub sound : AllByRecursion (λ (player : List Instr). 1 ≤ length player) players
+
+-- a game that can be played: its world and its players are there, and fit
+pub record CanBePlayed (worlds : List Grid) (players : List (List Instr)) (rounds world red black : ℕ) : Type 0 where
+  pub world_there : world < length worlds
+  pub red_there : red < length players
+  pub black_there : black < length players
+  pub fit : Fits (world_of (slice_index_or worlds world nowhere)) (minds_between players red black)
+  pub few_rounds : rounds ≤ most_rounds

@@ -1,0 +1,290 @@
+-- What each command reads and writes: one equation a command.
+use Rattle.std.specs.Prelude.{◌≡◌, ℕ, ◌≤◌, Bool, true, false, List, [], ◌∷◌, ◌++◌, length, map, slice_index_or, codes, decimal, Option}
+use Rattle.ant_base.specs.Layout.{◌+++◌}
+use Rattle.ant_trace.specs.Trace.{trace_text}
+use Rattle.ant_turn.specs.Minds.{Minds, contest_minds}
+use Rattle.ant_turn.specs.Rounds.{start_of}
+use Rattle.ant_turn.specs.Sheet.{Sheet}
+use Rattle.brain_minimise.specs.Minimised.{IsMinimised}
+use Rattle.brain_minimise.specs.Text.{minimised_text, states_text}
+use Rattle.brain_read.specs.declared.instr.Instr.{Instr}
+use Rattle.brain_read.specs.Canonical.{brain_text}
+use Rattle.ant_asm.specs.Labels.{LabelState, labels_text}
+use Rattle.ant_asm.specs.Places.{Address}
+use Rattle.brain_same.specs.Difference.{IsComparison}
+use Rattle.brain_same.specs.Text.{comparison_text}
+use Rattle.brain_same.specs.declared.comparison.Comparison.{Comparison}
+use Rattle.break_view.specs.Texts.{IsViewText}
+use Rattle.break_view.specs.declared.breaks.Break.{Break}
+use Rattle.cell_world.specs.Grid.{Grid, world_of}
+use Rattle.cell_world.specs.Score.{alive_of, score_of}
+use Rattle.cell_world.specs.World.{World}
+use Rattle.cell_world.specs.declared.ant.Colour.TheVariants.{Red, Black}
+use Rattle.cell_world.specs.declared.score.Score.{Score}
+use Rattle.ant_commands.specs.declared.commands.setups.GenShape.{GenShape}
+use Rattle.command_words.specs.Slots.{DumpChoice}
+use Rattle.command_words.specs.Table.{default_of}
+use Rattle.command_words.specs.declared.table.Choice.TheVariants.{Blobs, Height, Rocks, Width, Window}
+use Rattle.command_words.specs.Slots.DumpChoice.{NoDump, EveryDump, ChosenDumps}
+use Rattle.match_run.specs.Counts.{totals_of, whole_text}
+use Rattle.match_run.specs.Dumps.{has_round}
+use Rattle.match_run.specs.Run.{world_after}
+use Rattle.match_save.specs.Resumed.{resumed_text}
+use Rattle.match_save.specs.Saved.{SavedValue, save_text}
+use Rattle.match_save.specs.Saves.{saved_after}
+use Rattle.dump_print.specs.Texts.{seed_text, dump_text, score_text, stats_text}
+use Rattle.ant_commands.specs.Setups.{ResumeSetup, RunSetup, TraceSetup}
+use Rattle.tournament.specs.Games.{all_played}
+use Rattle.tournament.specs.Text.{IsCupText}
+use Rattle.tournament.specs.Told.{IsToldCupText, games_text}
+use Rattle.world_gen.specs.declared.shape.Shape.{Shape}
+use Rattle.world_gen.specs.Food.{food_on}
+use Rattle.world_gen.specs.Generated.{IsGenerated}
+use Rattle.world_read.specs.Canonical.{canonical_text}
+use Rattle.world_read.specs.Opened.{kinds_of}
+use Rattle.ant_commands.specs.declared.commands.workload.Summary.{Summary}
+use Rattle.ant_commands.specs.Files.{File, FileContent}
+use Rattle.ant_commands.specs.Files.FileKind.{WorldFile, BrainFile, BreakFile, LabelledFile, SaveFile}
+use Rattle.ant_commands.specs.Files.FileContent.{WorldContent, BrainContent, BreakContent, LabelledContent, LabelsContent, SaveContent}
+use Rattle.ant_commands.specs.Sample.{sample_brain}
+
+-- a file with a world, one with a brain, and one with breaks
+abbrev pub world_file : List ℕ → File
+world_file name = record { name = name; kind = WorldFile }
+
+abbrev pub brain_file : List ℕ → File
+brain_file name = record { name = name; kind = BrainFile }
+
+abbrev pub break_file : List ℕ → File
+break_file name = record { name = name; kind = BreakFile }
+
+-- a file with a labelled program, of which the brain is wanted, or else its labels
+abbrev pub labelled_file : Bool → List ℕ → File
+labelled_file labels name = record { name = name; kind = LabelledFile labels }
+
+-- a file with a save of which at most so many rounds are done
+abbrev pub save_file : List ℕ → ℕ → File
+save_file name rounds = record { name = name; kind = SaveFile rounds }
+
+-- the files of a game
+abbrev pub game_files : List ℕ → List ℕ → List ℕ → List File
+game_files world red black = world_file world ∷ brain_file red ∷ brain_file black ∷ []
+
+-- the files of a cup: its worlds, and then its brains; a name that stands twice is fetched twice
+abbrev pub cup_files : List (List ℕ) → List (List ℕ) → List File
+cup_files worlds brains = map world_file worlds ++ map brain_file brains
+
+-- what was read of the files of a game
+pub record ReadGame : Type 0 where
+  pub world : Grid
+  pub red : List Instr
+  pub black : List Instr
+
+-- of a game and its breaks
+pub record ReadView : Type 0 where
+  pub game : ReadGame
+  pub breaks : List Break
+
+-- of a cup
+pub record ReadCup : Type 0 where
+  pub worlds : List Grid
+  pub players : List (List Instr)
+
+-- of two brains
+pub record ReadPair : Type 0 where
+  pub first : List Instr
+  pub second : List Instr
+
+-- of a labelled program
+pub record ReadProgram : Type 0 where
+  pub brain : List Instr
+  pub places : List Address
+
+-- the contents of no file, of one, and of several
+abbrev pub no_contents : Unit {0} → List FileContent
+no_contents nothing = []
+
+abbrev pub world_contents : Grid → List FileContent
+world_contents grid = WorldContent grid ∷ []
+
+abbrev pub brain_contents : List Instr → List FileContent
+brain_contents list = BrainContent list ∷ []
+
+abbrev pub pair_contents : ReadPair → List FileContent
+pair_contents pair = BrainContent pair.first ∷ BrainContent pair.second ∷ []
+
+abbrev pub program_contents : ReadProgram → List FileContent
+program_contents program = LabelledContent program.brain program.places ∷ []
+
+abbrev pub labels_contents : List LabelState → List FileContent
+labels_contents labels = LabelsContent labels ∷ []
+
+abbrev pub save_contents : SavedValue → List FileContent
+save_contents saved = SaveContent saved ∷ []
+
+abbrev pub game_contents : ReadGame → List FileContent
+game_contents game = WorldContent game.world ∷ BrainContent game.red ∷ BrainContent game.black ∷ []
+
+abbrev pub view_contents : ReadView → List FileContent
+view_contents view = game_contents view.game ++ BreakContent view.breaks ∷ []
+
+abbrev pub cup_contents : List Grid → List (List Instr) → List FileContent
+cup_contents worlds players = map WorldContent worlds ++ map BrainContent players
+
+abbrev pub roster_contents : ReadCup → List FileContent
+roster_contents cup = cup_contents cup.worlds cup.players
+
+-- these contents are those of some value, of which this text tells
+pub record Tells {A : Type 0} (contents_of : A → List FileContent) (IsText : A → List ℕ → Type 0) (contents : List FileContent) (text : List ℕ) : Type 0 where
+  pub value : A
+  pub read : contents ≡ contents_of value
+  pub told : IsText value text
+
+-- the text is that of the value
+abbrev pub is_text_of : {A : Type 0} → (A → List ℕ) → A → List ℕ → Type 0
+is_text_of text_of value text = text ≡ text_of value
+
+-- the output of `show`: the line of the seed, and the dump after round 0
+unfoldable pub show_output : ℕ → Grid → List ℕ
+show_output seed grid = seed_text seed +++ dump_text (world_of grid) 0
+
+-- whether the words of a command choose a round: none, every one, or those of a list
+abbrev pub chosen_rounds : DumpChoice → ℕ → Bool
+chosen_rounds NoDump round = false
+chosen_rounds EveryDump round = true
+chosen_rounds (ChosenDumps numbers) round = has_round numbers round
+
+-- the numbers of the rules that the words of a game name
+abbrev pub sheet_named : RunSetup → Sheet
+sheet_named setup = record { surround = setup.surround; corpse = setup.corpse; rest = setup.rest }
+
+-- the numbers of the rules that the words of a trace name
+abbrev pub traced_sheet : TraceSetup → Sheet
+traced_sheet setup = record { surround = setup.surround; corpse = setup.corpse; rest = setup.rest }
+
+-- both brains of a game, and the numbers of its rules
+abbrev pub minds_named : RunSetup → List Instr → List Instr → Minds
+minds_named setup red black = record { red = red; black = black; sheet = sheet_named setup }
+
+-- the output of `run`: the line of the seed, the chosen dumps, the score, and the counts where they are asked for
+unfoldable pub match_output : RunSetup → ReadGame → List ℕ
+match_output setup game =
+    whole_text (minds_named setup game.red game.black) setup.seed setup.rounds (chosen_rounds setup.dumps) setup.window setup.stats (world_of game.world)
+
+-- the output of `save`: the save of the game after its rounds
+unfoldable pub save_output : RunSetup → ReadGame → List ℕ
+save_output setup game = save_text (saved_after (minds_named setup game.red game.black) setup.seed setup.window (world_of game.world) setup.rounds)
+
+-- the output of `resume`: the rest of a saved game's text
+unfoldable pub resume_output : ResumeSetup → SavedValue → List ℕ
+resume_output setup saved = resumed_text saved setup.rounds (chosen_rounds setup.dumps) setup.stats
+
+-- the output of `trace`: the line of the seed, and the lines of one ant in the rounds from the first that is told to the last
+unfoldable pub trace_output : ℕ → TraceSetup → ReadGame → List ℕ
+trace_output id setup game =
+    trace_text (record { red = game.red; black = game.black; sheet = traced_sheet setup }) setup.seed (world_of game.world) setup.rounds id setup.from
+
+-- the output of `same`: what the two brains come to
+pub record TellsSame (pair : ReadPair) (text : List ℕ) : Type 0 where
+  pub comparison : Comparison
+  pub is : IsComparison pair.first pair.second comparison
+  pub told : text ≡ comparison_text comparison
+
+-- what `minimise` tells: the brain after a line of comment, or else what became of each old state
+abbrev pub minimise_output : Bool → List Instr → List Instr → List (Option ℕ) → List ℕ
+minimise_output false old new numbers = minimised_text old new
+minimise_output true old new numbers = states_text numbers
+
+-- the output of `minimise`: what is told of this brain, minimised
+pub record TellsMinimised (states : Bool) (old : List Instr) (text : List ℕ) : Type 0 where
+  pub new : List Instr
+  pub numbers : List (Option ℕ)
+  pub minimised : IsMinimised old new numbers
+  pub told : text ≡ minimise_output states old new numbers
+
+-- the output of `view`: the view of the game, by the contest's rules, with these breaks
+abbrev pub IsViewOutput : ℕ → ℕ → ReadView → List ℕ → Type 0
+IsViewOutput seed rounds view text = IsViewText (contest_minds view.game.red view.game.black) seed rounds (world_of view.game.world) view.breaks text
+
+-- no cells, for places past the end of a list
+abbrev pub nowhere : Grid
+nowhere = record { width = 0; height = 0; ids = 0; cells = [] }
+
+-- the minds of a game by the contest's rules between two players of a list, the red one first; players are counted from 0
+abbrev pub minds_between : List (List Instr) → ℕ → ℕ → Minds
+minds_between players red black = contest_minds (slice_index_or players red []) (slice_index_or players black [])
+
+-- the score of a game of so many rounds on a world of a list, counted from 0, between two players
+unfoldable pub score_between : List Grid → List (List Instr) → ℕ → ℕ → ℕ → ℕ → ℕ → Score
+score_between worlds players seed rounds world red black =
+    score_of (world_after (minds_between players red black) seed (world_of (slice_index_or worlds world nowhere)) rounds)
+
+-- the output of `cup`: that of all games between the players, on all worlds, with this seed and so many rounds each; the standing alone, or
+-- the lines of the games before it
+abbrev pub IsCupOutput : Bool → List (List ℕ) → List (List ℕ) → ℕ → ℕ → ReadCup → List ℕ → Type 0
+IsCupOutput false worlds names seed rounds cup text = IsCupText names (length cup.players) (length cup.worlds) (score_between cup.worlds cup.players seed rounds) text
+IsCupOutput true worlds names seed rounds cup text = IsToldCupText worlds names (score_between cup.worlds cup.players seed rounds) text
+
+-- the lines of all games on the first worlds of such a cup, on none or on all
+pub record TellsFirstWorlds (worlds names : List (List ℕ)) (seed rounds : ℕ) (cup : ReadCup) (text : List ℕ) : Type 0 where
+  pub told : ℕ
+  pub some : told ≤ length worlds
+  pub is : text ≡ games_text worlds names (all_played (length names) told (score_between cup.worlds cup.players seed rounds)) 1
+
+-- the shape that the words of `gen` name
+abbrev pub shape_named : GenShape → Shape
+shape_named shape = record { width = shape.width; height = shape.height; rocks = shape.rocks; blobs = shape.blobs }
+
+-- the output of `gen`: the canonical text of the world of this seed and shape
+pub record TellsGenerated (seed : ℕ) (shape : Shape) (text : List ℕ) : Type 0 where
+  pub world : Grid
+  pub generated : IsGenerated seed shape world
+  pub told : text ≡ canonical_text world.width world.height (kinds_of world)
+
+-- the shape of a world of the contest: what `gen` makes without options
+abbrev pub contest_shape : Shape
+contest_shape = record { width = default_of Width; height = default_of Height; rocks = default_of Rocks; blobs = default_of Blobs }
+
+-- the task's sample brain on both sides, by the contest's rules
+abbrev pub sample_minds : Minds
+sample_minds = contest_minds sample_brain sample_brain
+
+-- what a workload tells of its game: how many ants there are, and the food on all cells at the start; how many are alive, the score and what
+-- came of the turns after so many rounds, which are played in windows of the default size
+unfoldable pub summary_of : ℕ → ℕ → World → Summary
+summary_of seed rounds w = record {
+  ants = w.ids;
+  food = food_on w;
+  red = alive_of (world_after sample_minds seed w rounds) Red;
+  black = alive_of (world_after sample_minds seed w rounds) Black;
+  score = score_of (world_after sample_minds seed w rounds);
+  totals = totals_of sample_minds seed (default_of Window) (start_of w) rounds;
+}
+
+-- the first four lines of a workload, the last without its end
+unfoldable pub summary_lines : ℕ → ℕ → Summary → List ℕ
+summary_lines seed rounds summary =
+    codes "workload seed " +++ decimal seed +++ codes " rounds " +++ decimal rounds
+    +++ codes "\nants " +++ decimal summary.ants
+    +++ codes "\nfood " +++ decimal summary.food
+    +++ codes "\nalive red " +++ decimal summary.red +++ codes " black " +++ decimal summary.black
+
+-- the six lines of a workload; the text of a score begins with the end of the line before it
+unfoldable pub workload_text : ℕ → ℕ → Summary → List ℕ
+workload_text seed rounds summary = summary_lines seed rounds summary +++ score_text summary.score +++ stats_text summary.totals
+
+-- the output of `workload`: what is told of a game on the world of this seed and the contest's shape; no number of workers stands in it
+pub record TellsWorkload (seed rounds : ℕ) (text : List ℕ) : Type 0 where
+  pub world : Grid
+  pub generated : IsGenerated seed contest_shape world
+  pub told : text ≡ workload_text seed rounds (summary_of seed rounds (world_of world))
+
+-- the output of `asm`: the brain, or what the labels lead to
+abbrev pub IsAsmOutput : Bool → List FileContent → List ℕ → Type 0
+IsAsmOutput false = Tells program_contents (is_text_of (λ program. brain_text program.brain))
+IsAsmOutput true = Tells labels_contents (is_text_of labels_text)
+
+-- what a `cup` has written that tells its games: the lines of all games on its first worlds
+abbrev pub CupInPlay : Bool → List (List ℕ) → List (List ℕ) → ℕ → ℕ → List FileContent → List ℕ → Type 0
+CupInPlay false worlds brains seed rounds contents front = ⊥
+CupInPlay true worlds brains seed rounds contents front = Tells roster_contents (TellsFirstWorlds worlds brains seed rounds) contents front

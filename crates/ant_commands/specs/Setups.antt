@@ -1,0 +1,150 @@
+-- What the options of a command say, as its own record, and the limits of its numbers.
+use Rattle.std.specs.Prelude.{ℕ, Bool, false, List}
+use Rattle.command_words.specs.Command.{AreWithin, PlainAsked}
+use Rattle.command_words.specs.Limits.{IsWithin}
+use Rattle.command_words.specs.Slots.{AreNames, DumpChoice}
+use Rattle.command_words.specs.Slots.DumpChoice.{NoDump}
+use Rattle.command_words.specs.Words.{plain_dumps}
+use Rattle.command_words.specs.declared.limits.NumberKind.TheVariants.{SeedNumber, RoundCount, WorkerCount, WindowSize, FoeCount, CorpseFood, RestRounds, SideLength, ElementCount}
+use Rattle.command_words.specs.declared.table.Choice.TheVariants.{Seed, Rounds, Workers, Window, Surround, Corpse, Rest, Stats, Far, Width, Height, Rocks, Blobs, From}
+use Rattle.command_words.specs.declared.table.NameList.TheVariants.{Worlds, Brains}
+use Rattle.ant_commands.specs.declared.commands.setups.GenShape.{GenShape}
+use Rattle.ant_commands.specs.declared.commands.setups.ResumeOptions.{ResumeOptions}
+use Rattle.ant_commands.specs.declared.commands.setups.RunOptions.{RunOptions}
+use Rattle.ant_commands.specs.declared.commands.setups.TracedGame.{TracedGame}
+
+-- what the options of `run` say
+pub record RunSetup : Type 0 where
+  pub seed : ℕ
+  pub rounds : ℕ
+  pub dumps : DumpChoice
+  pub workers : ℕ
+  pub window : ℕ
+  pub surround : ℕ
+  pub corpse : ℕ
+  pub rest : ℕ
+  pub stats : Bool
+  pub far : Bool
+
+-- what the options of `resume` say
+pub record ResumeSetup : Type 0 where
+  pub rounds : ℕ
+  pub dumps : DumpChoice
+  pub workers : ℕ
+  pub stats : Bool
+
+-- what the options of `trace` say
+pub record TraceSetup : Type 0 where
+  pub seed : ℕ
+  pub rounds : ℕ
+  pub from : ℕ
+  pub surround : ℕ
+  pub corpse : ℕ
+  pub rest : ℕ
+
+-- what a command line of `run` says
+abbrev pub setup_of : PlainAsked → RunSetup
+setup_of asked = record {
+  seed = asked.option Seed;
+  rounds = asked.option Rounds;
+  dumps = asked.dumps;
+  workers = asked.option Workers;
+  window = asked.option Window;
+  surround = asked.option Surround;
+  corpse = asked.option Corpse;
+  rest = asked.option Rest;
+  stats = asked.has Stats;
+  far = asked.has Far;
+}
+
+-- what one of `save` says: a game without dumps and counts
+abbrev pub save_setup_of : PlainAsked → RunSetup
+save_setup_of asked = record (setup_of asked) { dumps = NoDump; stats = false; far = false }
+
+-- what one of `resume`, of `trace` or of `gen` says
+abbrev pub resume_of : PlainAsked → ResumeSetup
+resume_of asked = record { rounds = asked.option Rounds; dumps = asked.dumps; workers = asked.option Workers; stats = asked.has Stats }
+
+abbrev pub trace_of : PlainAsked → TraceSetup
+trace_of asked = record {
+  seed = asked.option Seed;
+  rounds = asked.option Rounds;
+  from = asked.option From;
+  surround = asked.option Surround;
+  corpse = asked.option Corpse;
+  rest = asked.option Rest;
+}
+
+abbrev pub shape_of : PlainAsked → GenShape
+shape_of asked = record { width = asked.option Width; height = asked.option Height; rocks = asked.option Rocks; blobs = asked.option Blobs }
+
+-- the numbers of a game are within the limits
+pub record SetupWithin (setup : RunSetup) : Type 0 where
+  pub seed : IsWithin SeedNumber setup.seed
+  pub rounds : IsWithin RoundCount setup.rounds
+  pub dumps : AreWithin setup.dumps
+  pub workers : IsWithin WorkerCount setup.workers
+  pub window : IsWithin WindowSize setup.window
+  pub surround : IsWithin FoeCount setup.surround
+  pub corpse : IsWithin CorpseFood setup.corpse
+  pub rest : IsWithin RestRounds setup.rest
+
+-- the numbers of a game that goes on are within the limits
+pub record ResumeWithin (setup : ResumeSetup) : Type 0 where
+  pub rounds : IsWithin RoundCount setup.rounds
+  pub dumps : AreWithin setup.dumps
+  pub workers : IsWithin WorkerCount setup.workers
+
+-- the numbers of a generated world are within the limits
+pub record ShapeWithin (shape : GenShape) : Type 0 where
+  pub width : IsWithin SideLength shape.width
+  pub height : IsWithin SideLength shape.height
+  pub rocks : IsWithin ElementCount shape.rocks
+  pub blobs : IsWithin ElementCount shape.blobs
+
+-- the names and the numbers of a cup are within the limits
+pub record CupWithin (worlds brains : List (List ℕ)) (seed rounds workers : ℕ) : Type 0 where
+  pub world_names : AreNames Worlds worlds
+  pub brain_names : AreNames Brains brains
+  pub seed_within : IsWithin SeedNumber seed
+  pub rounds_within : IsWithin RoundCount rounds
+  pub workers_within : IsWithin WorkerCount workers
+
+-- the numbers of a game whose ant is followed are within the limits
+pub record TraceWithin (setup : TraceSetup) : Type 0 where
+  pub seed : IsWithin SeedNumber setup.seed
+  pub rounds : IsWithin RoundCount setup.rounds
+  pub from : IsWithin RoundCount setup.from
+  pub surround : IsWithin FoeCount setup.surround
+  pub corpse : IsWithin CorpseFood setup.corpse
+  pub rest : IsWithin RestRounds setup.rest
+
+-- the options of `run` that were read
+abbrev pub plain_setup : RunOptions → RunSetup
+plain_setup options = record {
+  seed = options.seed;
+  rounds = options.rounds;
+  dumps = plain_dumps options.dumps;
+  workers = options.workers;
+  window = options.window;
+  surround = options.surround;
+  corpse = options.corpse;
+  rest = options.rest;
+  stats = options.stats;
+  far = options.far;
+}
+
+-- the options of `resume` that were read
+abbrev pub plain_resume : ResumeOptions → ResumeSetup
+plain_resume options = record { rounds = options.rounds; dumps = plain_dumps options.dumps; workers = options.workers; stats = options.stats }
+
+-- the options of `trace` that were read
+abbrev pub plain_trace : TracedGame → TraceSetup
+plain_trace game = record {
+  seed = game.seed;
+  rounds = game.rounds;
+  from = game.from;
+  surround = game.surround;
+  corpse = game.corpse;
+  rest = game.rest;
+}

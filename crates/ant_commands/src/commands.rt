@@ -1,0 +1,116 @@
+// The commands: each reads what it asks for, carries it out and writes its text.
+ghost use Rattle.std.specs.Prelude.{◌≡◌};
+ghost use Rattle.command_words.specs.Command.{AskedWithin, plain};
+ghost use Rattle.command_words.specs.Limits.{IsWithin};
+ghost use Rattle.command_words.specs.declared.limits.NumberKind.TheVariants.{WorkerCount};
+ghost use Rattle.ant_commands.specs.Inner.Reading.{CarriesOut, ending_of};
+ghost use Rattle.ant_commands.specs.Job.{workers_named};
+ghost use Rattle.ant_commands.specs.Jobs.{job_of};
+
+mod asm;
+mod brain;
+mod cup;
+pub mod far;
+mod generate;
+mod help;
+mod minimise;
+mod played;
+mod resume;
+mod run;
+mod same;
+mod sample;
+mod save;
+pub mod setups;
+mod show;
+mod trace;
+mod view;
+mod workload;
+
+use crate::commands::asm::asm;
+use crate::commands::brain::brain;
+use crate::commands::cup::cup;
+use crate::commands::generate::gen_world;
+use crate::commands::help::{help, version};
+use crate::commands::minimise::minimise;
+use crate::commands::resume::resume;
+use crate::commands::run::run;
+use crate::commands::same::same;
+use crate::commands::save::save;
+use crate::commands::setups::{
+    AskedGame, CupEntry, GenShape, ResumeOptions, TracedGame, ViewedGame,
+};
+use crate::commands::show::show;
+use crate::commands::trace::trace;
+use crate::commands::view::view;
+use crate::commands::workload::workload;
+use crate::stop::CommandStop;
+use ant_base::{Shelf, Sink};
+use command_words::{Asked, Choice, CommandKind};
+use round_book::Crew;
+use std::alloc::Global;
+use std::thread::Threads;
+
+/// Hands a command line to its command's own function, with a crew, if it plays in windows.
+pub fn dispatch<'w, R: Threads + Sync, C: Crew, S: Shelf, K: Sink>(
+    rt: &R,
+    alloc: Global,
+    crew: &mut C,
+    asked: Asked<'w>,
+    shelf: &mut S,
+    out: &mut K,
+) -> Result<(), CommandStop<'w>>
+    requires ready { C.ready crew.old }
+    requires within { AskedWithin (plain asked) }
+    ensures { CarriesOut (job_of (plain asked.entry)) (S.state shelf.old) (S.state shelf.new) (K.state out.old) (K.state out.new) (ending_of result) }
+{
+    match asked.kind {
+        CommandKind::Show => show(alloc, asked.file(0), asked.number(1), shelf, out),
+        CommandKind::Brain => brain(alloc, asked.file(0), shelf, out),
+        CommandKind::Minimise => minimise(
+            alloc,
+            asked.file(0),
+            asked.has(Choice::States),
+            shelf,
+            out,
+        ),
+        CommandKind::Run => run(alloc, crew, AskedGame::of_run(asked), shelf, out),
+        CommandKind::Gen => gen_world(alloc, asked.number(0), GenShape::of(asked), shelf, out),
+        CommandKind::Cup => cup(rt, alloc, CupEntry::of(asked), shelf, out),
+        CommandKind::View => view(alloc, ViewedGame::of(asked), shelf, out),
+        CommandKind::Workload => workload(
+            alloc,
+            crew,
+            asked.number(0),
+            asked.number(1),
+            shelf,
+            out,
+        ),
+        CommandKind::Help | CommandKind::HelpWord => help(shelf, out),
+        CommandKind::Version => version(shelf, out),
+        CommandKind::Asm => asm(alloc, asked.file(0), asked.has(Choice::Labels), shelf, out),
+        CommandKind::Save => save(alloc, crew, AskedGame::of_save(asked), shelf, out),
+        CommandKind::Resume => resume(
+            alloc,
+            crew,
+            asked.file(0),
+            ResumeOptions::of(asked),
+            shelf,
+            out,
+        ),
+        CommandKind::Trace => trace(alloc, TracedGame::of(asked), shelf, out),
+        CommandKind::Same => same(alloc, asked.file(0), asked.file(1), shelf, out),
+    }
+}
+
+/// How many workers a command line names for its windows; one where it plays none.
+pub fn workers_in(asked: Asked<'_>) -> u32
+    requires { AskedWithin (plain asked) }
+    ensures named { result ≡ workers_named (job_of (plain asked.entry)) }
+    ensures within { IsWithin WorkerCount result }
+{
+    match asked.kind {
+        CommandKind::Run | CommandKind::Save | CommandKind::Resume => asked.option(Choice::Workers),
+        CommandKind::Workload => asked.number(2),
+        _ => 1,
+    }
+}

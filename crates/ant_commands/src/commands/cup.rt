@@ -1,0 +1,162 @@
+// The command `cup`.
+ghost use Rattle.std.specs.Prelude.{◌≡◌, ◌≤◌, length, IfOk};
+ghost use Rattle.ant_commands.specs.Jobs.{cup_job};
+ghost use Rattle.ant_commands.specs.Setups.{CupWithin};
+ghost use Rattle.command_words.specs.Limits.{IsWithin};
+ghost use Rattle.command_words.specs.Words.{texts};
+ghost use Rattle.command_words.specs.declared.limits.NumberKind.TheVariants.{WorkerCount};
+ghost use Rattle.command_words.specs.Slots.{AllDiffer};
+ghost use Rattle.match_run.specs.Run.{most_rounds};
+ghost use Rattle.tournament.specs.Standing.{IsStandingOf};
+ghost use Rattle.tournament.specs.Told.{Told};
+ghost use Rattle.ant_commands.specs.Inner.Cups.{AreReady, CanBePlayed};
+ghost use Rattle.ant_commands.specs.Inner.Reading.{CarriesOut, ReadsFiles, ending_of, outcome_of};
+ghost use Rattle.ant_commands.specs.Outputs.{cup_contents, cup_files, score_between};
+
+use crate::commands::setups::CupEntry;
+use crate::files::read_files;
+use crate::stop::{CommandStop, after_cup, after_push};
+use ant_base::{Shelf, Sink};
+use ant_turn::{Brains, Sheet};
+use brain_read::Brain;
+use cell_world::{Score, World};
+use match_run::{OutOfMemory, play_score};
+use std::alloc::Global;
+use std::thread::Threads;
+use tournament::{Names, PushFault, Referee, Standing, play_all, push_standing, tell_cup};
+
+// What the files of a cup were read as.
+#[derive(Drop)]
+struct Roster {
+    worlds: Vec<World>,
+    players: Vec<Brain>,
+}
+
+// Plays the games of a cup, each on a copy of its world.
+#[derive(Clone, Copy)]
+struct Games<'c> {
+    worlds: &'c [World],
+    players: &'c [Brain],
+    seed: u32,
+    rounds: u32,
+}
+
+impl Referee for Games<'_> {
+    ghost use Rattle.ant_commands.specs.Inner.Cups.{CanBePlayed};
+    ghost use Rattle.ant_commands.specs.Outputs.{score_between};
+
+    ghost score = { λ games. score_between games.worlds.now games.players.now games.seed games.rounds };
+
+    ghost knows = { λ games. CanBePlayed games.worlds.now games.players.now games.rounds };
+
+    fn game(&self, alloc: Global, world: u32, red: u32, black: u32) -> Result<Score, OutOfMemory> {
+        let field = self.worlds[world as usize].copy(alloc)?;
+        let brains = Brains {
+            red: &self.players[red as usize],
+            black: &self.players[black as usize],
+            sheet: Sheet::contest(),
+        };
+        Ok(play_score(field, brains, self.seed, self.rounds))
+    }
+}
+
+// The files of a cup, in the order in which its words name them.
+fn roster_of<'w, S: Shelf>(
+    alloc: Global,
+    entry: CupEntry<'w>,
+    shelf: &mut S,
+) -> Result<Roster, CommandStop<'w>>
+    ensures { ReadsFiles (S.state shelf.old) (S.state shelf.new) (cup_files (texts entry.entry.worlds.now) (texts entry.entry.brains.now))
+        (outcome_of (λ roster. cup_contents roster.worlds.items roster.players.items) result) }
+{
+    let worlds = read_files(alloc, shelf, entry.worlds)?;
+    let players = read_files(alloc, shelf, entry.brains)?;
+    Ok(Roster { worlds, players })
+}
+
+// The standing after all games, played by so many workers.
+fn standing_of<R: Threads + Sync>(
+    rt: &R,
+    alloc: Global,
+    roster: &Roster,
+    seed: u32,
+    rounds: u32,
+    workers: u32,
+) -> Result<Standing, OutOfMemory>
+    requires ready { AreReady roster.now.worlds.items roster.now.players.items }
+    requires few_rounds { rounds ≤ most_rounds }
+    requires workers { IsWithin WorkerCount workers }
+    ensures { IfOk result (λ standing. IsStandingOf (length roster.now.players.items) (length roster.now.worlds.items)
+        (score_between roster.now.worlds.items roster.now.players.items seed rounds) standing) }
+{
+    let games = Games {
+        worlds: &roster.worlds,
+        players: &roster.players,
+        seed,
+        rounds,
+    };
+    let players = games.players.len() as u32;
+    let worlds = games.worlds.len() as u32;
+    play_all(rt, alloc, &games, players, worlds, workers)
+}
+
+// Plays the games world by world, and pushes their lines after each world; the standing comes last.
+fn tell_games<R: Threads + Sync, K: Sink>(
+    rt: &R,
+    alloc: Global,
+    roster: &Roster,
+    entry: CupEntry<'_>,
+    names: &Names,
+    out: &mut K,
+) -> Result<(), PushFault>
+    requires within { CupWithin (texts entry.worlds.now) (texts entry.brains.now) entry.seed entry.rounds entry.workers }
+    requires ready { AreReady roster.now.worlds.items roster.now.players.items }
+    requires worlds { length roster.now.worlds.items ≡ length (texts entry.worlds.now) }
+    requires players { length roster.now.players.items ≡ length (texts entry.brains.now) }
+    requires names { names.now ≡ texts entry.brains.now }
+    ensures { Told (K.state out.old) (K.state out.new) (texts entry.entry.worlds.now) (texts entry.entry.brains.now)
+        (score_between roster.now.worlds.items roster.now.players.items entry.entry.seed entry.entry.rounds) result }
+{
+    let games = Games {
+        worlds: &roster.worlds,
+        players: &roster.players,
+        seed: entry.seed,
+        rounds: entry.rounds,
+    };
+    tell_cup(rt, alloc, &games, entry.worlds, names, entry.workers, out)
+}
+
+// The names of the players, which are different.
+fn names_of(alloc: Global, words: &[String]) -> Result<Names, OutOfMemory>
+    requires { AllDiffer (texts words.now) }
+    ensures { IfOk result (λ names. names ≡ texts words.now) }
+{
+    let mut names = Names::new(alloc);
+    for word in words {
+        names.add(word.as_str())?;
+    }
+    Ok(names)
+}
+
+/// Plays all games of a cup by the contest's rules, and writes its standing; where the games are wanted, their lines before it. All files are
+/// read before the first game.
+pub fn cup<'w, R: Threads + Sync, S: Shelf, K: Sink>(
+    rt: &R,
+    alloc: Global,
+    entry: CupEntry<'w>,
+    shelf: &mut S,
+    out: &mut K,
+) -> Result<(), CommandStop<'w>>
+    requires { CupWithin (texts entry.worlds.now) (texts entry.brains.now) entry.seed entry.rounds entry.workers }
+    ensures { CarriesOut
+        (cup_job (texts entry.entry.worlds.now) (texts entry.entry.brains.now) entry.entry.seed entry.entry.rounds entry.entry.workers entry.entry.games)
+        (S.state shelf.old) (S.state shelf.new) (K.state out.old) (K.state out.new) (ending_of result) }
+{
+    let roster = roster_of(alloc, entry, shelf)?;
+    let names = names_of(alloc, entry.brains)?;
+    if entry.games {
+        return after_cup(tell_games(rt, alloc, &roster, entry, &names, out));
+    }
+    let standing = standing_of(rt, alloc, &roster, entry.seed, entry.rounds, entry.workers)?;
+    after_push(push_standing(&standing, &names, out))
+}

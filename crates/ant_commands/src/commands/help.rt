@@ -1,0 +1,90 @@
+// The commands `--help` and `--version`.
+ghost use Rattle.ant_base.specs.Sink.{Pushed};
+ghost use Rattle.ant_commands.specs.Jobs.{help_job, version_job};
+ghost use Rattle.ant_commands.specs.Help.{head_lines, help_text, tail_lines, version_text};
+ghost use Rattle.ant_commands.specs.Inner.Reading.{CarriesOut, ending_of};
+
+use crate::stop::{CommandStop, after_push};
+use ant_base::{Failed, Layout, Shelf, Sink, layout};
+use command_words::TablePage;
+
+// The first lines: what the program is, and how it is called.
+#[derive(Clone, Copy)]
+struct HeadLines;
+
+impl Layout for HeadLines {
+    ghost text = { λ _. head_lines };
+
+    #[tactic(auto, unfolding(crate::specs::Help::head_lines))]
+    fn push_to<K: Sink>(&self, sink: &mut K) -> Result<(), Failed> {
+        concat!(
+            "ants 1.1.0 plays the ant world of the ICFP Programming Contest 2004.\n",
+            "\n",
+            "usage: ants COMMAND WORD.. [OPTION]..\n",
+            "\n",
+            "Words in capitals are names of files, or numbers where they say so; - is\n",
+            "standard input. Options stand behind all other words, in any order.\n",
+            "\n"
+        )
+        .push_to(sink)
+    }
+}
+
+// What workers are for, the exit statuses, and where to read on.
+#[derive(Clone, Copy)]
+struct TailLines;
+
+impl Layout for TailLines {
+    ghost text = { λ _. tail_lines };
+
+    #[tactic(auto, unfolding(crate::specs::Help::tail_lines))]
+    fn push_to<K: Sink>(&self, sink: &mut K) -> Result<(), Failed> {
+        concat!(
+            "\n",
+            "Workers of run, save and resume look ahead, which is slower; those of cup play\n",
+            "games at the same time, which is faster. Neither changes what is printed.\n",
+            "\n",
+            "Exit status:\n",
+            "  0  all of the output was written\n",
+            "  1  a word is no UTF-8, and nothing is written\n",
+            "  2  the words are no command\n",
+            "  3  a file was not read\n",
+            "  4  the output failed\n",
+            "  5  a file was refused, or an element of a world has no room\n",
+            "  6  out of memory\n",
+            "\n",
+            "README.md and docs/RULES.md have the rules, the form of each file and examples.\n"
+        )
+        .push_to(sink)
+    }
+}
+
+// Pushes the page.
+#[tactic(auto, unfolding(crate::specs::Help::help_text))]
+fn push_help<K: Sink>(out: &mut K) -> Result<(), Failed>
+    ensures { Pushed (K.state out.old) (K.state out.new) help_text result }
+{
+    layout!(HeadLines, TablePage, TailLines).push_to(out)
+}
+
+// Pushes the line of the version.
+#[tactic(auto, unfolding(crate::specs::Help::version_text))]
+fn push_version<K: Sink>(out: &mut K) -> Result<(), Failed>
+    ensures { Pushed (K.state out.old) (K.state out.new) version_text result }
+{
+    "ants 1.1.0\n".push_to(out)
+}
+
+/// Writes the page that tells of all commands.
+pub fn help<'w, S: Shelf, K: Sink>(shelf: &mut S, out: &mut K) -> Result<(), CommandStop<'w>>
+    ensures { CarriesOut help_job (S.state shelf.old) (S.state shelf.new) (K.state out.old) (K.state out.new) (ending_of result) }
+{
+    after_push(push_help(out))
+}
+
+/// Writes which program this is.
+pub fn version<'w, S: Shelf, K: Sink>(shelf: &mut S, out: &mut K) -> Result<(), CommandStop<'w>>
+    ensures { CarriesOut version_job (S.state shelf.old) (S.state shelf.new) (K.state out.old) (K.state out.new) (ending_of result) }
+{
+    after_push(push_version(out))
+}

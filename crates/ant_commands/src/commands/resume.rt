@@ -1,0 +1,96 @@
+// The command `resume`.
+ghost use Rattle.std.specs.Prelude.{◌≡◌, ◌≤◌, ◌∷◌, [], length};
+ghost use Rattle.ant_base.specs.Shelf.{longest};
+ghost use Rattle.ant_commands.specs.Jobs.{resume_job};
+ghost use Rattle.ant_commands.specs.Setups.{ResumeWithin, plain_resume};
+ghost use Rattle.ant_commands.specs.Files.FileContent.{SaveContent};
+ghost use Rattle.ant_commands.specs.Files.FileKind.{SaveFile};
+ghost use Rattle.ant_commands.specs.Inner.Reading.{CarriesOut, ReadsFiles, ReadsText, ending_of, outcome_of, save_reason};
+ghost use Rattle.ant_commands.specs.Inner.Plans.{IsUpTo};
+ghost use Rattle.ant_commands.specs.Outputs.{save_file};
+ghost use Rattle.ant_commands.specs.FaultLines.{reason_of};
+
+use crate::commands::run::dumps_of;
+use crate::commands::setups::ResumeOptions;
+use crate::files::fetch_file;
+use crate::stop::{CommandStop, FileFault, after_play};
+use ant_base::{Shelf, Sink};
+use match_save::{SaveFault, Saved, read_saved, resume as go_on, resume_alone};
+use round_book::Crew;
+use std::alloc::Global;
+
+// Why a command stops at the text of a save.
+fn save_stop<'w>(name: &'w str, fault: SaveFault) -> CommandStop<'w>
+    ensures { reason_of result ≡ save_reason name.now fault }
+{
+    match fault {
+        SaveFault::OutOfMemory => CommandStop::Memory,
+        other => CommandStop::Input(name, FileFault::Save(other)),
+    }
+}
+
+// The save, if at most so many rounds of it are done.
+fn up_to<'w>(name: &'w str, rounds: u32, saved: Saved) -> Result<Saved, CommandStop<'w>>
+    ensures { IsUpTo rounds name.now saved result }
+{
+    let round = saved.round();
+    if round > rounds {
+        return Err(CommandStop::Input(name, FileFault::AlreadyAt(round)));
+    }
+    Ok(saved)
+}
+
+// Reads the bytes of the file of this name as a save of which at most so many rounds are done.
+fn read_save<'w>(
+    alloc: Global,
+    name: &'w str,
+    rounds: u32,
+    bytes: &[u8],
+) -> Result<Saved, CommandStop<'w>>
+    requires { length bytes.now ≤ longest }
+    ensures { ReadsText SaveContent (SaveFile rounds) bytes.now name.now result }
+{
+    match read_saved(alloc, bytes) {
+        Ok(saved) => up_to(name, rounds, saved),
+        Err(fault) => Err(save_stop(name, fault)),
+    }
+}
+
+// The save of a file, of which at most so many rounds are done.
+fn saved_in<'w, S: Shelf>(
+    alloc: Global,
+    shelf: &mut S,
+    name: &'w str,
+    rounds: u32,
+) -> Result<Saved, CommandStop<'w>>
+    ensures { ReadsFiles (S.state shelf.old) (S.state shelf.new) (save_file name.now rounds ∷ []) (outcome_of (λ saved. SaveContent saved ∷ []) result) }
+{
+    let bytes = fetch_file(alloc, shelf, name)?;
+    read_save(alloc, name, rounds, &bytes)
+}
+
+/// Goes on with the game of a save until so many rounds are done in all, and writes the rest of its text: turn by turn where one worker is to play
+/// and no counts are asked for, else by a crew. A save of which more rounds are done is refused.
+pub fn resume<'w, C: Crew, S: Shelf, K: Sink>(
+    alloc: Global,
+    crew: &mut C,
+    name: &'w str,
+    options: ResumeOptions<'w>,
+    shelf: &mut S,
+    out: &mut K,
+) -> Result<(), CommandStop<'w>>
+    requires ready { C.ready crew.old }
+    requires within { ResumeWithin (plain_resume options) }
+    ensures { CarriesOut (resume_job name.now (plain_resume options.entry)) (S.state shelf.old) (S.state shelf.new) (K.state out.old) (K.state out.new)
+        (ending_of result) }
+{
+    let rounds = options.rounds;
+    let stats = options.stats;
+    let lone = options.workers == 1;
+    let dumps = dumps_of(alloc, options.dumps)?;
+    let saved = saved_in(alloc, shelf, name, rounds)?;
+    if lone && !stats {
+        return after_play(resume_alone(alloc, &saved, rounds, &dumps, out));
+    }
+    after_play(go_on(alloc, crew, &saved, rounds, &dumps, stats, out))
+}

@@ -1,0 +1,193 @@
+// The command `run`.
+ghost use Rattle.std.specs.Prelude.{◌≡◌, IfOk, false};
+ghost use Rattle.ant_turn.specs.Minds.{Fits};
+ghost use Rattle.cell_world.specs.Grid.{world_of};
+ghost use Rattle.ant_commands.specs.Jobs.{run_job};
+ghost use Rattle.ant_commands.specs.Setups.{RunSetup, SetupWithin, plain_setup};
+ghost use Rattle.command_words.specs.Words.{plain_dumps};
+ghost use Rattle.match_run.specs.Dumps.{chooses};
+ghost use Rattle.match_run.specs.Play.{PushedBy};
+ghost use Rattle.ant_commands.specs.Inner.Plans.{CanPlay, IsPlanned, Plans, minds_in, setting_contents, text_in};
+ghost use Rattle.ant_commands.specs.Inner.Reading.{CarriesOut, ReadsFiles, ending_of, outcome_of};
+ghost use Rattle.ant_commands.specs.Outputs.{chosen_rounds, game_files};
+
+use crate::commands::setups::{AskedGame, FileNames, RunOptions};
+use crate::files::read_file;
+use crate::stop::CommandStop;
+use ant_base::{Shelf, Sink};
+use ant_turn::{Brains, Sheet};
+use brain_read::Brain;
+use cell_world::World;
+use command_words::{DumpWord, Numbers};
+use match_run::{Dumps, OutOfMemory, Plan, PlayFault, Rounds, play, play_alone};
+use round_book::Crew;
+use std::alloc::Global;
+
+// What the files of a game were read as.
+#[derive(Drop)]
+pub struct Setting {
+    pub world: World,
+    pub red: Brain,
+    pub black: Brain,
+}
+
+// What a game is asked to do, by the words.
+#[derive(Drop)]
+pub struct PlannedGame {
+    pub sheet: Sheet,
+    pub plan: Plan,
+    // whether one worker is to play, who doesn't stand by
+    pub lone: bool,
+}
+
+// The rounds of a list.
+fn rounds_of(alloc: Global, numbers: Numbers<'_>) -> Result<Rounds, OutOfMemory>
+    ensures { IfOk result (λ rounds. rounds.numbers ≡ numbers.entry) }
+{
+    let mut rounds = Rounds::new(alloc);
+    for number in numbers {
+        rounds.add(number)?;
+    }
+    Ok(rounds)
+}
+
+/// The choice of dumps that the words make.
+pub fn dumps_of(alloc: Global, word: DumpWord<'_>) -> Result<Dumps, OutOfMemory>
+    ensures { IfOk result (λ dumps. chooses dumps ≡ chosen_rounds (plain_dumps word.entry)) }
+{
+    match word {
+        DumpWord::Nothing => Ok(Dumps::Nothing),
+        DumpWord::All => Ok(Dumps::All),
+        DumpWord::Chosen(numbers) => {
+            let mut rounds = rounds_of(alloc, numbers)?;
+            rounds.sort();
+            Ok(Dumps::Chosen(rounds))
+        }
+    }
+}
+
+/// What a game is asked to do, and by which sheet. The chosen rounds become a list, which takes memory, before any file is fetched: its lack
+/// leaves all untouched then.
+pub fn planned_game<'w>(
+    alloc: Global,
+    options: RunOptions<'_>,
+) -> Result<PlannedGame, CommandStop<'w>>
+    requires { SetupWithin (plain_setup options) }
+    ensures { IsPlanned (plain_setup options.entry) result }
+{
+    let sheet = Sheet::new(options.surround, options.corpse, options.rest);
+    let lone = options.workers == 1 && !options.far;
+    let dumps = dumps_of(alloc, options.dumps)?;
+    let plan = Plan {
+        seed: options.seed,
+        rounds: options.rounds,
+        dumps,
+        window: options.window,
+        stats: options.stats,
+    };
+    Ok(PlannedGame { sheet, plan, lone })
+}
+
+// The files of a game, in the order in which its words name them: each is read before the next one is fetched, and both brains are fetched
+// where they have one name.
+pub fn setting_of<'w, S: Shelf>(
+    alloc: Global,
+    names: FileNames<'w>,
+    shelf: &mut S,
+) -> Result<Setting, CommandStop<'w>>
+    ensures { ReadsFiles (S.state shelf.old) (S.state shelf.new) (game_files names.entry.world.now names.entry.red.now names.entry.black.now)
+        (outcome_of setting_contents result) }
+{
+    let world = read_file(alloc, shelf, names.world)?;
+    let red = read_file(alloc, shelf, names.red)?;
+    let black = read_file(alloc, shelf, names.black)?;
+    Ok(Setting { world, red, black })
+}
+
+// Plays a game, and pushes its text: turn by turn where one worker is to play and no counts are asked for, else by a crew.
+fn play_setting<C: Crew, K: Sink>(
+    alloc: Global,
+    crew: &mut C,
+    setting: Setting,
+    game: &PlannedGame,
+    out: &mut K,
+) -> Result<(), PlayFault>
+    requires ready { C.ready crew.old }
+    requires fit { Fits (world_of setting.world) (minds_in setting game.now) }
+    requires planned { CanPlay game.now.plan }
+    ensures { PushedBy (K.state out.old) (K.state out.new) (text_in setting game.now) result }
+{
+    if game.lone && !game.plan.stats {
+        return play_setting_alone(setting, game, out);
+    }
+    let Setting { world, red, black } = setting;
+    let brains = Brains {
+        red: &red,
+        black: &black,
+        sheet: game.sheet,
+    };
+    match play(alloc, crew, world, brains, &game.plan, out) {
+        Ok(_) => Ok(()),
+        Err(fault) => Err(fault),
+    }
+}
+
+// Plays a game that asks for no counts turn by turn, and pushes its text. It makes no looks, since nobody asked for their counts, and takes
+// no memory for a second world.
+fn play_setting_alone<K: Sink>(
+    setting: Setting,
+    game: &PlannedGame,
+    out: &mut K,
+) -> Result<(), PlayFault>
+    requires fit { Fits (world_of setting.world) (minds_in setting game.now) }
+    requires planned { CanPlay game.now.plan }
+    requires uncounted { game.now.plan.stats ≡ false }
+    ensures { PushedBy (K.state out.old) (K.state out.new) (text_in setting game.now) result }
+{
+    let Setting { world, red, black } = setting;
+    let brains = Brains {
+        red: &red,
+        black: &black,
+        sheet: game.sheet,
+    };
+    play_alone(world, brains, &game.plan, out)?;
+    Ok(())
+}
+
+/// Plays a game, and writes its text.
+pub fn run_by<'w, C: Crew, S: Shelf, K: Sink>(
+    alloc: Global,
+    crew: &mut C,
+    names: FileNames<'w>,
+    game: &PlannedGame,
+    shelf: &mut S,
+    out: &mut K,
+) -> Result<(), CommandStop<'w>>
+    requires ready { C.ready crew.old }
+    requires planned { CanPlay game.now.plan }
+    ensures { (setup : RunSetup) → Plans setup game.now
+        → CarriesOut (run_job names.entry.world.now names.entry.red.now names.entry.black.now setup) (S.state shelf.old) (S.state shelf.new)
+        (K.state out.old) (K.state out.new) (ending_of result) }
+{
+    let setting = setting_of(alloc, names, shelf)?;
+    play_setting(alloc, crew, setting, game, out)?;
+    Ok(())
+}
+
+/// Plays the game that the words ask for, and writes its text.
+pub fn run<'w, C: Crew, S: Shelf, K: Sink>(
+    alloc: Global,
+    crew: &mut C,
+    asked: AskedGame<'w>,
+    shelf: &mut S,
+    out: &mut K,
+) -> Result<(), CommandStop<'w>>
+    requires ready { C.ready crew.old }
+    requires within { SetupWithin (plain_setup asked.options) }
+    ensures { CarriesOut (run_job asked.entry.names.world.now asked.entry.names.red.now asked.entry.names.black.now (plain_setup asked.entry.options))
+        (S.state shelf.old) (S.state shelf.new) (K.state out.old) (K.state out.new) (ending_of result) }
+{
+    let AskedGame { names, options } = asked;
+    let game = planned_game(alloc, options)?;
+    run_by(alloc, crew, names, &game, shelf, out)
+}

@@ -1,0 +1,60 @@
+// The command `view`.
+ghost use Rattle.std.specs.Prelude.{◌≤◌};
+ghost use Rattle.ant_base.specs.Sink.{Pushed};
+ghost use Rattle.ant_turn.specs.Minds.{Fits, contest_minds};
+ghost use Rattle.break_view.specs.Texts.{view_of};
+ghost use Rattle.cell_world.specs.Grid.{world_of};
+ghost use Rattle.ant_commands.specs.Jobs.{view_job};
+ghost use Rattle.match_run.specs.Run.{most_rounds};
+ghost use Rattle.ant_commands.specs.Inner.Reading.{CarriesOut, ending_of};
+
+use crate::commands::run::{Setting, setting_of};
+use crate::commands::setups::ViewedGame;
+use crate::files::read_file;
+use crate::stop::{CommandStop, after_push};
+use ant_base::{Failed, Shelf, Sink};
+use ant_turn::{Brains, Sheet};
+use break_view::{Breaks, find_stop, push_view};
+use std::alloc::Global;
+
+// Plays a game to its first stop, and pushes its view.
+fn push_stop<K: Sink>(
+    setting: Setting,
+    breaks: &Breaks,
+    seed: u32,
+    rounds: u32,
+    out: &mut K,
+) -> Result<(), Failed>
+    requires fit { Fits (world_of setting.world) (contest_minds setting.red setting.black) }
+    requires few_rounds { rounds ≤ most_rounds }
+    ensures { Pushed (K.state out.old) (K.state out.new) (view_of (contest_minds setting.red setting.black) seed rounds (world_of setting.world) breaks.now) result }
+{
+    let Setting {
+        mut world,
+        red,
+        black,
+    } = setting;
+    let brains = Brains {
+        red: &red,
+        black: &black,
+        sheet: Sheet::contest(),
+    };
+    let stop = find_stop(&mut world, brains, seed, rounds, breaks);
+    push_view(&world, seed, rounds, stop, out)
+}
+
+/// Plays a game, by the contest's rules, up to its first stop, and writes its view.
+pub fn view<'w, S: Shelf, K: Sink>(
+    alloc: Global,
+    game: ViewedGame<'w>,
+    shelf: &mut S,
+    out: &mut K,
+) -> Result<(), CommandStop<'w>>
+    requires { game.rounds ≤ most_rounds }
+    ensures { CarriesOut (view_job game.entry.names.world.now game.entry.names.red.now game.entry.names.black.now game.entry.breaks.now game.entry.seed game.entry.rounds)
+        (S.state shelf.old) (S.state shelf.new) (K.state out.old) (K.state out.new) (ending_of result) }
+{
+    let setting = setting_of(alloc, game.names, shelf)?;
+    let breaks: Breaks = read_file(alloc, shelf, game.breaks)?;
+    after_push(push_stop(setting, &breaks, game.seed, game.rounds, out))
+}

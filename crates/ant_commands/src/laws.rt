@@ -1,0 +1,55 @@
+// Laws on the definitions of what a command does. Each is proved by a function that does nothing.
+ghost use Rattle.ant_commands.specs.Headline.{Headline};
+ghost use Rattle.ant_commands.specs.Verdict.{JudgesOnce};
+ghost use Rattle.ant_commands.specs.Laws.{AssembledAndMinimised, HasOutput, OneText, SavesAreResumed, TextsEndInLf, WindowsChangeCountsAlone, WorkersChangeNothing};
+
+/// The promise on one page: each run of the program ends with the status 0, 2, 3, 4, 5 or 6, and each of them says what was fetched, accepted
+/// and written. It follows from the one clause of `run_to_exit`.
+pub fn headline()
+    ensures { Headline }
+{}
+
+/// Contents that have each file of a command judge them in exactly one way: all are accepted, as the same contents, or one and the same file is the first
+/// that is refused, with the same fault.
+pub fn contents_judge_once()
+    ensures { JudgesOnce }
+{}
+
+/// Each output of a command whose numbers and names are within the limits, and whose files were accepted, ends in LF; or it has no bytes, and
+/// is that of `asm` with `--labels`, whose program has no label. So where the output can tell, nothing of it waits to be flushed once all of it
+/// was written.
+pub fn texts_end_in_lf()
+    ensures { TextsEndInLf }
+{}
+
+/// A command has at most one output for the same contents of its files.
+pub fn one_text()
+    ensures { OneText }
+{}
+
+/// Two command lines that differ in the number of workers alone, or in `--far`, read the same files and have the same output.
+pub fn workers_change_nothing()
+    ensures { WorkersChangeNothing }
+{}
+
+/// Without its counts the output of a `run` is the same for every number of turns that a window has.
+pub fn windows_change_counts_alone()
+    ensures { WindowsChangeCountsAlone }
+{}
+
+/// A command within the limits whose files were accepted, and whose elements have room, has an output.
+pub fn has_output()
+    ensures { HasOutput }
+{}
+
+/// What `asm` writes, minimised, still plays the labelled game of the program: state for address, and with the same score.
+pub fn assembled_and_minimised()
+    ensures { AssembledAndMinimised }
+{}
+
+/// Where `run` prints a text, `save` after as many rounds of the same game or fewer prints a save that is no longer than a file may be and that `resume` accepts, and what `resume` prints of it is
+/// the rest of that text: before it stand the line of the seed and the chosen dumps up to the saved round. The seed, the window, the sheet, the
+/// dumps and the counts are those of `run`; each of the three may have any number of workers. So it is after whichever round the game is saved.
+pub fn saves_are_resumed()
+    ensures { SavesAreResumed }
+{}

@@ -1,0 +1,253 @@
+// The whole program, over any shelf and any sinks.
+ghost use Rattle.std.specs.Prelude.{◌≡◌, ◌↔◌};
+ghost use Rattle.command_words.specs.Far.{words_without_far};
+ghost use Rattle.command_words.specs.Command.{AskedWithin, plain};
+ghost use Rattle.ant_commands.specs.Jobs.{job_of};
+ghost use Rattle.command_words.specs.Words.{texts};
+ghost use Rattle.round_book.specs.Book.{CanBegin};
+ghost use Rattle.round_book.specs.Led.{IsWindow};
+ghost use Rattle.ant_commands.specs.Inner.Reading.{CarriesOut, CarriesOutWords, ending_of};
+ghost use Rattle.ant_commands.specs.Outside.{outside_of};
+ghost use Rattle.ant_commands.specs.Run.{GotLine, IsComplete, IsCrowding, IsNoCommand, IsOrderly, NeverUnread, IsRefusing, IsRun, IsRunTo, Reports};
+ghost use Rattle.ant_commands.specs.Status.{status_number};
+ghost use Rattle.ant_commands.specs.FaultLines.{ending_status, fault_line, plain_ending, reason_of, status_of, word_line};
+ghost use Rattle.ant_commands.specs.FaultLines.Reason.{AtMemory};
+ghost use Rattle.std.specs.Process.{exit_status};
+
+use crate::commands::far::run_far;
+use crate::commands::setups::AskedGame;
+use crate::commands::{dispatch, workers_in};
+use crate::status::Status;
+use crate::stop::{CommandStop, Ended};
+use ant_base::{Gate, Layout, Shelf, Sink, layout};
+use command_words::{Asked, CommandKind, Refused, is_far_run, read_words, read_words_without_far};
+use match_run::OutOfMemory;
+use round_book::{Counts, Field, Led};
+use round_workers::BoardCrew;
+use std::alloc::Global;
+use std::process::ExitCode;
+use std::sync::Wait;
+use std::thread::Threads;
+
+// Who calls whom, from `main` down. The words are read once, by the one that knows `--far` or by the one that doesn't:
+//
+//     run_to_exit > run_ants > run_here > read_and_carry_out > carry_out > dispatch > the command's own function
+//                            > read_and_carry_out_far > carry_out_far > run_far, for a run
+//                                                                     > carry_out, for all else
+
+// Carries out a command, whose numbers and names are within their limits. A crew takes no memory before its first window, so that each
+// command may have one.
+fn carry_out<'w, R: Threads + Sync, S: Shelf, K: Sink, G: Gate>(
+    rt: &R,
+    alloc: Global,
+    asked: Asked<'w>,
+    shelf: &mut S,
+    out: &mut K,
+    gate: &G,
+) -> Result<(), CommandStop<'w>>
+    requires within { AskedWithin (plain asked) }
+    ensures { CarriesOut (job_of (plain asked.entry)) (S.state shelf.old) (S.state shelf.new) (K.state out.old) (K.state out.new) (ending_of result) }
+{
+    let mut board = BoardCrew::new(rt, workers_in(asked), gate);
+    let mut crew = Led::by(
+        |field: &mut Field<'_>, from: u32, to: u32| -> Result<Counts, OutOfMemory>
+            requires { CanBegin field.now from to }
+            ensures { IsWindow result field.entry.now from to field.exit.now }
+        { board.window(alloc, field, from, to) },
+    );
+    dispatch(rt, alloc, &mut crew, asked, shelf, out)
+}
+
+// Carries out the command that the words are, where `--far` is no option.
+fn read_and_carry_out<'w, R: Threads + Sync, S: Shelf, K: Sink, G: Gate>(
+    rt: &R,
+    alloc: Global,
+    words: &'w [String],
+    shelf: &mut S,
+    out: &mut K,
+    gate: &G,
+) -> Ended<'w>
+    ensures { CarriesOutWords (words_without_far (texts words.now)) (S.state shelf.old) (S.state shelf.new) (K.state out.old) (K.state out.new) (plain_ending result) }
+{
+    match read_words_without_far(words) {
+        Ok(asked) => Ended::after(carry_out(rt, alloc, asked, shelf, out, gate)),
+        Err(refused) => Ended::RefusedWord(refused.word),
+    }
+}
+
+// Carries out a command by standing workers, where it is a run.
+fn carry_out_far<'w, R: Threads + Wait + Sync, S: Shelf, K: Sink, G: Gate>(
+    rt: &R,
+    alloc: Global,
+    asked: Asked<'w>,
+    shelf: &mut S,
+    out: &mut K,
+    gate: &G,
+) -> Result<(), CommandStop<'w>>
+    requires within { AskedWithin (plain asked) }
+    ensures { CarriesOut (job_of (plain asked.entry)) (S.state shelf.old) (S.state shelf.new) (K.state out.old) (K.state out.new) (ending_of result) }
+{
+    match asked.kind {
+        CommandKind::Run => run_far(rt, alloc, AskedGame::of_run(asked), shelf, out, gate),
+        _ => carry_out(rt, alloc, asked, shelf, out, gate),
+    }
+}
+
+// Carries out the command that the words are, by standing workers where it is a run.
+fn read_and_carry_out_far<'w, R: Threads + Wait + Sync, S: Shelf, K: Sink, G: Gate>(
+    rt: &R,
+    alloc: Global,
+    words: &'w [String],
+    shelf: &mut S,
+    out: &mut K,
+    gate: &G,
+) -> Ended<'w>
+    ensures { CarriesOutWords (texts words.now) (S.state shelf.old) (S.state shelf.new) (K.state out.old) (K.state out.new) (plain_ending result) }
+{
+    match read_words(words) {
+        Ok(asked) => Ended::after(carry_out_far(rt, alloc, asked, shelf, out, gate)),
+        Err(refused) => Ended::RefusedWord(refused.word),
+    }
+}
+
+/// Does all that the program does without standing workers, over a shelf of files, an output and a place for faults. To it `--far` is no
+/// option of `run`, nor any word that a command has.
+///
+/// `words` doesn't hold the program's name. The words are read first; then each file is fetched and read before the next one, in the order
+/// of its word, and each once; then the text is written. The answer is
+/// - `Done`: all files of the command were fetched and accepted, and the output got the text of what they were read as and nothing else;
+///   the errors got nothing.
+/// - `Words`: exactly where the words are no command; nothing was fetched, and the output got nothing.
+/// - `Read`: the last fetch failed, of a file of which the shelf wasn't sure, and each file before it was accepted; the output got nothing.
+/// - `Write`: all files were fetched and accepted, the output failed, and got a prefix of the text.
+/// - `Input`: the last file that was fetched is too long, not in its grammar or a save beyond the rounds, and each before it was accepted; or
+///   an element of the world to be generated has no room; the output got nothing.
+/// - `Memory`: memory could not be had; no fetch failed or was too long. Either each file but perhaps the last was accepted, and the output
+///   got nothing; or all files of a `run`, a `resume` or a `cup` with `--games`, which write while they play, were accepted, and the output
+///   got a proper prefix of the text: of a cup the lines of all games on its first worlds.
+///
+/// At each but `Done` the errors got one line, which names the word (from 1) or the file and the place in it; or a prefix of that line,
+/// where they failed. The shelf keeps its contents and all of which it is sure, its log grows by the fetches, and its count of faults rises
+/// only where it isn't sure of each name that was fetched. The runtime serves the workers of a game and of a cup; a game's workers call the
+/// gate before each look.
+///
+/// The first clause says all of it: the others follow from it, by `no_command_run`, `words_run`, `orderly_run`, `complete_run`,
+/// `crowding_run`, `refusing_run` and `read_run` of proofs/Verdicts.antt. They stand here for callers, each in words of its own.
+pub fn run_here<R: Threads + Sync, S: Shelf, K: Sink, E: Sink, G: Gate>(
+    rt: &R,
+    alloc: Global,
+    words: &[String],
+    shelf: &mut S,
+    out: &mut K,
+    err: &mut E,
+    gate: &G,
+) -> Status
+    ensures run { IsRun (words_without_far (texts words.now)) (outside_of (S.state shelf.old) (K.state out.old) (E.state err.old))
+        (outside_of (S.state shelf.new) (K.state out.new) (E.state err.new)) result }
+    ensures words { (result ≡ Status.Words) ↔ IsNoCommand (words_without_far (texts words.now)) }
+    ensures orderly { IsOrderly (words_without_far (texts words.now)) (outside_of (S.state shelf.old) (K.state out.old) (E.state err.old))
+        (outside_of (S.state shelf.new) (K.state out.new) (E.state err.new)) }
+    ensures complete { IsComplete (words_without_far (texts words.now)) (outside_of (S.state shelf.old) (K.state out.old) (E.state err.old))
+        (outside_of (S.state shelf.new) (K.state out.new) (E.state err.new)) result }
+    ensures crowding { IsCrowding (words_without_far (texts words.now)) result }
+    ensures refusing { IsRefusing (words_without_far (texts words.now)) (outside_of (S.state shelf.old) (K.state out.old) (E.state err.old))
+        (outside_of (S.state shelf.new) (K.state out.new) (E.state err.new)) result }
+    ensures read { NeverUnread (words_without_far (texts words.now)) (outside_of (S.state shelf.old) (K.state out.old) (E.state err.old)) result }
+{
+    let ended = read_and_carry_out(rt, alloc, words, shelf, out, gate);
+    report(ended, err)
+}
+
+/// Does all that the program does, over a shelf of files, an output and a place for faults. It calls `run_here`, unless the command is `run` and
+/// some word is `--far`. Such a run's workers stand by for the whole game, and the call may wait for one of them; what it promises holds if it
+/// returns.
+///
+/// The clauses are those of `run_here`, of all words: the first says all of it, and its doc says which status comes when.
+pub fn run_ants<R: Threads + Wait + Sync, S: Shelf, K: Sink, E: Sink, G: Gate>(
+    rt: &R,
+    alloc: Global,
+    words: &[String],
+    shelf: &mut S,
+    out: &mut K,
+    err: &mut E,
+    gate: &G,
+) -> Status
+    ensures run { IsRun (texts words.now) (outside_of (S.state shelf.old) (K.state out.old) (E.state err.old))
+        (outside_of (S.state shelf.new) (K.state out.new) (E.state err.new)) result }
+    ensures words { (result ≡ Status.Words) ↔ IsNoCommand (texts words.now) }
+    ensures orderly { IsOrderly (texts words.now) (outside_of (S.state shelf.old) (K.state out.old) (E.state err.old))
+        (outside_of (S.state shelf.new) (K.state out.new) (E.state err.new)) }
+    ensures complete { IsComplete (texts words.now) (outside_of (S.state shelf.old) (K.state out.old) (E.state err.old))
+        (outside_of (S.state shelf.new) (K.state out.new) (E.state err.new)) result }
+    ensures crowding { IsCrowding (texts words.now) result }
+    ensures refusing { IsRefusing (texts words.now) (outside_of (S.state shelf.old) (K.state out.old) (E.state err.old))
+        (outside_of (S.state shelf.new) (K.state out.new) (E.state err.new)) result }
+    ensures read { NeverUnread (texts words.now) (outside_of (S.state shelf.old) (K.state out.old) (E.state err.old)) result }
+{
+    if !is_far_run(words) {
+        return run_here(rt, alloc, words, shelf, out, err, gate);
+    }
+    let ended = read_and_carry_out_far(rt, alloc, words, shelf, out, gate);
+    report(ended, err)
+}
+
+// Says how a run ended, where it is not done.
+fn report<E: Sink>(ended: Ended<'_>, err: &mut E) -> Status
+    ensures reports { Reports (E.state err.old) (E.state err.new) (plain_ending ended.entry) }
+    ensures status { result ≡ ending_status (plain_ending ended.entry) }
+{
+    match ended {
+        Ended::Done => Status::Done,
+        Ended::RefusedWord(word) => report_word(word, err),
+        Ended::Stopped(stop) => report_stop(&stop, err),
+    }
+}
+
+// Says which word is refused.
+#[tactic(auto, unfolding(crate::specs::FaultLines::word_line))]
+fn report_word<E: Sink>(word: usize, err: &mut E) -> Status
+    ensures reports { GotLine (E.state err.old) (E.state err.new) (word_line word) }
+    ensures status { result ≡ Status.Words }
+{
+    let _ = layout!("ants: ", Refused { word }, "\n").push_to(err);
+    Status::Words
+}
+
+// Says why a command stopped.
+fn report_stop<E: Sink>(stop: &CommandStop<'_>, err: &mut E) -> Status
+    ensures reports { GotLine (E.state err.old) (E.state err.new) (fault_line (reason_of stop.now)) }
+    ensures status { result ≡ status_of (reason_of stop.now) }
+{
+    let _ = stop.push_to(err);
+    stop.status()
+}
+
+/// Does what `run_ants` does, and gives the number of its status as an exit code: all that `main` does once it has its words and its memory.
+pub fn run_to_exit<R: Threads + Wait + Sync, S: Shelf, K: Sink, E: Sink, G: Gate>(
+    rt: &R,
+    alloc: Global,
+    words: &[String],
+    shelf: &mut S,
+    out: &mut K,
+    err: &mut E,
+    gate: &G,
+) -> ExitCode
+    ensures { IsRunTo (texts words.now) (outside_of (S.state shelf.old) (K.state out.old) (E.state err.old))
+        (outside_of (S.state shelf.new) (K.state out.new) (E.state err.new)) (exit_status result) }
+{
+    exit_of(run_ants(rt, alloc, words, shelf, out, err, gate))
+}
+
+/// Says that memory can't be had, and gives that status as an exit code: what `main` does before it has a command.
+pub fn exit_without_memory<E: Sink>(err: &mut E) -> ExitCode
+    ensures reports { GotLine (E.state err.old) (E.state err.new) (fault_line AtMemory) }
+    ensures status { exit_status result ≡ status_number Status.Memory }
+{
+    exit_of(report_stop(&CommandStop::Memory, err))
+}
+
+fn exit_of(status: Status) -> ExitCode
+    ensures { exit_status result ≡ status_number status }
+{
+    ExitCode::from(status.number())
+}

@@ -1,7 +1,0 @@
--- the line was pushed
-use Rattle.ants.specs.FaultLines.{word_line}
-use Rattle.ants.proofs.program.report_word.Goals as goal
-
-pub returns-clause-reports : goal.returns-clause-reports
-unfolding word_line
-returns-clause-reports g c = (c.push_to.result, c.push_to.ensures)

@@ -1,0 +1,125 @@
+// Games that are saved and go on, as texts.
+ghost use Rattle.std.specs.Prelude.{◌≡◌, ◌≤◌, IfErr, IfOk, OnErr, false, length};
+ghost use Rattle.ant_base.specs.Shelf.{longest};
+ghost use Rattle.match_run.specs.Dumps.{chooses, has_round};
+ghost use Rattle.match_run.specs.Run.{most_rounds};
+ghost use Rattle.match_save.specs.Resumed.{resumed_text};
+ghost use Rattle.ants_c.specs.Readable.{GivesSave};
+ghost use Rattle.ants_c.specs.Refused.{IsRefusedSave};
+ghost use Rattle.ants_c.specs.Rooms.{IsPut, Writes, counted, overlaid};
+ghost use Rattle.ants_c.specs.Stops.{save_stop};
+ghost use Rattle.ants_c.specs.Told.{StopsAt};
+
+use crate::read::refused;
+use crate::refusal::{Stop, TextFault};
+use crate::room_sink::RoomSink;
+use crate::run::dumps_of;
+use crate::texts::status_of;
+use ant_base::{LONGEST, OutOfMemory};
+use match_run::Dumps;
+use match_save::{SaveFault, Saved, read_saved, resume_alone};
+use std::alloc::Global;
+
+// Why a call stops at a fault of a save.
+fn save_stop(fault: SaveFault) -> Stop
+    ensures { result ≡ save_stop fault }
+{
+    match fault {
+        SaveFault::OutOfMemory => Stop::OutOfMemory,
+        other => refused(1, TextFault::Save(other)),
+    }
+}
+
+// The save of a text of at most 4,194,304 bytes, where at most so many rounds of it are done.
+fn read_save(alloc: Global, text: &[u8], rounds: u32) -> Result<Saved, Stop>
+    requires { length text.now ≤ longest }
+    ensures saved { IfOk result (λ saved. GivesSave text.now saved) }
+    ensures round { IfOk result (λ saved. saved.round ≤ rounds) }
+    ensures stop { IfErr result (λ stop. StopsAt (IsRefusedSave rounds text.now) stop) }
+{
+    let saved = match read_saved(alloc, text) {
+        Ok(saved) => saved,
+        Err(fault) => return Err(save_stop(fault)),
+    };
+    let round = saved.round();
+    if round > rounds {
+        return Err(refused(1, TextFault::AlreadyAt(round)));
+    }
+    Ok(saved)
+}
+
+/// The save of a text, where at most so many rounds of it are done.
+pub fn open_save(alloc: Global, text: &[u8], rounds: u32) -> Result<Saved, Stop>
+    ensures saved { IfOk result (λ saved. GivesSave text.now saved) }
+    ensures round { IfOk result (λ saved. saved.round ≤ rounds) }
+    ensures stop { IfErr result (λ stop. StopsAt (IsRefusedSave rounds text.now) stop) }
+{
+    if text.len() > LONGEST {
+        return Err(refused(1, TextFault::TooLong));
+    }
+    read_save(alloc, text, rounds)
+}
+
+// Lays the rest of a saved game's text over the room, and says how many bytes it has. A sink over the room never fails, so that only memory
+// can be wanting, before the first byte is laid.
+fn lay_resumed(
+    alloc: Global,
+    saved: &Saved,
+    rounds: u32,
+    dumps: &Dumps,
+    room: &mut [u8],
+) -> Result<usize, OutOfMemory>
+    requires left { saved.now.round ≤ rounds }
+    requires few_rounds { rounds ≤ most_rounds }
+    ensures room { IfOk result (λ size. room.new ≡ overlaid room.old (resumed_text saved.now rounds (chooses dumps.now) false)) }
+    ensures size { IfOk result (λ size. size ≡ counted (resumed_text saved.now rounds (chooses dumps.now) false)) }
+    ensures unlaid { OnErr result (room.new ≡ room.old) }
+{
+    let mut sink = RoomSink::new(room);
+    match resume_alone(alloc, saved, rounds, dumps, &mut sink) {
+        Ok(_) => Ok(sink.pushed()),
+        Err(_) => Err(OutOfMemory),
+    }
+}
+
+// Lays the rest of a saved game's text over the caller's room, and gives the status.
+fn put_later(
+    alloc: Global,
+    saved: &Saved,
+    rounds: u32,
+    dumps: &Dumps,
+    out: &mut [u8],
+    used: &mut usize,
+) -> Result<u32, OutOfMemory>
+    requires left { saved.now.round ≤ rounds }
+    requires few_rounds { rounds ≤ most_rounds }
+    ensures put { IfOk result (λ status. IsPut (resumed_text saved.now rounds (chooses dumps.now) false) out.old out.new used.new status) }
+    ensures status { IfOk result (λ status. Writes status) }
+    ensures out { OnErr result (out.new ≡ out.old) }
+    ensures used { OnErr result (used.new ≡ used.old) }
+{
+    let size = lay_resumed(alloc, saved, rounds, dumps, out)?;
+    *used = size;
+    Ok(status_of(size, out))
+}
+
+/// Lays the rest of a saved game's text over the caller's room, with the dumps of these rounds, until so many rounds are done in all, and
+/// gives the status. It is refused only when out of memory, and nothing was written then.
+pub fn put_resumed(
+    alloc: Global,
+    saved: &Saved,
+    rounds: u32,
+    dumps: &[u32],
+    out: &mut [u8],
+    used: &mut usize,
+) -> Result<u32, OutOfMemory>
+    requires left { saved.now.round ≤ rounds }
+    requires few_rounds { rounds ≤ most_rounds }
+    ensures put { IfOk result (λ status. IsPut (resumed_text saved.now rounds (has_round dumps.now) false) out.old out.new used.new status) }
+    ensures status { IfOk result (λ status. Writes status) }
+    ensures out { OnErr result (out.new ≡ out.old) }
+    ensures used { OnErr result (used.new ≡ used.old) }
+{
+    let dumps = dumps_of(alloc, dumps)?;
+    put_later(alloc, saved, rounds, &dumps, out, used)
+}

@@ -1,0 +1,462 @@
+// What no clause says: that commands succeed, and the exact bytes that they write. Each file has tables of cases, and a loop for each. A table
+// with commands in it is a `static`, and so is a command that a function varies: where they are constants, a function builds them piece by
+// piece. The texts of one `static` are proved together, and what that costs grows with the square of their length: so a long table is one of
+// its own, or several.
+mod assembled;
+mod brains;
+mod compared;
+mod counts;
+mod cups;
+mod games;
+mod generated;
+mod helped;
+mod outside;
+mod runs;
+mod saves;
+mod settle;
+mod shown;
+mod viewed;
+mod ways;
+mod words;
+mod workers;
+mod workloads;
+
+use ant_commands::run_ants;
+use ant_commands::Status;
+use ant_base::{Calls, Files, Gate, MemShelf, MemSink, NoGate};
+use std::alloc::Global;
+use std::process::Abort;
+use std::sync::Wait;
+use std::test::Fail;
+use std::thread::Threads;
+
+// More bytes than any text of these tests has.
+const ROOM: u64 = 2000000;
+
+// One red ant between rocks.
+const CLOSED: &str = "3\n3\n# # #\n # + #\n# # #\n";
+
+// A red ant among four black ones, a fifth about to come.
+const CLOSING: &str =
+    "7\n6\n# # # # # # #\n # . . . . . #\n# . . - # . #\n # - . + - # #\n# + . - - # #\n # # # # # # #\n";
+
+// A command over a world in the files w and -, a red brain in r, a black one in b, breaks in k, and more files by name; the fetch and the
+// push to out that fail, if there are calls of these numbers; and the room of out and of err, in bytes.
+#[derive(Clone, Copy, Debug)]
+struct Job<'t> {
+    line: &'t str,
+    world: &'t str,
+    red: &'t str,
+    black: &'t str,
+    breaks: &'t str,
+    more: &'t [(&'t str, &'t str)],
+    failing_fetch: u64,
+    failing_push: u64,
+    room: u64,
+    err_room: u64,
+}
+
+// No words and empty files; nothing fails.
+const NO_JOB: Job<'static> = Job {
+    line: "",
+    world: "",
+    red: "",
+    black: "",
+    breaks: "",
+    more: &[],
+    failing_fetch: 0,
+    failing_push: 0,
+    room: ROOM,
+    err_room: ROOM,
+};
+
+static EMPTY_JOB: Job<'static> = NO_JOB;
+
+// The command of these words, over a world and two brains.
+fn game_of<'t>(line: &'t str, world: &'t str, red: &'t str, black: &'t str) -> Job<'t> {
+    let mut job = EMPTY_JOB;
+    job.line = line;
+    job.world = world;
+    job.red = red;
+    job.black = black;
+    job
+}
+
+// What came of a command.
+#[derive(Drop)]
+struct Outcome {
+    status: Status,
+    out: String,
+    err: String,
+}
+
+// The text that a sink holds.
+fn text_held(alloc: Global, sink: &MemSink) -> Result<String, Fail> {
+    Ok(String::from_str(alloc, str::from_utf8(sink.held())?)?)
+}
+
+// What came of a command with this status, whose output and errors went to these sinks.
+fn outcome_of(
+    alloc: Global,
+    status: Status,
+    out: &MemSink,
+    err: &MemSink,
+) -> Result<Outcome, Fail> {
+    let out = text_held(alloc, out)?;
+    let err = text_held(alloc, err)?;
+    Ok(Outcome { status, out, err })
+}
+
+// The words of a line, which has one space between them.
+fn split(alloc: Global, line: &str) -> Result<Vec<String>, Fail> {
+    let mut words = Vec::new(alloc);
+    push_words(alloc, line, &mut words)?;
+    Ok(words)
+}
+
+// Appends the words of a line to others.
+fn push_words(alloc: Global, line: &str, words: &mut Vec<String>) -> Result<(), Fail> {
+    for word in line.split_terminator(' ') {
+        words.push(String::from_str(alloc, word)?)?;
+    }
+    Ok(())
+}
+
+// A list of one call number.
+fn only(alloc: Global, number: u64) -> Result<Calls, Fail> {
+    let mut calls = Calls::new(alloc);
+    calls.add(number)?;
+    Ok(calls)
+}
+
+// Adds a file.
+fn add_file(files: &mut Files, name: &str, text: &str) -> Result<(), Fail> {
+    files.add(name, text.as_bytes())?;
+    Ok(())
+}
+
+// Adds the files of a command.
+fn add_files(files: &mut Files, job: &Job<'_>) -> Result<(), Fail> {
+    add_file(files, "w", job.world)?;
+    add_file(files, "-", job.world)?;
+    add_file(files, "r", job.red)?;
+    add_file(files, "b", job.black)?;
+    add_file(files, "k", job.breaks)?;
+    for (name, text) in job.more {
+        add_file(files, name, text)?;
+    }
+    Ok(())
+}
+
+// The files of a command.
+fn files_of(alloc: Global, job: &Job<'_>) -> Result<Files, Fail> {
+    let mut files = Files::new(alloc);
+    add_files(&mut files, job)?;
+    Ok(files)
+}
+
+// Carries out a command.
+fn answer<R: Threads + Wait + Sync>(rt: &R, alloc: Global, job: &Job<'_>) -> Result<Outcome, Fail> {
+    answer_over(rt, alloc, job, files_of(alloc, job)?, &NoGate)
+}
+
+// Carries out a command over these files, whose workers call this gate.
+fn answer_over<R: Threads + Wait + Sync, G: Gate>(
+    rt: &R,
+    alloc: Global,
+    job: &Job<'_>,
+    files: Files,
+    gate: &G,
+) -> Result<Outcome, Fail> {
+    let mut shelf = shelf_of(alloc, job, files)?;
+    answer_on(rt, alloc, job, &mut shelf, gate)
+}
+
+// The shelf of a command with these files.
+fn shelf_of(alloc: Global, job: &Job<'_>, files: Files) -> Result<MemShelf, Fail> {
+    let failing = only(alloc, job.failing_fetch)?;
+    Ok(MemShelf::new(files, failing))
+}
+
+// Carries out a command over the files of a shelf.
+fn answer_on<R: Threads + Wait + Sync, G: Gate>(
+    rt: &R,
+    alloc: Global,
+    job: &Job<'_>,
+    shelf: &mut MemShelf,
+    gate: &G,
+) -> Result<Outcome, Fail> {
+    let words = split(alloc, job.line)?;
+    answer_from(rt, alloc, job, &words, shelf, gate)
+}
+
+// Carries out the command of these words over the files of a shelf.
+fn answer_from<R: Threads + Wait + Sync, G: Gate>(
+    rt: &R,
+    alloc: Global,
+    job: &Job<'_>,
+    words: &[String],
+    shelf: &mut MemShelf,
+    gate: &G,
+) -> Result<Outcome, Fail> {
+    let mut out = MemSink::with_room(alloc, job.room, only(alloc, job.failing_push)?)?;
+    let mut err = MemSink::with_room(alloc, job.err_room, Calls::new(alloc))?;
+    let status = run_ants(rt, alloc, words, shelf, &mut out, &mut err, gate);
+    outcome_of(alloc, status, &out, &err)
+}
+
+// A status, and what the output and the errors got.
+#[derive(Clone, Copy, Debug, PartialEq, Eq)]
+struct Ending<'t> {
+    status: Status,
+    out: &'t str,
+    err: &'t str,
+}
+
+// A command that is done, and wrote this text.
+fn done(text: &str) -> Ending<'_> {
+    Ending {
+        status: Status::Done,
+        out: text,
+        err: "",
+    }
+}
+
+// A command that stopped with this line, and wrote nothing.
+fn stopped(status: Status, line: &str) -> Ending<'_> {
+    Ending {
+        status,
+        out: "",
+        err: line,
+    }
+}
+
+// A command that is done and wrote this text, or stopped with it as its line.
+fn ending_with(status: Status, text: &str) -> Ending<'_> {
+    match status {
+        Status::Done => done(text),
+        _ => stopped(status, text),
+    }
+}
+
+// A command whose output failed after a prefix of the text.
+fn cut<'t>(front: &'t str, line: &'t str) -> Ending<'t> {
+    Ending {
+        status: Status::Write,
+        out: front,
+        err: line,
+    }
+}
+
+// How a command ended.
+fn ending_of(outcome: &Outcome) -> Ending<'_> {
+    Ending {
+        status: outcome.status,
+        out: &outcome.out,
+        err: &outcome.err,
+    }
+}
+
+// Asserts what comes of a command.
+fn check<R: Threads + Wait + Sync + Abort>(
+    rt: &R,
+    alloc: Global,
+    job: &Job<'_>,
+    wanted: Ending<'_>,
+) -> Result<(), Fail> {
+    check_by(rt, alloc, job, &NoGate, wanted)
+}
+
+// Asserts what comes of a command whose workers call this gate.
+fn check_by<R: Threads + Wait + Sync + Abort, G: Gate>(
+    rt: &R,
+    alloc: Global,
+    job: &Job<'_>,
+    gate: &G,
+    wanted: Ending<'_>,
+) -> Result<(), Fail> {
+    check_over(rt, alloc, job, files_of(alloc, job)?, gate, wanted)
+}
+
+// Asserts what comes of a command over these files, whose workers call this gate.
+fn check_over<R: Threads + Wait + Sync + Abort, G: Gate>(
+    rt: &R,
+    alloc: Global,
+    job: &Job<'_>,
+    files: Files,
+    gate: &G,
+    wanted: Ending<'_>,
+) -> Result<(), Fail> {
+    let outcome = answer_over(rt, alloc, job, files, gate)?;
+    check_ending(rt, job, ending_of(&outcome), wanted);
+    Ok(())
+}
+
+// Asserts how a command ended.
+fn check_ending<R: Abort>(rt: &R, job: &Job<'_>, ending: Ending<'_>, wanted: Ending<'_>) {
+    assert_eq!(rt; ending, wanted, "at {job:?}");
+}
+
+// How a text begins, some of its lines in their order, others between them, and how it ends.
+#[derive(Clone, Copy, Debug)]
+struct Told<'t> {
+    start: &'t str,
+    lines: &'t str,
+    end: &'t str,
+}
+
+// Whether the lines of `wanted` are lines of `text`, in this order, others between them.
+fn has_lines(text: &str, wanted: &str) -> bool {
+    let mut lines = text.split('\n');
+    for line in wanted.split_terminator('\n') {
+        if !lines.any(|other| other == line) {
+            return false;
+        }
+    }
+    true
+}
+
+// Whether a text is told so.
+fn is_told(text: &str, told: &Told<'_>) -> bool {
+    if !text.starts_with(told.start) {
+        return false;
+    }
+    if !text.ends_with(told.end) {
+        return false;
+    }
+    has_lines(text, told.lines)
+}
+
+// Asserts that a command is done, and how its text is told.
+fn check_text<R: Threads + Wait + Sync + Abort>(
+    rt: &R,
+    alloc: Global,
+    job: &Job<'_>,
+    told: &Told<'_>,
+) -> Result<(), Fail> {
+    let outcome = answer(rt, alloc, job)?;
+    check_told(rt, job, ending_of(&outcome), told);
+    Ok(())
+}
+
+// Asserts that a command that ended so is done, and how its text is told.
+fn check_told<R: Abort>(rt: &R, job: &Job<'_>, ending: Ending<'_>, told: &Told<'_>) {
+    check_ending(rt, job, ending, done(ending.out));
+    assert!(rt; is_told(ending.out, told), "{told:?} of {job:?}");
+}
+
+// What the rows of a table vary of a command.
+#[derive(Clone, Copy)]
+enum Given {
+    Line,
+    World,
+    Red,
+    Black,
+    Breaks,
+}
+
+impl<'t> Job<'t> {
+    // The command with this text in one of its places.
+    fn with(&self, given: Given, text: &'t str) -> Job<'t> {
+        let mut job = *self;
+        match given {
+            Given::Line => job.line = text,
+            Given::World => job.world = text,
+            Given::Red => job.red = text,
+            Given::Black => job.black = text,
+            Given::Breaks => job.breaks = text,
+        }
+        job
+    }
+}
+
+// Asserts what comes of a command with this text in one of its places.
+fn check_with<R: Threads + Wait + Sync + Abort>(
+    rt: &R,
+    alloc: Global,
+    job: &Job<'_>,
+    given: Given,
+    text: &str,
+    wanted: Ending<'_>,
+) -> Result<(), Fail> {
+    check(rt, alloc, &job.with(given, text), wanted)
+}
+
+// A table of rows: each has a text in one of the places of a command, and what the output gets at Done, and else the errors.
+#[derive(Clone, Copy)]
+struct Table<'t> {
+    job: Job<'t>,
+    given: Given,
+    status: Status,
+    rows: &'t [(&'t str, &'t str)],
+}
+
+// Asserts of each row of a table what comes of its command.
+fn check_rows<R: Threads + Wait + Sync + Abort>(
+    rt: &R,
+    alloc: Global,
+    table: &Table<'_>,
+) -> Result<(), Fail> {
+    for (text, wanted) in table.rows {
+        let ending = ending_with(table.status, wanted);
+        check_with(rt, alloc, &table.job, table.given, text, ending)?;
+    }
+    Ok(())
+}
+
+// Asserts of each row of each table what comes of its command.
+fn check_tables<R: Threads + Wait + Sync + Abort>(
+    rt: &R,
+    alloc: Global,
+    tables: &[Table<'_>],
+) -> Result<(), Fail> {
+    for table in tables {
+        check_rows(rt, alloc, table)?;
+    }
+    Ok(())
+}
+
+// A command whose output fails: what the output holds then, and the line that the errors got.
+#[derive(Clone, Copy)]
+struct CutRun<'t> {
+    job: Job<'t>,
+    held: &'t str,
+    line: &'t str,
+}
+
+// The text of a world whose cells are all of one kind but for the rim: so many in each of so many rows.
+fn walled(alloc: Global, cell: &str, cells: u16, height: u16) -> Result<String, Fail> {
+    let rows = rows_of(alloc, cell, cells, height)?;
+    let width = usize::from(cells) + 2;
+    framed(alloc, width, usize::from(height) + 2, &rows)
+}
+
+// The text of a world as wide and as high as this, with these rows between those of its rim.
+fn framed(alloc: Global, width: usize, height: usize, rows: &str) -> Result<String, Fail> {
+    let rim = "#".repeat(alloc, width)?;
+    Ok(format!(in alloc; "{width}\n{height}\n{rim}\n{rows}{rim}")?)
+}
+
+// So many rows of so many cells of one kind, each between two rocks.
+fn rows_of(alloc: Global, cell: &str, cells: u16, height: u16) -> Result<String, Fail> {
+    let row = row_of(alloc, cell, cells)?;
+    Ok(row.repeat(alloc, usize::from(height))?)
+}
+
+// A row of so many cells of one kind between two rocks.
+fn row_of(alloc: Global, cell: &str, cells: u16) -> Result<String, Fail> {
+    let inner = cell.repeat(alloc, usize::from(cells))?;
+    Ok(format!(in alloc; "#{inner}#\n")?)
+}
+
+// Asserts of each command that its output fails so.
+fn check_cuts<R: Threads + Wait + Sync + Abort>(
+    rt: &R,
+    alloc: Global,
+    cuts: &[CutRun<'_>],
+) -> Result<(), Fail> {
+    for it in cuts {
+        check(rt, alloc, &it.job, cut(it.held, it.line))?;
+    }
+    Ok(())
+}

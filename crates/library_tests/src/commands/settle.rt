@@ -1,0 +1,163 @@
+// A window of turns, settled by looks that were made at guesses.
+ghost use Rattle.std.specs.Prelude.{◌≡◌, ◌-◌, ◌≤◌, true, OnOk};
+ghost use Rattle.cell_world.specs.Grid.{world_of};
+ghost use Rattle.spec_record.specs.Guess.{guesses_of};
+ghost use Rattle.round_book.specs.Book.{CanBegin, IsSameWindow, StandsOn};
+
+use crate::commands::games::{Players, killing_field, killing_players};
+use cell_world::Part;
+use hex_geometry::{OutOfMemory, Pos};
+use round_book::{Book, Cause, Counts, Field, advance};
+use spec_record::{guesses, look};
+use std::alloc::Global;
+use std::process::Abort;
+use std::test::Fail;
+
+// Settles all turns of a window by looks at these guesses, and lists what became of each.
+fn settle_window(
+    book: &mut Book,
+    field: &Field<'_>,
+    guesses: &[u64],
+    causes: &mut Vec<Option<Cause>>,
+) -> Result<(), OutOfMemory>
+    requires stands { StandsOn field.now book.old }
+    requires first { book.old.next ≡ book.old.from }
+    requires guesses { guesses.now ≡ guesses_of field.now.minds (world_of field.now.world) field.now.place book.old.from book.old.from (book.old.to - book.old.from) }
+    ensures stands { OnOk result (StandsOn field.now book.new) }
+    ensures done { OnOk result (book.new.next ≡ book.new.to) }
+    ensures same { OnOk result (IsSameWindow book.old book.new) }
+{
+    for guess in guesses {
+        let id = book.next();
+        let look = look(field.world(), field.brains(), field.seed(), *guess, id);
+        let cause = advance(book, field, &look);
+        causes.push(cause)?;
+    }
+    Ok(())
+}
+
+// Plays a window by looks that are made one after another at guesses that were listed first, and lists what became of each.
+fn play_by_looks(
+    alloc: Global,
+    field: &mut Field<'_>,
+    from: u32,
+    to: u32,
+    causes: &mut Vec<Option<Cause>>,
+) -> Result<Counts, OutOfMemory>
+    requires { CanBegin field.old from to }
+{
+    let all = guesses(
+        alloc,
+        field.world(),
+        field.brains(),
+        field.place(),
+        from,
+        to,
+    )?;
+    let mut book = field.begin(alloc, from, to)?;
+    settle_window(&mut book, field, &all, causes)?;
+    Ok(field.finish(book))
+}
+
+// What became of the look at a turn of that game.
+#[derive(Clone, Copy, Debug, PartialEq, Eq)]
+enum Fate {
+    Taken,
+    // Redone, since the ant on (3, 3) is another, or in another mind.
+    OfTheKilled,
+    // Redone, since its random number is the one at place 0, where that at place 1 was guessed.
+    OfTheFlip,
+    Other,
+}
+
+// What became of a look.
+fn fate_of(cause: &Option<Cause>) -> Fate {
+    match cause {
+        None => Fate::Taken,
+        Some(
+            Cause::Part {
+                at: Pos { x: 3, y: 3 },
+                part: Part::Who | Part::Mind,
+            },
+        ) => Fate::OfTheKilled,
+        Some(
+            Cause::Place {
+                guessed: 1,
+                actual: 0,
+            },
+        ) => Fate::OfTheFlip,
+        Some(_) => Fate::Other,
+    }
+}
+
+// A black ant kills the red ant of id 2 in its turn, and the red ant of id 4 draws the number that was guessed to be that one's.
+const FATES: [Fate; 7] = [
+    Fate::Taken,
+    Fate::Taken,
+    Fate::OfTheKilled,
+    Fate::Taken,
+    Fate::OfTheFlip,
+    Fate::Taken,
+    Fate::Taken,
+];
+
+// Asserts what became of each look.
+fn check_fates<R: Abort>(rt: &R, causes: &[Option<Cause>], wanted: &[Fate]) {
+    assert_eq!(rt; causes.len(), wanted.len());
+    for (cause, fate) in causes.iter().zip(wanted) {
+        check_fate(rt, cause, *fate);
+    }
+}
+
+// Asserts what became of a look.
+fn check_fate<R: Abort>(rt: &R, cause: &Option<Cause>, wanted: Fate) {
+    assert_eq!(rt; fate_of(cause), wanted, "{cause:?}");
+}
+
+// Asserts that a field is that of seven ants, of which none has drawn a number.
+fn check_beginning<R: Abort>(rt: &R, field: &Field<'_>)
+    ensures ids { 7 ≤ field.now.world.ids }
+    ensures place { field.now.place ≡ 0 }
+{
+    assert!(rt; field.world().ant_count() >= 7);
+    assert!(rt; field.place() == 0);
+}
+
+// Settles the first round of a field of seven ants, and asserts its counts and what became of each look.
+fn check_settled<R: Abort>(
+    rt: &R,
+    alloc: Global,
+    field: &mut Field<'_>,
+    wanted: &[Fate],
+) -> Result<(), Fail>
+    requires whole { field.old.whole ≡ true }
+{
+    check_beginning(rt, field);
+    let mut causes = Vec::new(alloc);
+    let counts = play_by_looks(alloc, field, 0, 7, &mut causes)?;
+    assert_eq!(rt; (counts.taken(), counts.redone()), (5, 2));
+    check_fates(rt, &causes, wanted);
+    Ok(())
+}
+
+// Settles the round of these players in which the red ant dies, and asserts its counts and what became of each look.
+fn check_round_of<R: Abort>(
+    rt: &R,
+    alloc: Global,
+    players: &Players,
+    wanted: &[Fate],
+) -> Result<(), Fail> {
+    let mut field = killing_field(rt, alloc, players)?;
+    check_settled(rt, alloc, &mut field, wanted)
+}
+
+// The same of the players of that game.
+fn check_settling<R: Abort>(rt: &R, alloc: Global, wanted: &[Fate]) -> Result<(), Fail> {
+    let players = killing_players(rt, alloc)?;
+    check_round_of(rt, alloc, &players, wanted)
+}
+
+#[test]
+fn the_looks_of_a_killed_ant_and_of_the_next_flip_do_not_hold(rt: HostRuntime) -> Result<(), Fail> {
+    check_settling(&rt, rt.alloc(), &FATES)
+}

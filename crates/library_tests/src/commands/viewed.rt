@@ -1,0 +1,328 @@
+// The command `view`.
+use ant_commands::Status;
+use crate::commands::runs::{KILLED, NEIGHBOURS};
+use crate::commands::{
+    CLOSED, CLOSING, Ending, Given, Job, NO_JOB, Table, Told, check_rows, check_tables, check_text,
+    check_with, done, ending_with,
+};
+use std::alloc::Global;
+use std::process::Abort;
+use std::sync::Wait;
+use std::test::Fail;
+use std::thread::Threads;
+
+// The game in which the black ant 1 surrounds the red ant 2 in round 1, for five rounds; the red ants draw numbers, and the other black
+// ants stay where they are.
+const VIEW: Job<'static> = Job {
+    line: "view w r b k --seed 12345 --rounds 5",
+    world: CLOSING,
+    red: "Flip 2 0 0",
+    black: "Move 0 0",
+    ..NO_JOB
+};
+
+static VIEWING: Job<'static> = VIEW;
+
+// Breaks, each alone, and the second line of the view: the turn after which each first holds.
+const ALONE: [(&str, &str); 18] = [
+    ("Round 1", "stop: round 1, ant 0, break 1"),
+    ("Round 2", "stop: round 2, ant 0, break 1"),
+    ("Round 9", "no stop in 5 rounds"),
+    ("State Black 0", "stop: round 1, ant 0, break 1"),
+    ("State Red 0", "stop: round 1, ant 4, break 1"),
+    ("State Red 1", "no stop in 5 rounds"),
+    ("Stand Black 2 3", "stop: round 1, ant 1, break 1"),
+    ("Stand Red 2 3", "no stop in 5 rounds"),
+    ("Stand Black 7 6", "no stop in 5 rounds"),
+    ("Food 3 3 3", "stop: round 1, ant 1, break 1"),
+    ("Food 3 3 4", "no stop in 5 rounds"),
+    ("Food 1 1 0", "stop: round 1, ant 0, break 1"),
+    ("Food 4 2 0", "no stop in 5 rounds"),
+    ("Food 7 0 0", "no stop in 5 rounds"),
+    ("Killed 2", "stop: round 1, ant 1, break 1"),
+    ("Killed 7", "no stop in 5 rounds"),
+    ("Score Red 3", "stop: round 1, ant 1, break 1"),
+    ("Score Red 4", "no stop in 5 rounds"),
+];
+
+// Texts of several breaks or of none, and the second line of the view.
+const TOGETHER: [(&str, &str); 8] = [
+    (
+        "Score Red 3\nStand Black 2 3\n",
+        "stop: round 1, ant 1, break 1",
+    ),
+    (
+        "Stand Black 2 3\nScore Red 3\n",
+        "stop: round 1, ant 1, break 1",
+    ),
+    (
+        "Round 9\nKilled 2\nRound 1\n",
+        "stop: round 1, ant 0, break 3",
+    ),
+    (
+        "Round 9\nScore Black 1\nKilled 2\n",
+        "stop: round 1, ant 1, break 3",
+    ),
+    (
+        "; why did it die?\n\n\tKILLED 002 ; the red one\n",
+        "stop: round 1, ant 1, break 1",
+    ),
+    ("sTAND bLACK 2 3", "stop: round 1, ant 1, break 1"),
+    ("; nothing\n", "no stop in 5 rounds"),
+    ("", "no stop in 5 rounds"),
+];
+
+// Texts that are no breaks, and the line that names the first fault of each.
+const REFUSED: [(&str, &str); 14] = [
+    ("K", "ants: k: line 1: unknown word\n"),
+    ("Ki", "ants: k: line 1: unknown word\n"),
+    ("Kil", "ants: k: line 1: unknown word\n"),
+    ("Kill", "ants: k: line 1: unknown word\n"),
+    ("Kille", "ants: k: line 1: unknown word\n"),
+    ("Killed", "ants: k: line 1: missing token\n"),
+    ("Jump 1", "ants: k: line 1: unknown word\n"),
+    ("Food 1 2", "ants: k: line 1: missing token\n"),
+    ("Round x", "ants: k: line 1: bad number\n"),
+    ("Round 4294967296", "ants: k: line 1: bad number\n"),
+    ("Round 1 2", "ants: k: line 1: extra token\n"),
+    (
+        "Round 1\n;\nStand Green 1 1\nJump",
+        "ants: k: line 3: unknown word\n",
+    ),
+    ("Score 3", "ants: k: line 1: unknown word\n"),
+    ("Round \u{7f}", "ants: k: line 1: bad number\n"),
+];
+
+// Worlds and brains before a file of breaks that is at fault as well, and the line that names the first of both.
+const WORLDS: [(&str, &str); 2] = [
+    ("7\n6\n# # # # # # #\n # . .", "ants: w: row 1: short\n"),
+    ("7\n", "ants: w: bad height\n"),
+];
+
+const REDS: [(&str, &str); 2] = [
+    ("Flip 2 0", "ants: r: line 1: missing token\n"),
+    ("", "ants: r: no instruction\n"),
+];
+
+const BLACKS: [(&str, &str); 2] = [
+    ("Mov", "ants: b: line 1: unknown word\n"),
+    ("Move 0 1", "ants: b: line 1: no such state 1\n"),
+];
+
+// The view, whose breaks are at fault.
+const NO_BREAKS: Job<'static> = Job {
+    breaks: "Killed",
+    ..VIEW
+};
+
+// Files of a view that are at fault.
+static FAULTS: [Table<'static>; 4] = [
+    Table {
+        job: NO_BREAKS,
+        given: Given::World,
+        status: Status::Input,
+        rows: &WORLDS,
+    },
+    Table {
+        job: NO_BREAKS,
+        given: Given::Red,
+        status: Status::Input,
+        rows: &REDS,
+    },
+    Table {
+        job: NO_BREAKS,
+        given: Given::Black,
+        status: Status::Input,
+        rows: &BLACKS,
+    },
+    Table {
+        job: VIEW,
+        given: Given::Breaks,
+        status: Status::Input,
+        rows: &REFUSED,
+    },
+];
+
+#[test]
+fn a_file_of_a_view_at_fault_is_named_before_its_breaks(rt: HostRuntime) -> Result<(), Fail> {
+    check_tables(&rt, rt.alloc(), &FAULTS)
+}
+
+// The text of the view that stops at the death of the red ant: its cells are those of the dump after the same round.
+fn killed_view(alloc: Global) -> Result<String, Fail> {
+    let (_, dump) = KILLED.split_once("After round 1...\n").ok_or("no dump")?;
+    let (cells, _) = dump.split_once("\nscore").ok_or("no score")?;
+    Ok(format!(in alloc; "random seed: 12345\nstop: round 1, ant 1, break 1\n{cells}")?)
+}
+
+// The text of the view that doesn't stop.
+const NO_STOP: &str = "random seed: 12345\nno stop in 5 rounds\n";
+
+// Views that don't stop, of the game and of a world without ants, where no break holds.
+const NO_STOPS: [(&str, &str); 1] = [("Round 9", NO_STOP)];
+
+const NO_ANTS: [(&str, &str); 1] = [("Round 1\nFood 1 1 0\n", NO_STOP)];
+
+static UNSTOPPED: [Table<'static>; 2] = [
+    Table {
+        job: VIEW,
+        given: Given::Breaks,
+        status: Status::Done,
+        rows: &NO_STOPS,
+    },
+    Table {
+        job: Job {
+            world: "4\n4\n# # # #\n # . . #\n# . . #\n # # # #\n",
+            ..VIEW
+        },
+        given: Given::Breaks,
+        status: Status::Done,
+        rows: &NO_ANTS,
+    },
+];
+
+#[test]
+fn a_view_without_a_turn_at_which_a_break_holds_says_so(rt: HostRuntime) -> Result<(), Fail> {
+    check_tables(&rt, rt.alloc(), &UNSTOPPED)
+}
+
+// One red ant: it goes to state 3 where its first number leaves 0 modulo 7193 and the second leaves 0 modulo 2932, and else to state 2.
+const DRAWING: Job<'static> = Job {
+    world: CLOSED,
+    red: "Flip 7193 1 2\nFlip 2932 3 2\nDrop 2\nDrop 3",
+    black: "Drop 0",
+    breaks: "State Red 3\nState Red 2\n",
+    ..NO_JOB
+};
+
+// The numbers of seed 12345 begin 7193, 2932: it is in state 1 after round 1, in state 3 after round 2. The other seed is the state that follows
+// 12345, in its lowest 30 bits, so its numbers begin 2932: the ant is in state 2 after round 1.
+const DRAWN: [(&str, &str); 2] = [
+    (
+        "view w r b k --seed 12345 --rounds 5",
+        "random seed: 12345\nstop: round 2, ant 0, break 1\ncell (0, 0): rock\ncell (1, 0): rock\ncell (2, 0): rock\ncell (0, 1): rock\ncell (1, 1): red hill; red ant of id 0, dir 0, food 0, state 3, resting 0\ncell (2, 1): rock\ncell (0, 2): rock\ncell (1, 2): rock\ncell (2, 2): rock\n",
+    ),
+    (
+        "view w r b k --seed 1002789326 --rounds 5",
+        "random seed: 1002789326\nstop: round 1, ant 0, break 2\ncell (0, 0): rock\ncell (1, 0): rock\ncell (2, 0): rock\ncell (0, 1): rock\ncell (1, 1): red hill; red ant of id 0, dir 0, food 0, state 2, resting 0\ncell (2, 1): rock\ncell (0, 2): rock\ncell (1, 2): rock\ncell (2, 2): rock\n",
+    ),
+];
+
+static DRAWN_VIEWS: Table<'static> = Table {
+    job: DRAWING,
+    given: Given::Line,
+    status: Status::Done,
+    rows: &DRAWN,
+};
+
+// Red ant 2 steps beside black ant 3, which has five foes then, and red ant 6, which has four once that one is dead.
+const CONTEST: [(&str, &str); 1] = [("Killed 6", "random seed: 1\nno stop in 1 rounds\n")];
+
+static CONTEST_VIEW: Table<'static> = Table {
+    job: Job {
+        line: "view w r b k --seed 1 --rounds 1",
+        world: NEIGHBOURS,
+        red: "Move 0 0",
+        black: "Drop 0",
+        ..NO_JOB
+    },
+    given: Given::Breaks,
+    status: Status::Done,
+    rows: &CONTEST,
+};
+
+#[test]
+fn a_view_is_of_the_game_of_its_seed_by_the_contests_numbers(rt: HostRuntime) -> Result<(), Fail> {
+    check_rows(&rt, rt.alloc(), &DRAWN_VIEWS)?;
+    check_rows(&rt, rt.alloc(), &CONTEST_VIEW)
+}
+
+// Asserts the whole text of the view that stops at the death of the red ant.
+fn check_killed<R: Threads + Wait + Sync + Abort>(rt: &R, alloc: Global) -> Result<(), Fail> {
+    let text = killed_view(alloc)?;
+    let wanted = done(&text);
+    check_with(rt, alloc, &VIEWING, Given::Breaks, "Killed 2", wanted)
+}
+
+#[test]
+fn a_view_stops_after_the_first_turn_at_which_a_break_holds(rt: HostRuntime) -> Result<(), Fail> {
+    check_killed(&rt, rt.alloc())
+}
+
+// Asserts how the view with these breaks begins.
+fn check_start<R: Threads + Wait + Sync + Abort>(
+    rt: &R,
+    alloc: Global,
+    breaks: &str,
+    start: &str,
+) -> Result<(), Fail> {
+    let told = Told {
+        start,
+        lines: "",
+        end: "",
+    };
+    check_text(rt, alloc, &VIEWING.with(Given::Breaks, breaks), &told)
+}
+
+// Asserts the second line of the view with these breaks.
+fn check_stop<R: Threads + Wait + Sync + Abort>(
+    rt: &R,
+    alloc: Global,
+    breaks: &str,
+    wanted: &str,
+) -> Result<(), Fail> {
+    let start = format!(in alloc; "random seed: 12345\n{wanted}\n")?;
+    check_start(rt, alloc, breaks, &start)
+}
+
+// Asserts of each text of breaks the second line of its view.
+fn check_stops<R: Threads + Wait + Sync + Abort>(
+    rt: &R,
+    alloc: Global,
+    rows: &[(&str, &str)],
+) -> Result<(), Fail> {
+    for (breaks, wanted) in rows {
+        check_stop(rt, alloc, breaks, wanted)?;
+    }
+    Ok(())
+}
+
+#[test]
+fn each_kind_of_break_holds_when_it_says(rt: HostRuntime) -> Result<(), Fail> {
+    check_stops(&rt, rt.alloc(), &ALONE)?;
+    check_stops(&rt, rt.alloc(), &TOGETHER)
+}
+
+// How many breaks there are, and what comes of them.
+const MANY: [(usize, Status, &str); 2] = [
+    (256, Status::Done, NO_STOP),
+    (257, Status::Input, "ants: k: line 257: too many breaks\n"),
+];
+
+// Asserts what comes of so many breaks.
+fn check_many<R: Threads + Wait + Sync + Abort>(
+    rt: &R,
+    alloc: Global,
+    count: usize,
+    wanted: Ending<'_>,
+) -> Result<(), Fail> {
+    let breaks = "Round 9\n".repeat(alloc, count)?;
+    check_with(rt, alloc, &VIEWING, Given::Breaks, &breaks, wanted)
+}
+
+// Asserts of each row what comes of its breaks.
+fn check_numbers<R: Threads + Wait + Sync + Abort>(
+    rt: &R,
+    alloc: Global,
+    rows: &[(usize, Status, &str)],
+) -> Result<(), Fail> {
+    for (count, status, text) in rows {
+        check_many(rt, alloc, *count, ending_with(*status, text))?;
+    }
+    Ok(())
+}
+
+#[test]
+fn a_view_has_up_to_256_breaks(rt: HostRuntime) -> Result<(), Fail> {
+    check_numbers(&rt, rt.alloc(), &MANY)
+}

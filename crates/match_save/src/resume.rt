@@ -1,0 +1,95 @@
+// A saved game that goes on.
+ghost use Rattle.std.specs.Prelude.{◌≡◌, ◌-◌, ◌*◌, ◌≤◌, IfOk, OnOk, false};
+ghost use Rattle.cell_world.specs.Score.{score_of};
+ghost use Rattle.match_run.specs.Dumps.{chooses};
+ghost use Rattle.match_run.specs.Game.{RisesUpTo, counted_on, game_at_round};
+ghost use Rattle.match_run.specs.Play.{PushedBy};
+ghost use Rattle.match_run.specs.Run.{most_rounds};
+ghost use Rattle.match_save.specs.Resumed.{UnwrittenByMemory, field_of, later_world, resumed_text};
+ghost use Rattle.match_save.specs.Inner.Alone.{sequential_of};
+
+use crate::saved::Saved;
+use ant_base::Sink;
+use cell_world::Score;
+use hex_geometry::OutOfMemory;
+use match_run::{Dumps, Game, PlayFault, SequentialGame, play_on, play_on_alone};
+use round_book::{Crew, Field};
+use std::alloc::Global;
+
+/// Goes on with a saved game by any crew until so many rounds are done in all, and pushes the rest of its text: the dump after each later round
+/// that is chosen, in order, the score, and, where they are asked for, the counts of all rounds (this project's own). What was pushed before the
+/// save and this rest are together the text of the run that was never broken off: the law `saves_go_on`.
+///
+/// The rounds are at most 1,000,000, and at least those that are done. Gives the score at the end; the crew's count of turns has risen by that of
+/// the ids times the later rounds then, or stands at its last value. It is refused where the sink failed, whose count of faults rose then, and a
+/// prefix of the text was pushed; or it is out of memory, and a proper prefix was; the crew's count has risen by no more than that of the later
+/// rounds then. The save stays as it is.
+///
+/// Given the save of `examples/one_ant.save`, which is at round 1, rounds 1 and no counts it pushes an empty line and `score: red 0 black 0`. Given
+/// rounds 2, all dumps and counts it pushes the dump after round 2, that score, and `turns 2 taken 2 redone 0`.
+pub fn resume<C: Crew, K: Sink>(
+    alloc: Global,
+    crew: &mut C,
+    saved: &Saved,
+    rounds: u32,
+    dumps: &Dumps,
+    stats: bool,
+    sink: &mut K,
+) -> Result<Score, PlayFault>
+    requires ready { C.ready crew.old }
+    requires left { saved.now.round ≤ rounds }
+    requires few_rounds { rounds ≤ most_rounds }
+    ensures ready { C.ready crew.new }
+    ensures text { PushedBy (K.state sink.old) (K.state sink.new) (resumed_text saved.now rounds (chooses dumps.now) stats) result }
+    ensures score { IfOk result (λ s. s ≡ score_of (later_world saved.now (rounds - saved.now.round))) }
+    ensures turns { OnOk result (C.played crew.new ≡ counted_on (C.played crew.old) (saved.now.world.ids * (rounds - saved.now.round))) }
+    ensures rises { RisesUpTo (C.played crew.old) (C.played crew.new) (saved.now.world.ids * (rounds - saved.now.round)) }
+{
+    let mut game = game_of(alloc, saved)?;
+    play_on(alloc, crew, &mut game, rounds, dumps, stats, sink)
+}
+
+// The game that stands where a save does.
+fn game_of<'s>(alloc: Global, saved: &'s Saved) -> Result<Game<'s>, OutOfMemory>
+    ensures { IfOk result (λ game. game ≡ game_at_round (field_of saved.now) saved.now.window saved.now.round saved.now.totals) }
+{
+    let world = saved.world().copy(alloc)?;
+    let field = Field::new(alloc, world, saved.brains(), saved.seed(), saved.place())?;
+    Ok(Game::at_round(field, saved.window(), saved.round(), saved.totals()))
+}
+
+/// Goes on with a saved game, as `resume` does where no counts are asked for: it is just played, turn after turn, without looks (this project's
+/// own). Its text is the same, and takes no more memory than a copy of the saved world.
+///
+/// The rounds are at most 1,000,000, and at least those that are done. Gives the score at the end. It is refused where the sink failed, whose count
+/// of faults rose then, and a prefix of the text was pushed; or it is out of memory, and nothing was. The save stays as it is.
+pub fn resume_alone<K: Sink>(
+    alloc: Global,
+    saved: &Saved,
+    rounds: u32,
+    dumps: &Dumps,
+    sink: &mut K,
+) -> Result<Score, PlayFault>
+    requires left { saved.now.round ≤ rounds }
+    requires few_rounds { rounds ≤ most_rounds }
+    ensures text { PushedBy (K.state sink.old) (K.state sink.new) (resumed_text saved.now rounds (chooses dumps.now) false) result }
+    ensures unwritten { UnwrittenByMemory (K.state sink.old) (K.state sink.new) result }
+    ensures score { IfOk result (λ s. s ≡ score_of (later_world saved.now (rounds - saved.now.round))) }
+{
+    let mut game = sequential_of(alloc, saved)?;
+    Ok(play_on_alone(&mut game, rounds, dumps, sink)?)
+}
+
+// The game that stands where a save does, to be just played.
+fn sequential_of<'s>(alloc: Global, saved: &'s Saved) -> Result<SequentialGame<'s>, OutOfMemory>
+    ensures { IfOk result (λ game. game ≡ sequential_of saved.now) }
+{
+    let world = saved.world().copy(alloc)?;
+    Ok(SequentialGame::at_round(
+        world,
+        saved.brains(),
+        saved.seed(),
+        saved.place(),
+        saved.round(),
+    ))
+}
