@@ -1,7 +1,8 @@
-"""Worlds, brains and options of crowded games."""
+"""Worlds, brains and options of crowded games, and cases of commands that play such games."""
 from brains import fighting_lines
+from cases import Case, put_game, rounds_of_run, seed_and_rounds, shuffled, some_sheet
 from spelling import chance, spelled
-from worlds import world_text
+from worlds import grid, world_text
 
 TAKERS = [
     ['Move 1 1', 'PickUp 2 2', 'Drop 1'],
@@ -47,15 +48,12 @@ def crowded_cell(r, red, black):
 def put_fight(case, r, lively=.35):
     """Makes a crowded world and two brains files of the case, and tells their names.
 
-    With the probability `lively` one of the brains is of WALKERS and the other one of these or of TAKERS.
+    With the probability `lively` the brains are of TAKERS and WALKERS.
     """
     case.files['w'] = world_text(r, crowded_rows(r), False)
-    case.files['r'] = spelled(r, fighting_lines(r), 0)
-    case.files['b'] = spelled(r, fighting_lines(r), 0)
-    if chance(r, lively):
-        pair = r.choice(TAKERS + WALKERS), r.choice(WALKERS)
-        for name, lines in zip('rb' if chance(r, .5) else 'br', pair):
-            case.files[name] = spelled(r, lines, 0)
+    is_lively = chance(r, lively)
+    for name in 'rb':
+        case.files[name] = spelled(r, r.choice(TAKERS + WALKERS) if is_lively else fighting_lines(r), 0)
     return ['w', 'r', 'b']
 
 
@@ -71,3 +69,16 @@ def quick_options(r, rounds):
     options.append(['--surround', str(r.choice([4, 4, 4, 4, 5, 6]))])
     options.append(['--corpse', str(r.choice([0, 1, 3, 9]))])
     return options
+
+
+def case_of_game(r, word, crowded):
+    """A case of a command that plays a game by some sheet; with this probability its world is crowded."""
+    case = Case()
+    if chance(r, crowded):
+        case.words = [word] + put_fight(case, r, .8) + shuffled(r, quick_options(r, fighting_rounds(r)))
+        return case
+    rows = grid(r)
+    files = put_game(case, r, rows, .03)
+    options = seed_and_rounds(r, rounds_of_run(r, rows)) + some_sheet(r, [0, 0, 0, 1, 2, 14, 255], .6)
+    case.words = [word] + files + shuffled(r, options)
+    return case

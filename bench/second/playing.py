@@ -6,6 +6,7 @@ import shutil
 import subprocess
 
 from kinds import HERE
+from saves import with_brains
 
 SECONDS = 100  # that a program has for a case
 
@@ -29,7 +30,7 @@ def run(program, case, folder):
         if done.status != 0:
             break
         with open(os.path.join(folder, 'printed'), 'wb') as file:
-            file.write(done.text)
+            file.write(with_brains(done.text, case.brains))
         done = run_once(program, words, case, folder)
         texts.append(done.text)
     return done._replace(text=b'\0'.join(texts))

@@ -1,4 +1,5 @@
 """Random cases of `advance`."""
+from brains import brain_lines
 from cases import ROUNDS, WORKERS, Case, put, put_game, rounds_of_run, shuffled, some_workers
 from commands.resume import resume_options
 from commands.save import save_options
@@ -23,7 +24,7 @@ def advance_options(r, rounds):
 
 
 def chain(r, rounds):
-    """Commands that go on with a printed save of this round: they save it some times more, and may play it to its end."""
+    """Commands that go on with a printed save of this round: they save it again, and may play it to its end."""
     further = []
     for _ in range(r.choice([1, 1, 2, 3])):
         rounds = later(r, rounds)
@@ -46,6 +47,8 @@ def case_of_chain(r):
         files, options = put_game(case, r, rows, .02), save_options(r, rounds)
     case.words = ['save'] + files + options
     case.further = chain(r, int(rounds))
+    if chance(r, .3):  # brains that the ants' states most often fit
+        case.brains = {colour: brain_lines(r) + ['Drop 0'] * r.choice([0, 60]) for colour in ('red', 'black')}
     return case
 
 

@@ -1,9 +1,7 @@
 """Random cases of `events`."""
-from cases import SEED_AND_ROUNDS, SHEET, Case, put_game, rounds_of_run, seed_and_rounds, shuffled, some_sheet
-from fights import fighting_rounds, put_fight, quick_options
+from cases import SEED_AND_ROUNDS, SHEET
+from fights import case_of_game
 from kinds import command, kind
-from spelling import chance
-from worlds import grid
 
 command('events', heads=[['events', 'w', 'r', 'b']], limits={**SEED_AND_ROUNDS, **SHEET})
 
@@ -11,12 +9,4 @@ command('events', heads=[['events', 'w', 'r', 'b']], limits={**SEED_AND_ROUNDS, 
 @kind('events')
 def case_of_events(r):
     """`events`, most often of a crowded game."""
-    case = Case()
-    if chance(r, .75):
-        case.words = ['events'] + put_fight(case, r, .8) + shuffled(r, quick_options(r, fighting_rounds(r)))
-        return case
-    rows = grid(r)
-    files = put_game(case, r, rows, .03)
-    options = seed_and_rounds(r, rounds_of_run(r, rows)) + some_sheet(r, [0, 0, 0, 1, 2, 14, 255], .6)
-    case.words = ['events'] + files + shuffled(r, options)
-    return case
+    return case_of_game(r, 'events', .75)
