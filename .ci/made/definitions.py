@@ -69,7 +69,7 @@ class Module:
         self.path, self.file, self.definitions, self.constructors = path, file, {}, {}
         text = read(file)
         self.names, self.aliases = imports(text)
-        self.says = " ".join(re.match(r"((?:--.*\n)*)", text)[1].replace("--", "").split())
+        self.says = " ".join(re.sub(r"^-- ?", "", re.match(r"((?:--.*\n)*)", text)[1], flags=re.M).split())
         current, comment, inside = None, [], False
         for number, line in enumerate(text.split("\n"), 1):
             inside = line.startswith("module ") or inside
@@ -198,7 +198,7 @@ class Tree:
                 return found
             known = module.operators.get(name)
             if known:
-                return module.definitions.get(known) or self.resolve(*module.names[known], where=module.file) or known
+                return module.definitions.get(known) or self.resolve(*module.names[known], where=module.file) or name
         return None
 
     def type_named(self, it, name):
@@ -222,9 +222,9 @@ class Tree:
                 yield line[last: found.start()], None
             last = found.end()
             alias = getattr(getattr(it, "module", it), "aliases", {}).get(found["name"])
-            if alias:
-                member = re.match(r"\.(%s)" % WORD, line[last:])
-                yield found[0], self.resolve(alias, member[1] if member else found[0], it.file)
+            member = alias and re.match(r"\.(%s)" % WORD, line[last:])
+            if member:
+                yield found[0], self.resolve(alias, member[1], it.file)
             else:
                 yield found[0], self.lead(it, found[0], before) if found["name"] or found["sign"] else None
         yield line[last:], None

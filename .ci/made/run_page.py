@@ -36,7 +36,8 @@ def anchor(name):
 
 class RunPage:
     def __init__(self, tree):
-        self.tree, self.library, self.parts, self.also = tree, set(), [], []
+        self.tree, self.library, self.parts = tree, set(), []
+        self.told = dict(line.split(" | ", 1) for line in read(WORDS).split("\n") if line and not line.startswith("#"))
         lines = read(ORDER).split("\n")
         self.also = [it for line in lines if line.startswith("@also ") for it in self.listed(line[len("@also "):])]
         self.reached = [it for it in self.believed() if it not in self.also]
@@ -90,7 +91,7 @@ class RunPage:
                     made += '<b id="%s">%s</b>' % (self.place(it), html.escape(text))
                     named = True
                 else:
-                    made += self.linked(text, to, before)
+                    made += self.linked(text, to, "" if isinstance(it, Call) else before)
                 before = text
             out.append(made)
         made = "\n".join(out)
@@ -105,6 +106,8 @@ class RunPage:
         if before.endswith("."):
             owners = [it for it in self.reached if it.shape in ("record", "type") and text in it.members()]
             to = owners[0] if len(owners) == 1 else None
+        if to is None and text in self.told and not text[0].isalnum():
+            to = text  # a sign of the language
         if isinstance(to, str):
             self.library.add(to)
             return '<a href="#word-%s">%s</a>' % (anchor(to), said)
@@ -118,11 +121,10 @@ class RunPage:
         return "%s-%s" % (it.crate, anchor(it.name))
 
     def table(self):
-        told = dict(line.split(" | ", 1) for line in read(WORDS).split("\n") if line and not line.startswith("#"))
-        told = {word.strip(): says for word, says in told.items()}
-        wrong = sorted(self.library ^ set(told))
-        if wrong:
-            raise Unknown("%s: a word that it lacks, or that the page doesn't have: %s" % (WORDS, " ".join(wrong)))
+        told = self.told
+        lacks, more = sorted(self.library - set(told)), sorted(set(told) - self.library)
+        if lacks or more:
+            raise Unknown("%s: lacks %s; has what the page doesn't: %s" % (WORDS, " ".join(lacks), " ".join(more)))
         rows = ['| <a id="word-%s"></a>`%s` | %s |' % (anchor(word), word.replace("|", "\\|"), told[word].replace("|", "\\|")) for word in sorted(told, key=lambda it: (it[0].isalpha(), it.lower()))]
         return "\n".join(["| word | what it is |", "|---|---|"] + rows)
 
