@@ -87,7 +87,7 @@ fn each_program_has_its_labels(rt: HostRuntime) -> Result<(), Fail> {
 }
 
 #[test]
-fn each_state_has_its_line(rt: HostRuntime) -> Result<(), Fail> {
+fn each_program_has_its_lines(rt: HostRuntime) -> Result<(), Fail> {
     for (text, lines) in LINES {
         assert!(rt; text.len() <= LONGEST);
         let states = read_state_lines(rt.alloc(), text.as_bytes()).expect(&rt, "it is a program");
