@@ -17,8 +17,8 @@ mod way_search;
 pub use comparison::{Comparison, Found};
 pub use hex_geometry::OutOfMemory;
 pub use laws::{
-    both_play_same, has_comparison, has_way, minimised_is_same, one_comparison, one_way, plays_same,
-    same_is_equivalence, same_is_not_apart, way_is_comparison, way_leads,
+    both_play_same, has_comparison, has_way, minimised_is_same, one_comparison, one_way,
+    plays_same, same_is_equivalence, same_is_not_apart, way_is_comparison, way_leads,
 };
 pub use search::compare;
 pub use way::{Step, Way};
