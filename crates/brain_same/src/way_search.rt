@@ -27,7 +27,7 @@ pub(crate) struct Reached {
 /// the least length it is the first, met before unmet from the first answer on (over the task's neurology). It is refused only when out of
 /// memory.
 ///
-/// It takes the time of `compare`. Each pair that was found is kept, at most 39,999 in 16 bytes each.
+/// It looks at the same pairs as `compare`, and keeps all that it found, at most 39,999 in 16 bytes each.
 pub fn compare_way(alloc: Global, first: &Brain, second: &Brain) -> Result<Way, OutOfMemory>
     ensures { IfOk result (λ way. IsWayComparison first.now second.now way.comparison way.steps.items) }
 {
