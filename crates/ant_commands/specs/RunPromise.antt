@@ -98,7 +98,7 @@ with_option (Corpse number) setup = record setup { sheet = record setup.sheet { 
 with_option (Rest number) setup = record setup { sheet = record setup.sheet { rest = number } }
 with_option option setup = setup
 
--- what options say; where none says otherwise, nothing is dumped and the rules are the contest's
+-- what options say; where none says otherwise, nothing is dumped and the rules are the contest's. The seed and the rounds are always said
 abbrev pub setup_said : List RunOption → GameSetup
 setup_said [] = record { seed = 0; rounds = 0; dumps = NoDump; sheet = contest }
 setup_said (option ∷ options) = with_option option (setup_said options)
@@ -111,8 +111,8 @@ pub record IsRunOf (words : List (List ℕ)) (world red black : List ℕ) (setup
   pub names : AllByRecursion (λ name. is_file_name name ≡ true) (world ∷ red ∷ black ∷ [])
   pub spelled : AreOptions options behind
   pub once : AllDiffer (map name_of options)
-  pub seeded : Contains options (Seed setup.seed)
-  pub limited : Contains options (Rounds setup.rounds)
+  pub seeded : Contains (map name_of options) (codes "--seed")
+  pub limited : Contains (map name_of options) (codes "--rounds")
   pub said : setup ≡ setup_said options
 
 -- a fetch: the name that was asked for, and what was answered
