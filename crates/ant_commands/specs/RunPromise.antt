@@ -10,7 +10,7 @@ use Rattle.ant_base.specs.Number.{decimal_value}
 use Rattle.ant_base.specs.Shelf.{FetchesEach}
 use Rattle.ant_base.specs.Sink.{NothingWaits, PushedAll, PushedFront, SinkState}
 use Rattle.ant_base.specs.declared.shelf.FetchFault.{FetchFault}
-use Rattle.ant_base.specs.declared.shelf.FetchFault.TheVariants.{Failed, TooLong, OutOfMemory}
+use Rattle.ant_base.specs.declared.shelf.FetchFault.TheVariants.{Failed, TooLong}
 use Rattle.ant_turn.specs.Sheet.{Sheet, contest}
 use Rattle.brain_read.specs.declared.instr.Instr.{Instr}
 use Rattle.brain_read.specs.Grammar.{IsBrainText}
@@ -190,14 +190,10 @@ pub record IsNotAccepted (world red black : List ℕ) (before after : Outside) :
   pub unwritten : after.out ≡ before.out
   pub line : HasLine before.err after.err (codes "ants: " +++ name +++ codes ": " +++ says +++ codes "\n")
 
--- bytes, or no memory for them
-abbrev pub IsGot : Result (List ℕ) FetchFault → Type 0
-IsGot (Ok bytes) = Unit {0}
-IsGot (Err fault) = fault ≡ OutOfMemory
-
--- 6: memory could not be had, before the text was begun or after a proper prefix of it
+-- 6: memory could not be had, before the text was begun or after a proper prefix of it; no fetch failed or was too long
 pub record WantsMemory (world red black : List ℕ) (setup : GameSetup) (before after : Outside) : Type 0 where
-  pub stopped : ((after.out ≡ before.out) × (FetchesEach before.shelf after.shelf [] ⊎ StopsAt (λ IsText last answer. IsGot answer) world red black before after))
+  pub stopped : ((after.out ≡ before.out)
+      × (FetchesEach before.shelf after.shelf [] ⊎ StopsAt (λ IsText last answer. (answer ≢ Err Failed) × (answer ≢ Err TooLong)) world red black before after))
       ⊎ Plays PushedProperPrefix world red black setup before after
   pub line : HasLine before.err after.err (codes "ants: out of memory\n")
 
@@ -210,13 +206,9 @@ RunEnds world red black setup before after number =
     ⊎ ((number ≡ 5) × IsNotAccepted world red black before after)
     ⊎ ((number ≡ 6) × WantsMemory world red black setup before after)
 
--- some files and a setup of which the words are a `run`
-pub record IsSomeRun (words : List (List ℕ)) : Type 0 where
-  pub world : List ℕ
-  pub red : List ℕ
-  pub black : List ℕ
-  pub setup : GameSetup
-  pub is : IsRunOf words world red black setup
+-- the words are a `run` of some files with some setup
+abbrev pub IsSomeRun : List (List ℕ) → Type 0
+IsSomeRun words = (world : List ℕ) × (red : List ℕ) × (black : List ℕ) × (setup : GameSetup) × IsRunOf words world red black setup
 
 -- the promise of a run: it ends so; and whatever begins with `run` and is neither refused (status 2) nor has `--stats` is one
 pub record RunPromise : Type 0 where
