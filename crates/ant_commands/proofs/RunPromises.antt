@@ -6,7 +6,8 @@ use Rattle.std.proofs.lemmas.List.{append-nil, append_assoc}
 use Rattle.ant_base.specs.Fetched.{Fetched}
 use Rattle.ant_base.specs.Layout.{◌+++◌}
 use Rattle.ant_base.specs.Shelf.{FetchesEach, ShelfState}
-use Rattle.ant_base.specs.Sink.{PushedAll, PushedFront, SinkState}
+use Rattle.ant_base.specs.Sink.{Pushed, PushedAll, PushedFront, SinkState}
+use Rattle.ant_base.specs.declared.sink.Failed.{Failed}
 use Rattle.ant_base.specs.declared.shelf.FetchFault.{FetchFault}
 use Rattle.ant_base.specs.declared.shelf.FetchFault.TheVariants as why
 use Rattle.ant_turn.specs.Rounds.{start_of}
@@ -42,7 +43,7 @@ use Rattle.ant_commands.specs.RunPromise.{GameSetup, HasLine, IsBrain, IsCutOff,
 use Rattle.ant_commands.specs.Setups.{RunSetup, setup_of}
 use Rattle.ant_commands.specs.Verdict.{IsRefusedAs}
 use Rattle.ant_commands.proofs.Headlines.{headline}
-use Rattle.ant_commands.proofs.RunWords.{IsTold, among_words, game_said, run_of_form, told}
+use Rattle.ant_commands.proofs.RunWords.{IsTableRun, among_words, game_said, run_of_form, table_run}
 use Rattle.ant_commands.proofs.Texts.{never_both}
 
 -- what the options of a run say of its game
@@ -60,7 +61,7 @@ text_of_game setup read off =
 -- the line of a fault, or a prefix of it
 has_line : (err new_err : SinkState) (line : List ℕ) → GotLine err new_err line → HasLine err new_err line
 has_line err new_err line got = go got.0 got.1 where
-  go : (result : Result (Unit {0}) _) → _ → HasLine err new_err line
+  go : (result : Result (Unit {0}) Failed) → Pushed err new_err line result → HasLine err new_err line
   go (Ok _) pushed = inl pushed
   go (Err _) pushed = inr pushed
 
@@ -200,7 +201,7 @@ last_unfit : (kind : FileKind) (IsText : List ℕ → Type 0) → ((bytes : List
     → IsLast (λ IsText last answer. IsUnfit IsText answer (file_fault_text fault)) IsText other last
 last_unfit kind IsText reads other fault last is = go fault is where
   no_text : (fault : FileFault) → IsNoText (record { name = other; kind = kind }) last fault → IsLast (λ IsText last answer. IsUnfit IsText answer (file_fault_text fault)) IsText other last
-  no_text fault no = record { answer = Ok no.bytes; got = no.got; such = λ text. (let read = reads no.bytes text in never_both kind no.bytes read.0 fault read.1 no.refuses) }
+  no_text fault it = record { answer = Ok it.bytes; got = it.got; such = λ text. (let read = reads it.bytes text in never_both kind it.bytes read.0 fault read.1 it.refuses) }
 
   go : (fault : FileFault) → IsRefused (record { name = other; kind = kind }) last fault → IsLast (λ IsText last answer. IsUnfit IsText answer (file_fault_text fault)) IsText other last
   go TooLong is = record { answer = Err why.TooLong; got = is; such = (refl, refl) }
@@ -312,7 +313,7 @@ ends words before after number keeps is off =
           inr (inr (inl (four, cut_off world red black setup off before after it.fetches it.fetched (reason_of_run words before after AtOutput asked is it) it.line))))
       | inr (inr (inr (inr (inl five)))) ↦ elim (keeps.refused five) [
         | inl it ↦ inr (inr (inr (inl (five, not_accepted world red black setup off before after it.2.fetches it.2.fetched it.0 it.1 (reason_of_run words before after (AtInput it.0 it.1) asked is it.2) it.2.line))))
-        | inr it ↦ absurd (reason_of_run words before after (AtRoom it.0) asked is it.1).lacks
+        | inr it ↦ absurd ((reason_of_run words before after (AtRoom it.0) asked is it.1).lacks)
       ]
       | inr (inr (inr (inr (inr six)))) ↦ (let it = keeps.out_of_memory six in
           inr (inr (inr (inr (six, wants_memory world red black setup off before after it.fetches it.fetched (reason_of_run words before after AtMemory asked is it) it.line)))))
@@ -321,7 +322,7 @@ ends words before after number keeps is off =
 kept : (words : List (List ℕ)) (world red black : List ℕ) (setup : GameSetup) → IsRunOf words world red black setup
     → (before after : Outside) (number : ℕ) → IsRunTo words before after number → RunEnds world red black setup before after number
 kept words world red black setup is before after number run =
-    let it : IsTold words world red black setup = told words world red black setup is in
+    let it : IsTableRun words world red black setup = table_run words world red black setup is in
     let asked : PlainAsked = asked_in Run words in
     subst (λ (s : GameSetup). RunEnds world red black s before after number) it.said
     (subst (λ (b : List ℕ). RunEnds world red b (game_said asked) before after number) it.black_is

@@ -352,7 +352,7 @@ needs_two given seed rounds choice.States need = absurd (false≢true need)
 needs_two given seed rounds choice.Games need = absurd (false≢true need)
 
 -- the words are a command that says these names and this setup
-pub record IsTold (words : List (List ℕ)) (world red black : List ℕ) (setup : GameSetup) : Type 0 where
+pub record IsTableRun (words : List (List ℕ)) (world red black : List ℕ) (setup : GameSetup) : Type 0 where
   pub is : IsCommand words (asked_in Run words)
   pub world_is : (asked_in Run words).file 0 ≡ world
   pub red_is : (asked_in Run words).file 1 ≡ red
@@ -364,8 +364,8 @@ pub record IsTold (words : List (List ℕ)) (world red black : List ℕ) (setup 
 abbrev front_of : List ℕ → List ℕ → List ℕ → List (List (List ℕ))
 front_of world red black = (world ∷ []) ∷ (red ∷ []) ∷ (black ∷ []) ∷ []
 
-pub told : (words : List (List ℕ)) (world red black : List ℕ) (setup : GameSetup) → IsRunOf words world red black setup → IsTold words world red black setup
-told words world red black setup is =
+pub table_run : (words : List (List ℕ)) (world red black : List ℕ) (setup : GameSetup) → IsRunOf words world red black setup → IsTableRun words world red black setup
+table_run words world red black setup is =
     let given : List Given = given_of is.options is.behind is.spelled in
     let front : List (List (List ℕ)) = front_of world red black in
     let fit : FitAll (places_of Run) front = (is.names.0, (is.names.1.0, (is.names.1.1.0, tt))) in

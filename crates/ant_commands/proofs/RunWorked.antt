@@ -14,7 +14,7 @@ use Rattle.command_words.specs.declared.table.CommandKind.TheVariants.{Run}
 use Rattle.ant_commands.specs.Outside.{Outside}
 use Rattle.ant_commands.specs.RunPromise.{GameSetup, IsRunOf, IsUnfit, IsValue, IsWorld, RunEnds, RunOption, setup_said}
 use Rattle.ant_commands.specs.RunPromise.RunOption.{Seed, Rounds, Dump, Workers, Window, Surround, Corpse, Rest, Far}
-use Rattle.ant_commands.proofs.RunWords.{told}
+use Rattle.ant_commands.proofs.RunWords.{table_run}
 
 -- what all options say, in another order than that of the table
 pub all_said : setup_said (Far ∷ Rest 1 ∷ Corpse 2 ∷ Surround 6 ∷ Window 3 ∷ Workers 4 ∷ Dump EveryDump ∷ Rounds 5 ∷ Seed 7 ∷ [])
@@ -115,7 +115,7 @@ rounds_end (word ∷ other ∷ more) is = is
 
 -- words that no command line of a `run` is
 no_run : (words : List (List ℕ)) (number : ℕ) → read_of words ≡ Err number → (world red black : List ℕ) (setup : GameSetup) → ¬ IsRunOf words world red black setup
-no_run words number refused world red black setup is = read-none words number refused (asked_in Run words) (told words world red black setup is).is
+no_run words number refused world red black setup is = read-none words number refused (asked_in Run words) (table_run words world red black setup is).is
 
 -- an option that stands twice
 pub seed_twice : (world red black : List ℕ) (setup : GameSetup) → ¬ IsRunOf (words_of (codes "run w r b --seed 1 --rounds 2 --seed 1")) world red black setup
