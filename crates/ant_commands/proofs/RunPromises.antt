@@ -239,62 +239,75 @@ begun_stops (file ∷ list) (fetch ∷ fetches) (inr later) = elim (begun_stops 
   | inr rest ↦ inr (inr (later.0, later.1, rest))
 ]
 
--- the promise of each reason
-module _ (world red black : List ℕ) (setup : RunSetup) (off : setup.stats ≡ false) (before after : Outside) (fetches : List Fetched) (fetched : FetchesEach before.shelf after.shelf fetches) where
-  unread : (name : List ℕ) → StopsFor (run_job world red black setup) before after fetches (AtFile name) → GotLine before.err after.err (fault_line (AtFile name)) → IsUnread world red black before after
-  unfolding fault_line
-  unread name stopped line = record {
-    name = name;
-    stopped = stops (IsUnsure before.shelf name) (λ IsText last answer. (last ≡ name) × (answer ≡ Err why.Failed)) (last_unsure before.shelf name WorldFile IsWorld) (last_unsure before.shelf name BrainFile IsBrain)
-        world red black before after fetches fetched stopped.stopped;
-    unsure = never_sure before.shelf name (game_files world red black) fetches stopped.stopped;
-    rose = stopped.rose;
-    unwritten = stopped.unwritten;
-    line = subst (HasLine before.err after.err) (ap (λ (says : List ℕ). codes "ants: " +++ says) (append_assoc name (codes ": not read") (codes "\n"))) (has_line before.err after.err (fault_line (AtFile name)) line);
-  }
+-- a run that stopped for a reason
+record HasStopped (world red black : List ℕ) (setup : RunSetup) (before after : Outside) (reason : Reason) : Type 0 where
+  fetches : List Fetched
+  fetched : FetchesEach before.shelf after.shelf fetches
+  stopped : StopsFor (run_job world red black setup) before after fetches reason
+  line : GotLine before.err after.err (fault_line reason)
 
-  cut_off : StopsFor (run_job world red black setup) before after fetches AtOutput → GotLine before.err after.err (fault_line AtOutput) → IsCutOff world red black (game_of setup) before after
-  unfolding fault_line
-  cut_off stopped line = record {
-    plays = plays PushedFront world red black setup before after fetches stopped.contents stopped.text fetched stopped.accepted stopped.is_text off stopped.cut;
-    line = has_line before.err after.err (fault_line AtOutput) line;
-  }
+unread : (world red black : List ℕ) (setup : RunSetup) (before after : Outside) (name : List ℕ) → HasStopped world red black setup before after (AtFile name) → IsUnread world red black before after
+unfolding fault_line
+unread world red black setup before after name it = record {
+  name = name;
+  stopped = stops (IsUnsure before.shelf name) (λ IsText last answer. (last ≡ name) × (answer ≡ Err why.Failed)) (last_unsure before.shelf name WorldFile IsWorld) (last_unsure before.shelf name BrainFile IsBrain)
+      world red black before after it.fetches it.fetched it.stopped.stopped;
+  unsure = never_sure before.shelf name (game_files world red black) it.fetches it.stopped.stopped;
+  rose = it.stopped.rose;
+  unwritten = it.stopped.unwritten;
+  line = subst (HasLine before.err after.err) (ap (λ (says : List ℕ). codes "ants: " +++ says) (append_assoc name (codes ": not read") (codes "\n"))) (has_line before.err after.err (fault_line (AtFile name)) it.line);
+}
 
-  not_accepted : (name : List ℕ) (fault : FileFault) → StopsFor (run_job world red black setup) before after fetches (AtInput name fault) → GotLine before.err after.err (fault_line (AtInput name fault))
-      → IsNotAccepted world red black before after
-  unfolding fault_line
-  not_accepted name fault stopped line = record {
-    name = name;
-    says = file_fault_text fault;
-    stopped = stops (IsRefusedAs name fault) (λ IsText last answer. (last ≡ name) × IsUnfit IsText answer (file_fault_text fault))
-        (λ other last. last_refused WorldFile IsWorld read_world name other fault last) (λ other last. last_refused BrainFile IsBrain read_brain name other fault last)
-        world red black before after fetches fetched stopped.stopped;
-    unwritten = stopped.unwritten;
-    line = subst (HasLine before.err after.err) (ap (λ (says : List ℕ). codes "ants: " +++ says) (append_assoc name (codes ": " +++ file_fault_text fault) (codes "\n"))) (has_line before.err after.err (fault_line (AtInput name fault)) line);
-  }
+cut_off : (world red black : List ℕ) (setup : RunSetup) (before after : Outside) → setup.stats ≡ false → HasStopped world red black setup before after AtOutput
+    → IsCutOff world red black (game_of setup) before after
+unfolding fault_line
+cut_off world red black setup before after off it = record {
+  plays = plays PushedFront world red black setup before after it.fetches it.stopped.contents it.stopped.text it.fetched it.stopped.accepted it.stopped.is_text off it.stopped.cut;
+  line = has_line before.err after.err (fault_line AtOutput) it.line;
+}
 
-  wants_memory : StopsFor (run_job world red black setup) before after fetches AtMemory → GotLine before.err after.err (fault_line AtMemory) → WantsMemory world red black (game_of setup) before after
-  unfolding fault_line
-  wants_memory (inl unbegun) line = record {
-    stopped = inl (
+not_accepted : (world red black : List ℕ) (setup : RunSetup) (before after : Outside) (name : List ℕ) (fault : FileFault) → HasStopped world red black setup before after (AtInput name fault)
+    → IsNotAccepted world red black before after
+unfolding fault_line
+not_accepted world red black setup before after name fault it = record {
+  name = name;
+  says = file_fault_text fault;
+  stopped = stops (IsRefusedAs name fault) (λ IsText last answer. (last ≡ name) × IsUnfit IsText answer (file_fault_text fault))
+      (λ other last. last_refused WorldFile IsWorld read_world name other fault last) (λ other last. last_refused BrainFile IsBrain read_brain name other fault last)
+      world red black before after it.fetches it.fetched it.stopped.stopped;
+  unwritten = it.stopped.unwritten;
+  line = subst (HasLine before.err after.err) (ap (λ (says : List ℕ). codes "ants: " +++ says) (append_assoc name (codes ": " +++ file_fault_text fault) (codes "\n")))
+      (has_line before.err after.err (fault_line (AtInput name fault)) it.line);
+}
+
+-- memory was wanting before the text was begun, or after a proper prefix of it
+wants_memory : (world red black : List ℕ) (setup : RunSetup) (before after : Outside) → setup.stats ≡ false → HasStopped world red black setup before after AtMemory
+    → WantsMemory world red black (game_of setup) before after
+unfolding fault_line
+wants_memory world red black setup before after off it = record {
+  stopped = elim it.stopped [
+    | inl unbegun ↦ inl (
       unbegun.unwritten,
-      elim (begun_stops (game_files world red black) fetches unbegun.begun) [
-        | inl none ↦ inl (subst (FetchesEach before.shelf after.shelf) none fetched)
-        | inr at ↦ inr (stops IsFetched (λ IsText last answer. (answer ≢ Err why.Failed) × (answer ≢ Err why.TooLong)) (last_got WorldFile IsWorld) (last_got BrainFile IsBrain) world red black before after fetches fetched at)
+      elim (begun_stops (game_files world red black) it.fetches unbegun.begun) [
+        | inl none ↦ inl (subst (FetchesEach before.shelf after.shelf) none it.fetched)
+        | inr at ↦ inr (stops IsFetched (λ IsText last answer. (answer ≢ Err why.Failed) × (answer ≢ Err why.TooLong)) (last_got WorldFile IsWorld) (last_got BrainFile IsBrain)
+            world red black before after it.fetches it.fetched at)
       ],
-    );
-    line = has_line before.err after.err (fault_line AtMemory) line;
-  }
-  wants_memory (inr broken) line = record {
-    stopped = inr (plays PushedProperPrefix world red black setup before after fetches broken.contents broken.text fetched broken.accepted broken.is_text off broken.broken);
-    line = has_line before.err after.err (fault_line AtMemory) line;
-  }
+    )
+    | inr broken ↦ inr (plays PushedProperPrefix world red black setup before after it.fetches broken.contents broken.text it.fetched broken.accepted broken.is_text off broken.broken)
+  ];
+  line = has_line before.err after.err (fault_line AtMemory) it.line;
+}
 
 -- what a command stopped for is what this run stopped for
-reason_of_run : (words : List (List ℕ)) (before after : Outside) (reason : Reason) (asked : PlainAsked) → IsCommand words asked → (it : NamesTheReason words before after reason)
-    → StopsFor (job_of asked) before after it.fetches reason
-reason_of_run words before after reason asked is it =
-    subst (λ (command : PlainAsked). StopsFor (job_of command) before after it.fetches reason) (words_laws.one_command words it.command asked it.is_command is) it.stopped
+has_stopped : (words : List (List ℕ)) (before after : Outside) (reason : Reason) → IsCommand words (asked_in Run words) → NamesTheReason words before after reason
+    → HasStopped ((asked_in Run words).file 0) ((asked_in Run words).file 1) ((asked_in Run words).file 2) (setup_of (asked_in Run words)) before after reason
+has_stopped words before after reason is it = record {
+  fetches = it.fetches;
+  fetched = it.fetched;
+  stopped = subst (λ (command : PlainAsked). StopsFor (job_of command) before after it.fetches reason) (words_laws.one_command words it.command (asked_in Run words) it.is_command is) it.stopped;
+  line = it.line;
+}
 
 ends : (words : List (List ℕ)) (before after : Outside) (number : ℕ) → KeepsPromise words before after number → IsCommand words (asked_in Run words) → (asked_in Run words).has choice.Stats ≡ false
     → RunEnds ((asked_in Run words).file 0) ((asked_in Run words).file 1) ((asked_in Run words).file 2) (game_said (asked_in Run words)) before after number
@@ -308,15 +321,13 @@ ends words before after number keeps is off =
       | inl zero ↦ inl (zero, printed world red black setup before after off (keeps.game zero asked is refl).0)
       | inr (inl two) ↦ absurd ((keeps.no_command two).none asked is)
       | inr (inr (inl three)) ↦ (let it = keeps.not_read three in
-          inr (inl (three, unread world red black setup off before after it.1.fetches it.1.fetched it.0 (reason_of_run words before after (AtFile it.0) asked is it.1) it.1.line)))
-      | inr (inr (inr (inl four))) ↦ (let it = keeps.output_failed four in
-          inr (inr (inl (four, cut_off world red black setup off before after it.fetches it.fetched (reason_of_run words before after AtOutput asked is it) it.line))))
+          inr (inl (three, unread world red black setup before after it.0 (has_stopped words before after (AtFile it.0) is it.1))))
+      | inr (inr (inr (inl four))) ↦ inr (inr (inl (four, cut_off world red black setup before after off (has_stopped words before after AtOutput is (keeps.output_failed four)))))
       | inr (inr (inr (inr (inl five)))) ↦ elim (keeps.refused five) [
-        | inl it ↦ inr (inr (inr (inl (five, not_accepted world red black setup off before after it.2.fetches it.2.fetched it.0 it.1 (reason_of_run words before after (AtInput it.0 it.1) asked is it.2) it.2.line))))
-        | inr it ↦ absurd ((reason_of_run words before after (AtRoom it.0) asked is it.1).lacks)
+        | inl it ↦ inr (inr (inr (inl (five, not_accepted world red black setup before after it.0 it.1 (has_stopped words before after (AtInput it.0 it.1) is it.2)))))
+        | inr it ↦ absurd ((has_stopped words before after (AtRoom it.0) is it.1).stopped.lacks)
       ]
-      | inr (inr (inr (inr (inr six)))) ↦ (let it = keeps.out_of_memory six in
-          inr (inr (inr (inr (six, wants_memory world red black setup off before after it.fetches it.fetched (reason_of_run words before after AtMemory asked is it) it.line)))))
+      | inr (inr (inr (inr (inr six)))) ↦ inr (inr (inr (inr (six, wants_memory world red black setup before after off (has_stopped words before after AtMemory is (keeps.out_of_memory six))))))
     ]
 
 kept : (words : List (List ℕ)) (world red black : List ℕ) (setup : GameSetup) → IsRunOf words world red black setup
