@@ -17,7 +17,7 @@ use Rattle.command_words.proofs.TableLemmas.{command_kind_of-word}
 use Rattle.command_words.proofs.WordLaws as words_laws
 use Rattle.command_words.specs.Command.{IsCommand, IsCommandOf, IsGiven, PlainAsked, asked_in, given_words, joined}
 use Rattle.command_words.specs.Inner.Walk.{command_kind_of}
-use Rattle.command_words.specs.Table.{word_of}
+use Rattle.command_words.specs.Table.{option_of, word_of}
 use Rattle.command_words.specs.declared.table.CommandKind.{CommandKind}
 use Rattle.command_words.specs.declared.table.CommandKind.TheVariants.{Run}
 use Rattle.command_words.specs.declared.table.Choice.TheVariants as choice
@@ -366,7 +366,7 @@ every words before after number run other uncounted =
     let rest : words ≡ joined is.front ++ flat_map given_words is.given = (let whole = is.form.whole in cc) in
     let kind : is.kind ≡ Run = run_begins is.kind (command_kind_of-word is.kind is.form.known) begins in
     run_of_form is.front is.given (codes "run" ∷ words) (subst (λ (k : CommandKind). IsCommandOf k is.front is.given (codes "run" ∷ words)) kind is.form)
-    (λ has. uncounted (subst (λ (ws : List (List ℕ)). Contains ws (codes "--stats")) (sym rest) (among_words (joined is.front) is.given choice.Stats has)))
+    (λ has. uncounted (subst (λ (ws : List (List ℕ)). Contains ws (option_of choice.Stats)) (sym rest) (among_words (joined is.front) is.given choice.Stats has)))
 
 pub run_promise : RunPromise
 run_promise = record { kept = kept; every = every }
