@@ -297,12 +297,6 @@ module _ (first second : List Instr) where
     pub inside : at < length reached
     pub rest : (ways : List (List Bool)) (way : List Bool) → AreReached first second reached ways → slice_get ways place ≡ Some way → Rest reached at back ways way
 
-  pub Walks-start : (reached : List Reached) (place : ℕ) → place < length reached → Walks reached place place []
-  Walks-start reached place within = record {
-    inside = within;
-    rest = λ ways way are there. record { before = way; tail = []; there = there; whole = sym (append-nil way); told = λ it is. refl };
-  }
-
   -- one step more
   one_more : (reached : List Reached) (at : ℕ) (back : List Step) (ways : List (List Bool)) (way : List Bool) (it prior : Reached) → AreReached first second reached ways → (rest : Rest reached at back ways way) → 0 < at →
       slice_get reached at ≡ Some it → slice_get reached it.from ≡ Some prior → IsFrom ways at it rest.before → Rest reached it.from (back ++ step_of first second prior.pair.first prior.pair.second it.met ∷ []) ways way
