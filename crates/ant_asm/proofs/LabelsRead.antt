@@ -62,6 +62,10 @@ one-labels text a b first second =
 pub labels-fault : (text : List ℕ) (labels : List LabelState) → AreLabelsOf text labels → (fault : AsmFault) → IsAsmFault text fault → ⊥
 labels-fault text labels are fault wrong = never_both lines_decide text are.main fault are.is wrong
 
+-- so it has one list of where its instructions stand
+pub has-lines : (text : List ℕ) (main : Items) → IsAsmText text main → (lines : List StateLine) × AreStateLinesOf text lines
+has-lines text main is = (state_lines_of main (lines_said text), record { main = main; is = is; lines = lines_said text; said = text-said text main is; are = refl })
+
 pub one-lines : (text : List ℕ) (a b : List StateLine) → AreStateLinesOf text a → AreStateLinesOf text b → a ≡ b
 one-lines text a b first second =
     first.are ∙ ap₂ state_lines_of (one_program lines_decide text first.main second.main first.is second.is) (one-said (lines_with_tokens text) first.lines second.lines first.said second.said) ∙ sym second.are

@@ -14,6 +14,7 @@ use Rattle.ant_commands.specs.Jobs.{job_of}
 use Rattle.ant_commands.specs.Job.{IsJobText, Job, WritesInPlay, files_of}
 use Rattle.ant_base.specs.declared.push_fault.PushFault.{PushFault}
 use Rattle.ant_base.specs.declared.push_fault.PushFault.TheVariants as play
+use Rattle.game_tellings.specs.Pushes.{StoppedBefore}
 use Rattle.match_run.specs.Play.{PushedBy, PushedProperPrefix, StoppedBy}
 use Rattle.ant_commands.specs.declared.stop.FileFault.{FileFault}
 use Rattle.ant_commands.specs.declared.stop.FileFault.TheVariants.{TooLong, World, Brain, Breaks, Labelled, Save, AlreadyAt}
@@ -297,3 +298,10 @@ pub carries_wanting_later : {U : Type 0} (command : Job) (shelf new_shelf : Shel
     → ReadsFiles shelf new_shelf (files_of command) (Contents contents) → CarriesOut command shelf new_shelf out out (ending_of result)
 carries_wanting_later command shelf new_shelf out contents result same reads =
     carries_stop command shelf new_shelf out result stop.Memory same (reads_wanting shelf new_shelf (files_of command) contents reads)
+
+-- a command that answers with the fault of a telling, which has all its memory before it pushes
+pub carries_early : {U : Type 0} (command : Job) (shelf new_shelf : ShelfState) (out new_out : SinkState) (contents : List FileContent) (result : Result U CommandStop) (fault : PushFault) → IsErrAnd result (λ other. other ≡ stop_of fault)
+    → ReadsFiles shelf new_shelf (files_of command) (Contents contents) → (text : List ℕ) → IsJobText command contents text → StoppedBefore out new_out text fault → CarriesOut command shelf new_shelf out new_out (ending_of result)
+carries_early command shelf new_shelf out new_out contents result play.WriteFault same reads text is pushed = carries_failure command shelf new_shelf out new_out contents result same reads text is pushed
+carries_early command shelf new_shelf out new_out contents result play.OutOfMemory same reads text is kept =
+    subst (λ after. CarriesOut command shelf new_shelf out after (ending_of result)) (sym kept) (carries_wanting_later command shelf new_shelf out contents result same reads)
