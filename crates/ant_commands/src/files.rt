@@ -66,6 +66,7 @@ impl FileText for Breaks {
 
     ghost content = { BreakContent };
 
+    #[tactic(auto, using(crate::proofs::Texts::break_stops))]
     fn read<'w>(alloc: Global, name: &'w str, bytes: &[u8]) -> Result<Breaks, CommandStop<'w>> {
         match read_breaks(alloc, bytes) {
             Ok(breaks) => Ok(breaks),
