@@ -1,5 +1,5 @@
 -- Each `run` keeps its promise: what its status says follows from the law `headline`, and its words from the table.
-use Rattle.std.proofs.Common.{◌≡◌, ◌≢◌, ◌⊎◌, inl, inr, ℕ, Bool, true, false, List, [], ◌∷◌, ◌++◌, Option, Some, Result, Ok, Err, codes, refl, sym, ap, ◌∙◌, subst, lit<}
+use Rattle.std.proofs.Common.{◌≡◌, ◌≢◌, ◌⊎◌, inl, inr, ℕ, Bool, true, false, List, [], ◌∷◌, ◌++◌, Some, Result, Ok, Err, codes, refl, sym, ap, ◌∙◌, subst}
 use Rattle.std.specs.List.{Contains, flat_map}
 use Rattle.std.proofs.lemmas.Bool.{false≢true}
 use Rattle.std.proofs.lemmas.List.{append-nil, append_assoc}
@@ -11,11 +11,11 @@ use Rattle.ant_base.specs.declared.sink.Failed.{Failed}
 use Rattle.ant_base.specs.declared.shelf.FetchFault.{FetchFault}
 use Rattle.ant_base.specs.declared.shelf.FetchFault.TheVariants as why
 use Rattle.ant_turn.specs.Rounds.{start_of}
-use Rattle.cell_world.specs.Grid.{Grid, world_of}
+use Rattle.cell_world.specs.Grid.{world_of}
 use Rattle.command_words.proofs.SaidLemmas as said_laws
 use Rattle.command_words.proofs.TableLemmas.{command_kind_of-word}
 use Rattle.command_words.proofs.WordLaws as words_laws
-use Rattle.command_words.specs.Command.{IsCommand, IsCommandOf, IsGiven, PlainAsked, asked_in, given_words, joined}
+use Rattle.command_words.specs.Command.{IsCommand, IsCommandOf, PlainAsked, asked_in, given_words, joined}
 use Rattle.command_words.specs.Inner.Walk.{command_kind_of}
 use Rattle.command_words.specs.Table.{option_of, word_of}
 use Rattle.command_words.specs.declared.table.CommandKind.{CommandKind}
@@ -25,11 +25,10 @@ use Rattle.match_run.specs.Counts.{counts_text, totals_of, whole_text}
 use Rattle.match_run.specs.Play.{PushedProperPrefix}
 use Rattle.match_run.specs.Run.{run_text}
 use Rattle.ant_commands.specs.declared.stop.FileFault.{FileFault}
-use Rattle.ant_commands.specs.declared.stop.FileFault.TheVariants.{TooLong, World, Brain, Breaks, Labelled, Save, AlreadyAt}
 use Rattle.ant_commands.specs.Endings.{IsUnsure, StopsFor}
 use Rattle.ant_commands.specs.FaultLines.{Reason, fault_line, file_fault_text}
 use Rattle.ant_commands.specs.FaultLines.Reason.{AtFile, AtInput, AtMemory, AtOutput, AtRoom}
-use Rattle.ant_commands.specs.Files.{AreAccepted, AreBegun, File, FileContent, FileKind, IsAccepted, IsFetched, IsNoText, IsRefused, Reads}
+use Rattle.ant_commands.specs.Files.{AreAccepted, AreBegun, File, FileContent, FileKind, IsFetched, IsRefused, Reads}
 use Rattle.ant_commands.specs.Files.FileContent.{WorldContent, BrainContent, BreakContent, LabelledContent, LabelsContent, SaveContent}
 use Rattle.ant_commands.specs.Files.FileKind.{WorldFile, BrainFile}
 use Rattle.ant_commands.specs.Files as files
@@ -38,7 +37,7 @@ use Rattle.ant_commands.specs.Job.{IsJobText}
 use Rattle.ant_commands.specs.Jobs.{job_of, run_job}
 use Rattle.ant_commands.specs.Outputs.{ReadGame, brain_file, chosen_rounds, game_contents, game_files, match_output, minds_named, sheet_named, world_file}
 use Rattle.ant_commands.specs.Outside.{Outside}
-use Rattle.ant_commands.specs.Run.{GotLine, IsNoCommand, IsRunTo}
+use Rattle.ant_commands.specs.Run.{GotLine, IsRunTo}
 use Rattle.ant_commands.specs.RunPromise.{GameSetup, HasLine, IsBrain, IsCutOff, IsNotAccepted, IsPrinted, IsRunOf, IsSomeRun, IsUnfit, IsUnread, IsWorld, Plays, RefusedWords, RunEnds, RunPromise, StopsAt, WantsMemory, fetch, game_text}
 use Rattle.ant_commands.specs.Setups.{RunSetup, setup_of}
 use Rattle.ant_commands.specs.Verdict.{IsRefusedAs}
@@ -199,18 +198,9 @@ never_sure shelf name (file ∷ list) (fetch ∷ fetches) (inr later) = never_su
 last_unfit : (kind : FileKind) (IsText : List ℕ → Type 0) → ((bytes : List ℕ) → IsText bytes → (content : FileContent) × Reads kind bytes content)
     → (other : List ℕ) (fault : FileFault) (last : Fetched) → IsRefused (record { name = other; kind = kind }) last fault
     → IsLast (λ IsText last answer. IsUnfit IsText answer (file_fault_text fault)) IsText other last
-last_unfit kind IsText reads other fault last is = go fault is where
-  no_text : (fault : FileFault) → IsNoText (record { name = other; kind = kind }) last fault → IsLast (λ IsText last answer. IsUnfit IsText answer (file_fault_text fault)) IsText other last
-  no_text fault it = record { answer = Ok it.bytes; got = it.got; such = λ text. (let read = reads it.bytes text in never_both kind it.bytes read.0 fault read.1 it.refuses) }
-
-  go : (fault : FileFault) → IsRefused (record { name = other; kind = kind }) last fault → IsLast (λ IsText last answer. IsUnfit IsText answer (file_fault_text fault)) IsText other last
-  go TooLong is = record { answer = Err why.TooLong; got = is; such = (refl, refl) }
-  go (World fault) is = no_text (World fault) is
-  go (Brain fault) is = no_text (Brain fault) is
-  go (Breaks fault) is = no_text (Breaks fault) is
-  go (Labelled fault) is = no_text (Labelled fault) is
-  go (Save fault) is = no_text (Save fault) is
-  go (AlreadyAt round) is = no_text (AlreadyAt round) is
+last_unfit kind IsText reads other fault last (inl long) = record { answer = Err why.TooLong; got = long.1; such = (refl, ap file_fault_text long.0) }
+last_unfit kind IsText reads other fault last (inr it) =
+    record { answer = Ok it.bytes; got = it.got; such = λ text. (let read = reads it.bytes text in never_both kind it.bytes read.0 fault read.1 it.refuses) }
 
 last_refused : (kind : FileKind) (IsText : List ℕ → Type 0) → ((bytes : List ℕ) → IsText bytes → (content : FileContent) × Reads kind bytes content)
     → (name other : List ℕ) (fault : FileFault) (last : Fetched) → IsRefusedAs name fault (record { name = other; kind = kind }) last
