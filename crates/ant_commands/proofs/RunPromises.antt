@@ -331,6 +331,13 @@ kept words world red black setup is before after number run =
     (subst (λ (w : List ℕ). RunEnds w (asked.file 1) (asked.file 2) (game_said asked) before after number) it.world_is
     (ends words before after number (headline words before after number run) it.is it.uncounted))))
 
+-- both readings are that of the table
+one : (words : List (List ℕ)) (a b : IsSomeRun words) → (a.0 ≡ b.0) × (a.1 ≡ b.1) × (a.2 ≡ b.2) × (a.3 ≡ b.3)
+one words a b =
+    let x : IsTableRun words a.0 a.1 a.2 a.3 = table_run words a.0 a.1 a.2 a.3 a.4 in
+    let y : IsTableRun words b.0 b.1 b.2 b.3 = table_run words b.0 b.1 b.2 b.3 b.4 in
+    (sym x.world_is ∙ y.world_is, sym x.red_is ∙ y.red_is, sym x.black_is ∙ y.black_is, sym x.said ∙ y.said)
+
 -- words that weren't refused are a command
 commanded : (words : List (List ℕ)) (before after : Outside) (number : ℕ) → KeepsPromise words before after number → number ≢ 2 → (command : PlainAsked) × IsCommand words command
 commanded words before after number keeps other = elim keeps.no_other [
@@ -359,7 +366,7 @@ every words before after number run other uncounted =
     (λ has. uncounted (subst (λ (ws : List (List ℕ)). Contains ws (option_of choice.Stats)) (sym rest) (among_words (joined is.front) is.given choice.Stats has)))
 
 pub run_promise : RunPromise
-run_promise = record { kept = kept; every = every }
+run_promise = record { kept = kept; one = one; every = every }
 
 accepted : (words : List (List ℕ)) (asked : PlainAsked) → IsCommand words asked → asked.kind ≡ Run → asked.has choice.Stats ≡ false → IsSomeRun words
 accepted words asked is run off =
