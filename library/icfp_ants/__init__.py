@@ -14,12 +14,13 @@ beside it or around it, or in that of Python; else the one that the system finds
 call is an ImportError.
 """
 from ._brains import Difference, asm, brain, difference, gen, minimise, same
+from ._calling import Called, call
 from ._declared import VERSION as __version__
 from ._declared import Kind
 from ._games import Score, resume, run, save, score, scores, scores_of_pairs
 from ._library import Refused
 
 __all__ = [
-    "Difference", "Kind", "Refused", "Score", "__version__", "asm", "brain", "difference", "gen", "minimise", "resume", "run", "same", "save", "score",
-    "scores", "scores_of_pairs",
+    "Called", "Difference", "Kind", "Refused", "Score", "__version__", "asm", "brain", "call", "difference", "gen", "minimise", "resume", "run", "same", "save",
+    "score", "scores", "scores_of_pairs",
 ]

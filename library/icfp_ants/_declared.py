@@ -5,7 +5,9 @@ from ctypes import POINTER, c_char_p, c_size_t, c_uint32, c_uint64
 
 VERSION = "1.1.0"
 DONE = 0  # Done.
-NUMBER = 2  # A number is beyond its limits.
+UNREADABLE = 1  # What a call of the program is given can't be read: its words, or the names and sizes of its files.
+NUMBER = 2  # A number is beyond its limits; of a call of the program, its words are no command.
+NO_FILE = 3  # A file that the words of a call of the program name isn't there.
 NO_ROOM = 4  # The caller's room is too small.
 REFUSED = 5  # A text was refused, or an element of a generated world has no room.
 MEMORY = 6  # Memory could not be had.
@@ -77,4 +79,6 @@ FUNCTIONS = {
         POINTER(Fault), c_char_p, c_size_t],
     "ants_resume": [c_char_p, c_size_t, c_uint32, POINTER(c_uint32), c_size_t, c_char_p, c_size_t, POINTER(c_size_t), POINTER(Fault),
         c_char_p, c_size_t],
+    "ants_call": [c_char_p, c_size_t, c_char_p, c_size_t, POINTER(c_uint32), c_size_t, c_char_p, c_size_t, c_char_p, c_size_t,
+        POINTER(c_size_t), c_char_p, c_size_t, POINTER(c_size_t)],
 }

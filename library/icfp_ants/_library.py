@@ -122,13 +122,18 @@ def is_done(function: str, texts: Texts, *more: object) -> bool:
     return bool(status == _declared.DONE)
 
 
+def area_of(room: int) -> mmap.mmap:
+    """A room of so many bytes, at least 1, of which only those that are written take memory."""
+    try:
+        return mmap.mmap(-1, room, flags=mmap.MAP_PRIVATE | mmap.MAP_ANONYMOUS)
+    except OSError:
+        raise MemoryError("memory could not be had") from None
+
+
 def text_of(function: str, texts: Texts, *more: object, room: int = 1 << 16) -> str:
     """Calls a function that writes a text, once more where the text turns out to be longer than the room."""
     while True:
-        try:
-            area = mmap.mmap(-1, room, flags=mmap.MAP_PRIVATE | mmap.MAP_ANONYMOUS)
-        except OSError:
-            raise MemoryError("memory could not be had") from None
+        area = area_of(room)
         out, used = c_char.from_buffer(area), c_size_t()
         if is_done(function, texts, *more, byref(out), room, byref(used)):
             with memoryview(area) as view:

@@ -1,7 +1,7 @@
 -- The promise of one `run` without `--stats`, to be read from the top down: its words, its files, and what each exit status says (this project's
 -- own). The law `run_promise` says that each run of the program keeps it. `IsRunTo` is what the call that `main` makes ensures. The rules of the
 -- game, the texts of a world and of a brain, and what a shelf and a sink tell are definitions of other crates.
-use Rattle.std.specs.Prelude.{◌≡◌, ◌≢◌, ◌⊎◌, ℕ, ◌≤◌, true, false, ⊤, List, [], ◌∷◌, ◌++◌, map, Option, Some, Result, Ok, Err, codes}
+use Rattle.std.specs.Prelude.{◌≡◌, ◌≢◌, ◌⊎◌, ℕ, ◌≤◌, true, false, List, [], ◌∷◌, ◌++◌, map, Some, Result, Ok, Err, codes}
 use Rattle.std.specs.List.{AllByRecursion, AllZip, Contains}
 use Rattle.ant_base.specs.Faults.{Rose}
 use Rattle.ant_base.specs.Fetched.{Fetched}
@@ -10,7 +10,7 @@ use Rattle.ant_base.specs.Number.{decimal_value}
 use Rattle.ant_base.specs.Shelf.{FetchesEach}
 use Rattle.ant_base.specs.Sink.{NothingWaits, PushedAll, PushedFront, SinkState}
 use Rattle.ant_base.specs.declared.shelf.FetchFault.{FetchFault}
-use Rattle.ant_base.specs.declared.shelf.FetchFault.TheVariants.{Failed, TooLong, OutOfMemory}
+use Rattle.ant_base.specs.declared.shelf.FetchFault.TheVariants.{Failed, TooLong}
 use Rattle.ant_turn.specs.Sheet.{Sheet, contest}
 use Rattle.brain_read.specs.declared.instr.Instr.{Instr}
 use Rattle.brain_read.specs.Grammar.{IsBrainText}
@@ -98,7 +98,7 @@ with_option (Corpse number) setup = record setup { sheet = record setup.sheet { 
 with_option (Rest number) setup = record setup { sheet = record setup.sheet { rest = number } }
 with_option option setup = setup
 
--- what options say; where none says otherwise, nothing is dumped and the rules are the contest's
+-- what options say; where none says otherwise, nothing is dumped and the rules are the contest's. The seed and the rounds are always said
 abbrev pub setup_said : List RunOption → GameSetup
 setup_said [] = record { seed = 0; rounds = 0; dumps = NoDump; sheet = contest }
 setup_said (option ∷ options) = with_option option (setup_said options)
@@ -111,8 +111,8 @@ pub record IsRunOf (words : List (List ℕ)) (world red black : List ℕ) (setup
   pub names : AllByRecursion (λ name. is_file_name name ≡ true) (world ∷ red ∷ black ∷ [])
   pub spelled : AreOptions options behind
   pub once : AllDiffer (map name_of options)
-  pub seeded : Contains options (Seed setup.seed)
-  pub limited : Contains options (Rounds setup.rounds)
+  pub seeded : Contains (map name_of options) (codes "--seed")
+  pub limited : Contains (map name_of options) (codes "--rounds")
   pub said : setup ≡ setup_said options
 
 -- a fetch: the name that was asked for, and what was answered
@@ -190,14 +190,10 @@ pub record IsNotAccepted (world red black : List ℕ) (before after : Outside) :
   pub unwritten : after.out ≡ before.out
   pub line : HasLine before.err after.err (codes "ants: " +++ name +++ codes ": " +++ says +++ codes "\n")
 
--- bytes, or no memory for them
-abbrev pub IsGot : Result (List ℕ) FetchFault → Type 0
-IsGot (Ok bytes) = Unit {0}
-IsGot (Err fault) = fault ≡ OutOfMemory
-
--- 6: memory could not be had, before the text was begun or after a proper prefix of it
+-- 6: memory could not be had, before the text was begun or after a proper prefix of it; no fetch failed or was too long
 pub record WantsMemory (world red black : List ℕ) (setup : GameSetup) (before after : Outside) : Type 0 where
-  pub stopped : ((after.out ≡ before.out) × (FetchesEach before.shelf after.shelf [] ⊎ StopsAt (λ IsText last answer. IsGot answer) world red black before after))
+  pub stopped : ((after.out ≡ before.out)
+      × (FetchesEach before.shelf after.shelf [] ⊎ StopsAt (λ IsText last answer. (answer ≢ Err Failed) × (answer ≢ Err TooLong)) world red black before after))
       ⊎ Plays PushedProperPrefix world red black setup before after
   pub line : HasLine before.err after.err (codes "ants: out of memory\n")
 
@@ -210,18 +206,15 @@ RunEnds world red black setup before after number =
     ⊎ ((number ≡ 5) × IsNotAccepted world red black before after)
     ⊎ ((number ≡ 6) × WantsMemory world red black setup before after)
 
--- some files and a setup of which the words are a `run`
-pub record IsSomeRun (words : List (List ℕ)) : Type 0 where
-  pub world : List ℕ
-  pub red : List ℕ
-  pub black : List ℕ
-  pub setup : GameSetup
-  pub is : IsRunOf words world red black setup
+-- the words are a `run` of some files with some setup
+abbrev pub IsSomeRun : List (List ℕ) → Type 0
+IsSomeRun words = (world : List ℕ) × (red : List ℕ) × (black : List ℕ) × (setup : GameSetup) × IsRunOf words world red black setup
 
--- the promise of a run: it ends so; and whatever begins with `run` and is neither refused (status 2) nor has `--stats` is one
+-- the promise of a run: it ends so; words say at most one; and whatever begins with `run` and is neither refused (status 2) nor has `--stats` is one
 pub record RunPromise : Type 0 where
   pub kept : (words : List (List ℕ)) (world red black : List ℕ) (setup : GameSetup) → IsRunOf words world red black setup
       → (before after : Outside) (number : ℕ) → IsRunTo words before after number → RunEnds world red black setup before after number
+  pub one : (words : List (List ℕ)) (a b : IsSomeRun words) → (a.0 ≡ b.0) × (a.1 ≡ b.1) × (a.2 ≡ b.2) × (a.3 ≡ b.3)
   pub every : (words : List (List ℕ)) (before after : Outside) (number : ℕ) → IsRunTo (codes "run" ∷ words) before after number → number ≢ 2
       → ¬ Contains words (codes "--stats") → IsSomeRun (codes "run" ∷ words)
 

@@ -1,3 +1,6 @@
+mod EmptySinks
 mod FirstRefused
+mod GivenLemmas
 mod Overlaid
 mod Stops
+mod WorkedCalls

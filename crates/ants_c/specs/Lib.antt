@@ -1,11 +1,10 @@
+pub mod Called
 pub mod Numbers
 pub mod Played
-pub mod Readable
 pub mod Refused
 pub mod Rooms
 pub mod RoomSinks
 pub mod Saves
-pub mod Stops
 pub mod Texts
 pub mod Told
 pub mod Version
