@@ -352,18 +352,5 @@ class Memory(unittest.TestCase):
         self.assertEqual(printed, "ants %s\n" % icfp_ants.__version__)
 
 
-class Commands(Beside):
-    def test_each_is_as_the_program(self):
-        files = dict(zip(("w", "r", "b", "x"), map(example, ("heap.world", "bring_home.brain", "trail.brain", "contest.world"))))
-        for line in (
-            "show w 7", "brain r", "minimise b --states", "same r b", "gen 12345", "--version", "--help", "",
-            "run w r b --seed 7 --rounds 50 --dump 0,50 --stats --workers 4 --window 64", "trace w r b 0 --seed 7 --rounds 20",
-            "cup --worlds w x --brains r b --seed 7 --rounds 20 --games --workers 3", "save x r b --seed 7 --rounds 20",
-            "run w r b --seed 7 --rounds 1000001", "run w r none --seed 7", "run w r w --seed 7", "turn w",
-        ):
-            words = line.split(" ") if line else []
-            self.assertEqual(icfp_ants.call(words, files), self.program(*words, **files), line)
-
-
 if __name__ == "__main__":
     unittest.main()

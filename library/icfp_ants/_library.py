@@ -105,21 +105,34 @@ def numbers_of(name: str, values: Iterable[int]) -> "array[int]":
     return array("I", [*(number_of(name, it) for it in values), 0])
 
 
+class Answer:
+    """What a call of the library writes where it refuses a text, and what that comes to."""
+
+    def __init__(self) -> None:
+        self.fault, self.words = _declared.Fault(), ctypes.create_string_buffer(_WORDS)
+        self.passed = byref(self.fault), self.words, _WORDS
+
+    def is_done(self, status: int, names: Iterable[str]) -> bool:
+        """Whether there was room enough; what is wrong otherwise is raised, where the texts have these names."""
+        if status == _declared.NUMBER:
+            raise ValueError("a number is beyond its limits")
+        if status == _declared.REFUSED:
+            fault, line = self.fault, self.words.raw[:self.fault.words].decode("utf-8", "replace")
+            raise Refused(["", *names][fault.text], line, Kind(fault.kind), fault.line, fault.column, fault.number)
+        if status == _declared.MEMORY:
+            raise MemoryError("memory could not be had")
+        return status == _declared.DONE
+
+
+def passed(texts: Iterable[bytes]) -> List[object]:
+    """Texts as C is given them, each with its length."""
+    return [it for text in texts for it in (text, len(text))]
+
+
 def is_done(function: str, texts: Texts, *more: object) -> bool:
     """Calls a function of the library; whether it had room enough."""
-    given: List[object] = []
-    for text in texts.values():
-        given += [text, len(text)]
-    fault, words = _declared.Fault(), ctypes.create_string_buffer(_WORDS)
-    status = getattr(library(), function)(*given, *more, byref(fault), words, _WORDS)
-    if status == _declared.NUMBER:
-        raise ValueError("a number is beyond its limits")
-    if status == _declared.REFUSED:
-        line = words.raw[:fault.words].decode("utf-8", "replace")
-        raise Refused(["", *texts][fault.text], line, Kind(fault.kind), fault.line, fault.column, fault.number)
-    if status == _declared.MEMORY:
-        raise MemoryError("memory could not be had")
-    return bool(status == _declared.DONE)
+    answer = Answer()
+    return answer.is_done(getattr(library(), function)(*passed(texts.values()), *more, *answer.passed), texts)
 
 
 def area_of(room: int) -> mmap.mmap:
