@@ -13,10 +13,11 @@ import unittest
 from unittest import mock
 
 import icfp_ants
-from icfp_ants import Ant, Cell, Colour, Counts, Kind, Label, Played, Refused, Renumbered, Score, Standing, Stop, Use
+from icfp_ants import Ant, Cell, Colour, Counts, Death, Event, Executed, Kind, Label, Played, Refused, Renumbered, Score, Standing, Stop, Use
 from test_ants import LONG, MOST_SEED, PROGRAM, TOP, WORLD, Beside, example
 
 RED, BLACK = Colour.RED, Colour.BLACK
+FIRST = {"world": example("first.world"), "red": example("first.brain"), "black": example("idle.brain")}
 AMBUSH = {"world": example("ambush.world"), "red": example("flip_two.brain"), "black": example("step.brain")}
 # What a shelf in memory has otherwise, or what no library does: a second `-`, far workers, streams that are full, a limit of the process.
 OTHERWISE = re.compile(r" - - |--far|/dev/full|ulimit")
@@ -153,6 +154,20 @@ class Functions(Beside):
         self.assertEqual(icfp_ants.trace(**AMBUSH, ant=1, seed=12345, rounds=1, rest=0, surround=6)[1].cell.ant.resting, 0)
         self.assertRaisesRegex(ValueError, "^ant: the world has no ant of id 7$", lambda: icfp_ants.trace(**AMBUSH, ant=7, seed=12345, rounds=5))
 
+    def test_events(self):
+        found = icfp_ants.events(**AMBUSH, seed=12345, rounds=5)
+        self.assertEqual(found, [Event(1, BLACK, 1, Death(RED, 2, 3, 3), None), Event(1, BLACK, 1, None, Score(3, 0))])
+        self.assertEqual(found.text, self.written(*self.words("events", 12345, 5), **AMBUSH))
+        self.assertEqual(icfp_ants.events(**FIRST, seed=1, rounds=110), [Event(110, RED, 0, None, Score(1, 0))])
+        self.assertEqual(icfp_ants.events(**AMBUSH, seed=12345, rounds=1, corpse=9)[1].score, Score(9, 0))
+
+    def test_profile(self):
+        found = icfp_ants.profile(**AMBUSH, seed=12345, rounds=2)
+        self.assertEqual(found, [Executed(RED, 0, 2, 1, "Flip 2 0 0"), Executed(BLACK, 0, 9, 1, "Move 0 0")])
+        self.assertEqual(found.text, self.written(*self.words("profile", 12345, 2), **AMBUSH))
+        self.assertEqual(icfp_ants.profile(**FIRST, seed=1, rounds=110)[:2], [Executed(RED, 0, 7, 2, "Sense Here 1 2 Home"), Executed(RED, 1, 2, None, "Drop 3")])
+        self.assertEqual(sum(it.times for it in icfp_ants.profile(**AMBUSH, seed=12345, rounds=2, rest=0)), 12)
+
     def test_cup(self):
         names = {"step.brain": AMBUSH["black"], "flip_two.brain": AMBUSH["red"], "idle.brain": example("idle.brain")}
         found = icfp_ants.cup({"ambush.world": AMBUSH["world"]}, names, 12345, 1, games=True)
@@ -194,9 +209,9 @@ class Faults(Beside):
     def test_of_games(self):
         for call, words in (
             (icfp_ants.trace, ["trace", "world", "red", "black", 0]), (icfp_ants.view, ["view", "world", "red", "black", "breaks"]), (icfp_ants.run, ["run", "world", "red", "black"]),
-            (icfp_ants.save, ["save", "world", "red", "black"]),
+            (icfp_ants.save, ["save", "world", "red", "black"]), (icfp_ants.events, ["events", "world", "red", "black"]), (icfp_ants.profile, ["profile", "world", "red", "black"]),
         ):
-            more = {icfp_ants.trace: {"ant": 0}, icfp_ants.view: {"breaks": ""}, icfp_ants.run: {"stats": True}, icfp_ants.save: {"window": 1}}[call]
+            more = {icfp_ants.trace: {"ant": 0}, icfp_ants.view: {"breaks": ""}, icfp_ants.run: {"stats": True}, icfp_ants.save: {"window": 1}}.get(call, {})
             texts = {**AMBUSH, **({"breaks": ""} if "breaks" in more else {})}
             for name, text, kind in (("world", "3\n", Kind.WORLD_BAD_HEIGHT), ("red", "hop 0\n", Kind.BRAIN_UNKNOWN_WORD), ("black", LONG, Kind.TOO_LONG)):
                 game = {**AMBUSH, name: text}

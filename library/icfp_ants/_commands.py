@@ -1,11 +1,11 @@
 """The commands that tell of games and brains, each as a function with its options."""
-from typing import Mapping, Optional
+from typing import Mapping, Optional, Tuple
 
 from ._calling import output_of, read_game
 from ._games import Score, counts_of, game_output, score_of
 from ._library import MOST_ROUNDS, Text, Texts, bytes_of, number_of, text_of, texts_of
 from ._printed import (
-    Cup, Label, Played, Printed, Renumbered, Standing, Stop, Traced, Workload, cell_of, tuples_of, uses_of,
+    Colour, Cup, Death, Event, Executed, Label, Played, Printed, Renumbered, Standing, Stop, Traced, Workload, cell_of, tuples_of, uses_of,
 )
 
 _MOST_ID = 16383
@@ -42,6 +42,32 @@ def trace(
         raise ValueError("ant: the world has no ant of id %d" % ant)
     found = tuples_of(r"round (\d+): (.*)", lines)
     return Printed(text, (Traced(int(number), None if said == "dead" else cell_of(said)) for number, said in found))
+
+
+def events(
+    world: Text, red: Text, black: Text, seed: int, rounds: int, surround: int = 5, corpse: int = 3, rest: int = 14,
+) -> Printed[Event]:
+    """Who dies in a game, and each score that is another than before, turn after turn."""
+    text = game_output("events", texts_of(world=world, red=red, black=black), (), seed, rounds, (surround, corpse, rest))
+    form = r"round (\d+), (\w+) ant (\d+): (?:(\w+) ant (\d+) dies on \((\d+), (\d+)\)|score: red (\d+) black (\d+))"
+    return Printed(text, map(_event, tuples_of(form, text.split("\n")[1:-1])))
+
+
+def _event(found: Tuple[str, ...]) -> Event:
+    number, colour, ant, killed, *others = found
+    turn = int(number), Colour(colour), int(ant)
+    if killed:
+        return Event(*turn, Death(Colour(killed), *map(int, others[:3])), None)
+    return Event(*turn, None, Score(*map(int, others[3:])))
+
+
+def profile(
+    world: Text, red: Text, black: Text, seed: int, rounds: int, surround: int = 5, corpse: int = 3, rest: int = 14,
+) -> Printed[Executed]:
+    """How often each state of the red brain, and then of the black one, was executed in a game."""
+    text = game_output("profile", texts_of(world=world, red=red, black=black), (), seed, rounds, (surround, corpse, rest))
+    found = tuples_of(r"(\w+) (\d+): (\d+) times(?:, (\d+) met)?: (.*)", text.split("\n")[1:-1])
+    return Printed(text, (Executed(Colour(colour), int(state), int(times), int(met) if met else None, said) for colour, state, times, met, said in found))
 
 
 def _files(kind: str, texts: Mapping[str, Text], least: int) -> Texts:

@@ -58,6 +58,32 @@ class Stop(NamedTuple):
     text: str
 
 
+class Death(NamedTuple):
+    """An ant that is killed, and the cell where it dies."""
+    colour: Colour
+    ant: int
+    column: int
+    row: int
+
+
+class Event(NamedTuple):
+    """What happens in a turn of an ant: one dies, or else the score becomes another."""
+    round: int
+    colour: Colour
+    ant: int
+    death: Optional[Death]
+    score: Optional[Score]
+
+
+class Executed(NamedTuple):
+    """How often a state was executed, and how often it was met: its instruction led to the first of two states; None where it names one."""
+    colour: Colour
+    state: int
+    times: int
+    met: Optional[int]
+    instruction: str
+
+
 class Workload(NamedTuple):
     """What came of a game that needs no file: the ants and the food at its start, the ants of each colour at its end, the score and the counts."""
     ants: int
