@@ -13,7 +13,7 @@ import unittest
 from unittest import mock
 
 import icfp_ants
-from icfp_ants import Ant, Cell, Colour, Counts, Death, Event, Executed, Kind, Label, Played, Refused, Renumbered, Score, Standing, Stop, Use
+from icfp_ants import Ant, Cell, Colour, Counts, Death, Event, Executed, Kind, Label, Line, Played, Refused, Renumbered, Score, Standing, Step, Stop, Use
 from test_ants import LONG, MOST_SEED, PROGRAM, TOP, WORLD, Beside, example
 
 RED, BLACK = Colour.RED, Colour.BLACK
@@ -196,6 +196,28 @@ class Functions(Beside):
         lines = "Sense Ahead 1 5 Food,PickUp 3 7,Move 0 4,Turn Left 2,Flip 2 6 8,Mark 0 2,Turn Right 2,Turn Left 2,Drop 0,Move 0 0".split(",")
         self.assertEqual(icfp_ants.states("\n".join(lines)), [Renumbered(old, new) for old, new in enumerate([0, 1, 2, 3, 4, 5, 6, 3, 7, None])])
 
+    def test_lines(self):
+        program = "block b\n Drop next\nout:\nend\nuse b\nMove done done\ndone:\n"
+        found = icfp_ants.lines(program)
+        self.assertEqual(found, [Line(0, (Use("b", 5),), 2), Line(1, (), 6)])
+        found = icfp_ants.lines(example("trail.asm"))
+        self.assertEqual(found.text, self.written("asm", "program", "--lines", program=example("trail.asm")))
+        self.assertEqual((found[0], found[11]), (Line(0, (), 67), Line(11, (Use("out_to_1", 77), Use("step", 23), Use("turn", 13)), 4)))
+
+    def test_way(self):
+        first, second = "Move 1 0\nDrop 0\n", "Move 1 0\nTurn Left 0\n"
+        found = icfp_ants.way(first, second)
+        self.assertEqual(found, [Step(0, "Move 1 0", 0, "Move 1 0", True), Step(1, "Drop 0", 1, "Turn Left 0", None)])
+        self.assertEqual(found.text, self.written("same", "first", "second", "--way", first=first, second=second))
+        self.assertEqual(icfp_ants.way("Move 0 1\nDrop 0\n", "Move 0 1\nTurn Left 0\n")[0].met, False)
+        self.assertEqual(icfp_ants.way("Drop 0\n", "Drop 1\nDrop 0\n"), [])
+        self.assertEqual(len(icfp_ants.way("Drop 0\n", "Turn Left 0\n")), 1)
+
+    def test_advance(self):
+        saved = [icfp_ants.save(**AMBUSH, seed=12345, rounds=rounds) for rounds in (1, 4)]
+        self.assertEqual(icfp_ants.advance(saved[0], 4), saved[1])
+        self.assertEqual(saved[1], self.written("advance", "save", "--rounds", 4, save=saved[0]))
+
     def test_workload(self):
         self.assertEqual(icfp_ants.workload(12345, 0), (254, 1375, 127, 127, Score(0, 0), Counts(0, 0, 0)))
 
@@ -248,6 +270,9 @@ class Faults(Beside):
         for call, words, name, text in (
             (lambda: icfp_ants.show("3\n", 1), ["show", "world", 1], "world", "3\n"), (lambda: icfp_ants.labels("hop\n"), ["asm", "program", "--labels"], "program", "hop\n"),
             (lambda: icfp_ants.states(""), ["minimise", "brain", "--states"], "brain", ""),
+            (lambda: icfp_ants.lines(""), ["asm", "program", "--lines"], "program", ""), (lambda: icfp_ants.way("", ""), ["same", "first", "second", "--way"], "first", ""),
+            (lambda: icfp_ants.advance("ants save 2\n", 5), ["advance", "save", "--rounds", 5], "save", "ants save 2\n"),
+            (lambda: icfp_ants.advance(example("one_ant.save"), 0), ["advance", "save", "--rounds", 0], "save", example("one_ant.save")),
             (lambda: icfp_ants.resume(example("one_ant.save"), 0, stats=True), ["resume", "save", "--rounds", 0, "--stats"], "save", example("one_ant.save")),
         ):
             self.assertEqual(self.assert_refused(call, *words, **{name: text}).name, name)

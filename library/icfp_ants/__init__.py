@@ -18,16 +18,18 @@ call is an ImportError.
 """
 from ._brains import Difference, asm, brain, difference, gen, minimise, same
 from ._calling import Called, call
-from ._commands import cup, events, labels, profile, show, states, trace, view, workload
+from ._commands import cup, events, labels, lines, profile, show, states, trace, view, way, workload
 from ._declared import VERSION as __version__
 from ._declared import Kind
-from ._games import Counts, Score, counts_of, resume, run, save, score, score_of, scores, scores_of_pairs
+from ._games import Counts, Score, advance, counts_of, resume, run, save, score, score_of, scores, scores_of_pairs
 from ._library import Refused
-from ._printed import Ant, Cell, Colour, Cup, Death, Event, Executed, Label, Played, Printed, Renumbered, Standing, Stop, Traced, Use, Workload, cells
+from ._printed import (
+    Ant, Cell, Colour, Cup, Death, Event, Executed, Label, Line, Played, Printed, Renumbered, Standing, Step, Stop, Traced, Use, Workload, cells,
+)
 
 __all__ = [
-    "Ant", "Called", "Cell", "Colour", "Counts", "Cup", "Death", "Difference", "Event", "Executed", "Kind", "Label", "Played", "Printed", "Refused",
-    "Renumbered", "Score", "Standing", "Stop", "Traced", "Use", "Workload", "__version__", "asm", "brain", "call", "cells", "counts_of", "cup",
-    "difference", "events", "gen", "labels", "minimise", "profile", "resume", "run", "same", "save", "score", "score_of", "scores", "scores_of_pairs",
-    "show", "states", "trace", "view", "workload",
+    "Ant", "Called", "Cell", "Colour", "Counts", "Cup", "Death", "Difference", "Event", "Executed", "Kind", "Label", "Line", "Played", "Printed",
+    "Refused", "Renumbered", "Score", "Standing", "Step", "Stop", "Traced", "Use", "Workload", "__version__", "advance", "asm", "brain", "call",
+    "cells", "counts_of", "cup", "difference", "events", "gen", "labels", "lines", "minimise", "profile", "resume", "run", "same", "save", "score",
+    "score_of", "scores", "scores_of_pairs", "show", "states", "trace", "view", "way", "workload",
 ]

@@ -5,7 +5,7 @@ from ._calling import output_of, read_game
 from ._games import Score, counts_of, game_output, score_of
 from ._library import MOST_ROUNDS, Text, Texts, bytes_of, number_of, text_of, texts_of
 from ._printed import (
-    Colour, Cup, Death, Event, Executed, Label, Played, Printed, Renumbered, Standing, Stop, Traced, Workload, cell_of, tuples_of, uses_of,
+    Colour, Cup, Death, Event, Executed, Label, Line, Played, Printed, Renumbered, Standing, Step, Stop, Traced, Workload, cell_of, tuples_of, uses_of,
 )
 
 _MOST_ID = 16383
@@ -108,6 +108,25 @@ def labels(program: Text) -> Printed[Label]:
     text = output_of(["asm", "program", "--labels"], files, lambda: text_of("ants_asm", files))
     found = tuples_of(r"(\d+) (?:(.*)/)?(\w+)", text.split("\n")[:-1])
     return Printed(text, (Label(int(state), uses_of(uses or ""), name) for state, uses, name in found))
+
+
+def lines(program: Text) -> Printed[Line]:
+    """For each state of the brain that a program becomes the line of its instruction."""
+    files = texts_of(program=program)
+    text = output_of(["asm", "program", "--lines"], files, lambda: text_of("ants_asm", files))
+    found = tuples_of(r"(\d+) (\d+)(?: (.*))?", text.split("\n")[:-1])
+    return Printed(text, (Line(int(state), uses_of(uses or ""), int(line)) for state, line, uses in found))
+
+
+def way(first: Text, second: Text) -> Printed[Step]:
+    """The states through which two brains come to where they first differ, which is the last one; none where they are the same."""
+    files = texts_of(first=first, second=second)
+    text = output_of(["same", "first", "second", "--way"], files, lambda: text_of("ants_same", files))
+    if text == "same\n":
+        return Printed(text, [])
+    *answers, one, other = text.split("\n")[1:-1]
+    found = tuples_of(r"first (\d+): (.*), second (\d+): (.*?)(?:: (met|unmet))?", [*answers, one + ", " + other])
+    return Printed(text, (Step(int(a), its, int(b), others, answer == "met" if answer else None) for a, its, b, others, answer in found))
 
 
 def states(brain: Text) -> Printed[Renumbered]:

@@ -174,6 +174,12 @@ def resume(save: Text, rounds: int, dumps: Iterable[int] = (), stats: bool = Fal
     return text_of("ants_resume", saved, rounds, byref(c_uint32.from_buffer(numbers_of("dumps", dumped))), len(dumped), room=room)
 
 
+def advance(save: Text, rounds: int) -> str:
+    """The save of a saved game that goes on to this number of rounds in all."""
+    saved = texts_of(save=save)
+    return output_of(["advance", "save", "--rounds", _rounds(rounds)], saved, lambda: resume(saved["save"], rounds))
+
+
 def score_of(text: str) -> Score:
     """The score that a game's text tells, as `run` and `resume` give it."""
     return Score(*_last_numbers(r"score: red (\d+) black (\d+)", text))

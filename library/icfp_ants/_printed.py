@@ -107,10 +107,26 @@ class Label(NamedTuple):
     name: str
 
 
+class Line(NamedTuple):
+    """A state of a program's brain, the line in which its instruction stands, and the uses on the way to it."""
+    state: int
+    uses: Tuple[Use, ...]
+    line: int
+
+
 class Renumbered(NamedTuple):
     """A state of a brain, and which state of the minimised one it became, or None where it was dropped."""
     old: int
     new: Optional[int]
+
+
+class Step(NamedTuple):
+    """Two brains side by side: the state of each with its instruction, and whether the answer was met; None where they differ."""
+    first_state: int
+    first: str
+    second_state: int
+    second: str
+    met: Optional[bool]
 
 
 class Standing(NamedTuple):
