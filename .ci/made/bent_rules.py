@@ -86,7 +86,7 @@ class Evidence:
 
     def check_table(self, name, table):
         found = [it for it in self.texts if it.endswith("/" + name) and "test" in it]
-        found = [it for it in found if it.startswith("crates/ants/")] or found
+        found = [it for it in found if it.startswith("crates/library_tests/src/commands/")] or found
         if len(found) != 1:
             raise Unknown("%s: %d files of tests are called %s" % (FILE, len(found), name))
         if table and not re.search(r"\b%s\b" % table, self.texts[found[0]]):

@@ -22,7 +22,7 @@ from specification import lines_of
 from tree import CodeType, Contract, Definition, Tree, Unknown, below, goes_on, left_of, names_of, read, source_files, words_of
 
 ORDER, WORDS = "docs/run_page.txt", "docs/library_words.txt"
-CRATE, ROOT = "ants", "KeepsPromise"
+CRATE, ROOT = "ant_commands", "KeepsPromise"
 MOST_LINES = 630
 PACE = 10  # lines a minute, of a reader who reads each
 

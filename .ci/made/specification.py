@@ -8,7 +8,7 @@ import re
 import shown
 from tree import CodeType, Contract, Tree, Unknown, left_of, pieces_of, words_of
 
-CRATE, CALLS = "ants", ("run_ants", "run_to_exit")
+CRATE, CALLS = "ant_commands", ("run_ants", "run_to_exit")
 COMMANDS = "CommandKind"  # the type with a variant for each first word
 FILES = ("FileKind", "FileContent")  # the data with a constructor for each kind of file
 JOBS = "job_by"  # the job of a command, an equation a command

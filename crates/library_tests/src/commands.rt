@@ -21,9 +21,8 @@ mod words;
 mod workers;
 mod workloads;
 
-use ant_commands::run_ants;
-use ant_commands::Status;
 use ant_base::{Calls, Files, Gate, MemShelf, MemSink, NoGate};
+use ant_commands::{Status, run_ants};
 use std::alloc::Global;
 use std::process::Abort;
 use std::sync::Wait;

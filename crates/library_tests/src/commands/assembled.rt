@@ -1,6 +1,6 @@
 // The command `asm`.
-use ant_commands::Status;
 use crate::commands::{CutRun, Given, Job, NO_JOB, Table, check_cuts, check_rows, check_tables};
+use ant_commands::Status;
 use std::test::Fail;
 
 // A block that turns back, put in place where an ant is stuck.

@@ -1,10 +1,10 @@
 // The command `brain`.
-use ant_commands::Status;
 use crate::commands::{
     Ending, Given, Job, NO_JOB, Table, check_over, check_rows, check_tables, check_with, done,
     ending_with, stopped,
 };
 use ant_base::{Files, NoGate};
+use ant_commands::Status;
 use std::alloc::Global;
 use std::process::Abort;
 use std::sync::Wait;

@@ -1,6 +1,6 @@
 // The command `same`.
-use ant_commands::Status;
 use crate::commands::{CutRun, Given, Job, NO_JOB, Table, check_cuts, check_rows};
+use ant_commands::Status;
 use std::test::Fail;
 
 // A brain of one state beside another.

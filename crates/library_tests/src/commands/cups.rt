@@ -1,8 +1,8 @@
 // The command `cup`.
-use ant_commands::Status;
 use crate::commands::{
     CLOSED, CLOSING, CutRun, Given, Job, NO_JOB, Table, check_cuts, check_rows, check_tables,
 };
+use ant_commands::Status;
 use std::test::Fail;
 
 // A world on which the player that draws numbers wins as red and draws as black against one that steps ahead: the worlds w and -. On the

@@ -1,6 +1,8 @@
 // The command `gen`.
+use crate::commands::{
+    CutRun, Given, Job, NO_JOB, Table, Told, check_cuts, check_rows, check_text,
+};
 use ant_commands::Status;
-use crate::commands::{CutRun, Given, Job, NO_JOB, Table, Told, check_cuts, check_rows, check_text};
 use std::test::Fail;
 
 // Words of `gen`.

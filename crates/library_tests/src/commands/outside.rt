@@ -1,5 +1,4 @@
 // Files that can't be read, and output that fails.
-use ant_commands::Status;
 use crate::commands::runs::{KILLED, KILLING_ROUND, UNPLAYED};
 use crate::commands::shown::SHOWN;
 use crate::commands::workloads::UNTOUCHED;
@@ -7,6 +6,7 @@ use crate::commands::{
     CLOSED, CutRun, Ending, Given, Job, NO_JOB, Table, answer, check, check_cuts, check_tables,
     cut, done, ending_of, stopped,
 };
+use ant_commands::Status;
 use std::alloc::Global;
 use std::process::Abort;
 use std::sync::Wait;

@@ -1,9 +1,9 @@
 // The command `run`.
-use ant_commands::Status;
 use crate::commands::{
     CLOSED, CLOSING, Ending, Given, Job, NO_JOB, Table, Told, check_rows, check_tables, check_text,
     check_with, done, ending_with, game_of, walled,
 };
+use ant_commands::Status;
 use std::alloc::Global;
 use std::process::Abort;
 use std::sync::Wait;

@@ -1,8 +1,8 @@
 // The commands `save` and `resume`.
-use ant_commands::Status;
 use crate::commands::{
     CLOSED, Given, Job, NO_JOB, Table, check_rows, check_tables, check_with, stopped,
 };
+use ant_commands::Status;
 use std::alloc::Global;
 use std::process::Abort;
 use std::sync::Wait;

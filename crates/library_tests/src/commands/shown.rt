@@ -1,8 +1,8 @@
 // The command `show`.
-use ant_commands::Status;
 use crate::commands::{
     CLOSED, Given, Job, NO_JOB, Table, Told, check_tables, check_text, check_with, stopped, walled,
 };
+use ant_commands::Status;
 use std::alloc::Global;
 use std::process::Abort;
 use std::sync::Wait;

@@ -1,10 +1,10 @@
 // The command `view`.
-use ant_commands::Status;
 use crate::commands::runs::{KILLED, NEIGHBOURS};
 use crate::commands::{
     CLOSED, CLOSING, Ending, Given, Job, NO_JOB, Table, Told, check_rows, check_tables, check_text,
     check_with, done, ending_with,
 };
+use ant_commands::Status;
 use std::alloc::Global;
 use std::process::Abort;
 use std::sync::Wait;

@@ -1,6 +1,6 @@
 // The command `trace`.
-use ant_commands::Status;
 use crate::commands::{CLOSING, CutRun, Given, Job, NO_JOB, Table, check_cuts, check_rows};
+use ant_commands::Status;
 use std::test::Fail;
 
 // A game in whose first round ant 1 steps beside ant 2, which then has five foes around it.

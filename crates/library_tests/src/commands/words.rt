@@ -1,11 +1,10 @@
 // Words that are no command.
-use ant_commands::run_here;
-use ant_commands::Status;
 use crate::commands::{
     CLOSED, Ending, Given, Job, NO_JOB, Outcome, ROOM, Table, check_rows, ending_of, outcome_of,
     split, stopped,
 };
 use ant_base::{Calls, Files, MemShelf, MemSink, NoGate};
+use ant_commands::{Status, run_here};
 use std::alloc::Global;
 use std::process::Abort;
 use std::test::Fail;

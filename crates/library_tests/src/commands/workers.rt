@@ -2,12 +2,12 @@
 ghost use Rattle.std.specs.Prelude.{◌≡◌, true};
 ghost use Rattle.round_workers.specs.Crews.{IsCrewSize};
 
-use ant_commands::Status;
 use crate::commands::games::{Players, killing_field, killing_players};
 use crate::commands::runs::{KILLED, KILLING, KILLING_ROUND};
 use crate::commands::saves::STANDING;
 use crate::commands::{Given, Job, NO_JOB, answer_over, check_by, done, files_of};
 use ant_base::{Gate, NoGate};
+use ant_commands::Status;
 use round_book::Field;
 use round_workers::{BoardCrew, PieceCrew};
 use std::alloc::Global;

@@ -1,6 +1,6 @@
 // The command `workload`.
-use ant_commands::Status;
 use crate::commands::{Given, NO_JOB, Table, check_rows};
+use ant_commands::Status;
 use std::test::Fail;
 
 // The world of the seed 12345 before a round: two hills of 127 cells, and eleven blobs of 25 cells with 5 particles each.

@@ -4,7 +4,7 @@ use Rattle.ant_base.specs.Sink.{PushedAll, PushedFront}
 use Rattle.match_run.specs.Dumps.{chooses}
 use Rattle.match_run.proofs.PlayLemmas.{prefix_of_nothing}
 use Rattle.match_save.proofs.ResumedGames.{alone-is, resumed_text-some}
-use Rattle.match_save.proofs.resume.resume_alone.Goals as goal
+use Rattle.match_save.proofs.going_on.resume_alone.Goals as goal
 
 pub returns-in_err-game-clause-text : goal.returns-in_err-game-clause-text
 returns-in_err-game-clause-text g c =

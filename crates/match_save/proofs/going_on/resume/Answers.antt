@@ -4,7 +4,7 @@ use Rattle.match_run.specs.Dumps.{chooses}
 use Rattle.match_run.specs.Play.{PushedBy}
 use Rattle.match_run.proofs.PlayLemmas.{prefix_of_nothing}
 use Rattle.match_save.proofs.ResumedGames.{resumed-is, resumed_text-some}
-use Rattle.match_save.proofs.resume.resume.Goals as goal
+use Rattle.match_save.proofs.going_on.resume.Goals as goal
 
 pub returns-in_err-game-clause-text : goal.returns-in_err-game-clause-text
 returns-in_err-game-clause-text g c =

@@ -2,7 +2,7 @@ use Rattle.std.proofs.Common.{◌≡◌, sym, ◌∙◌, subst, arith}
 use Rattle.ant_turn.specs.Minds.{Fits, Minds, minds_of}
 use Rattle.cell_world.specs.Grid.{Grid, world_of}
 use Rattle.match_save.proofs.ResumedGames.{Fits-saved, can-go, early-saved, field-is, game-is}
-use Rattle.match_save.proofs.resume.game_of.Goals as goal
+use Rattle.match_save.proofs.going_on.game_of.Goals as goal
 
 pub new-requires : goal.new-requires
 new-requires c =
