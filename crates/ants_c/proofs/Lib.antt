@@ -1,3 +1,4 @@
 mod FirstRefused
+mod Looks
 mod Overlaid
 mod Stops

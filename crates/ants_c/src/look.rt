@@ -100,9 +100,9 @@ pub fn put_looks(
     requires rising { AreRising 0 rounds.now }
     requires scores { length rounds.now ≤ length scores.old }
     requires ants { length rounds.now * setting.world.ids ≤ length ants.old }
-    ensures scores { scores.new ≡ map (λ round. game_score setting.entry.world setting.entry.red setting.entry.black round seed) rounds.now ++ drop (length rounds.now) scores.old }
-    ensures ants { ants.new ≡ ants_after setting.entry.world setting.entry.red setting.entry.black seed rounds.now
-        ++ drop (length rounds.now * setting.entry.world.ids) ants.old }
+    ensures scores { scores.new ≡ map (λ round. game_score setting.world setting.red setting.black round seed) rounds.now ++ drop (length rounds.now) scores.old }
+    ensures ants { ants.new ≡ ants_after setting.world setting.red setting.black seed rounds.now
+        ++ drop (length rounds.now * setting.world.ids) ants.old }
 {
     let Setting { world, red, black } = setting;
     let brains = Brains {
