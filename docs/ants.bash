@@ -5,7 +5,7 @@ _ants() {
     local word=${COMP_WORDS[COMP_CWORD]} before=${COMP_WORDS[COMP_CWORD-1]} options=
     COMPREPLY=()
     if [ "$COMP_CWORD" -eq 1 ]; then
-        COMPREPLY=($(compgen -W 'run save resume view trace cup workload show gen brain minimise same asm help --help --version' -- "$word"))
+        COMPREPLY=($(compgen -W 'run save resume view trace events profile cup workload show gen brain minimise same asm help --help --version' -- "$word"))
         return
     fi
     case ${COMP_WORDS[1]} in
@@ -14,6 +14,8 @@ _ants() {
     resume) options='--rounds --dump --workers --stats' ;;
     view) options='--seed --rounds' ;;
     trace) options='--seed --rounds --from --surround --corpse --rest' ;;
+    events) options='--seed --rounds --surround --corpse --rest' ;;
+    profile) options='--seed --rounds --surround --corpse --rest' ;;
     cup) options='--worlds --brains --seed --rounds --workers --games' ;;
     gen) options='--width --height --rocks --blobs' ;;
     minimise) options='--states' ;;

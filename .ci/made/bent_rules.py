@@ -20,7 +20,7 @@ from tree import Unknown, below, crates, exists, read, source_files
 
 FILE = "docs/bent_rules.txt"
 EXAMPLES = {"RULES": "docs/RULES.md", "README": "README.md"}
-LIBRARY_TESTS, LIBRARY_ROWS, OPTION_ROWS = "library/test_ants.py", "library/test_ants.c", ".ci/options.txt"
+LIBRARY_TESTS = "library/test_ants.py"
 HOW = {"again": "again", "place": "in place", "copy": "in a copy", "code": "with its code", "read": "by eye"}
 
 
@@ -61,8 +61,7 @@ class Evidence:
 
     def __init__(self):
         self.lemmas, self.twice, self.functions, self.texts = {}, set(), {}, {}
-        self.names = [it.name for it in crates()]
-        for crate in self.names:
+        for crate in (it.name for it in crates()):
             for file in source_files("crates/%s/proofs" % crate, ".antt"):
                 for line in read(file).split("\n"):
                     found = re.match(r"(?:pub |abbrev |unfoldable )*([^\s:]+) :", line)
@@ -73,67 +72,45 @@ class Evidence:
                 for name in re.findall(r"^\s*(?:pub )?fn (\w+)", self.texts[file], re.M):
                     self.functions.setdefault((crate, name), file)
 
-    def check_example(self, name, section):
+    def example(self, name, section):
         """A section has to have at least one example."""
-        inside, has = False, False
-        for line in read(EXAMPLES[name]).split("\n"):
-            heading = re.match(r"#+ (.*)", line)
-            if heading:
-                inside = heading[1] == section
-            has = has or inside and line.startswith("$ ")
-        if not has:
-            raise Unknown("%s: %s has no section %s with an example" % (FILE, EXAMPLES[name], section))
+        found = re.search(r"^#+ %s$(.*?)(?=^#+ |\Z)" % re.escape(section), read(EXAMPLES[name]), re.M | re.S)
+        return bool(found) and "\n$ " in found[1]
 
-    def check_table(self, name, table):
-        found = [it for it in self.texts if it.endswith("/" + name) and "test" in it]
-        found = [it for it in found if it.startswith("crates/library_tests/src/commands/")] or found
-        if len(found) != 1:
-            raise Unknown("%s: %d files of tests are called %s" % (FILE, len(found), name))
-        if table and not re.search(r"\b%s\b" % table, self.texts[found[0]]):
-            raise Unknown("%s: no table %s in %s" % (FILE, table, found[0]))
-
-    def check_named(self, where, crate, name, what):
-        if crate not in self.names:
-            raise Unknown("%s: there is no crate %s" % (FILE, crate))
-        if (crate, name) not in where:
-            raise Unknown("%s: %s has no %s %s" % (FILE, crate, what, name))
+    def table(self, name, table):
+        """A file of tests has this table, where one is named."""
+        found = [it for it in self.texts if it.endswith("/" + name) and "/src/commands" in it] or [it for it in self.texts if it.endswith("/" + name) and "test" in it]
+        return len(found) == 1 and (not table or bool(re.search(r"\b%s\b" % table, self.texts[found[0]])))
 
     def named(self, text):
         """The lemmas that a part of a row names; Unknown where one isn't there."""
         it = re.fullmatch(r"lemmas? (.+) of (\w+)( and \d+ more)?", text.partition(": ")[0].replace("`", ""))
-        for name in it[1].split(", ") if it else ():
-            self.check_named(self.lemmas, it[2], name, "lemma")
-        return [Lemma(it[2], name, self.lemmas[it[2], name]) for name in it[1].split(", ")] if it else []
+        names = it[1].split(", ") if it else ()
+        missing = [name for name in names if (it[2], name) not in self.lemmas]
+        if missing:
+            raise Unknown("%s: %s has no lemma %s" % (FILE, it[2], ", ".join(missing)))
+        return [Lemma(it[2], name, self.lemmas[it[2], name]) for name in names]
 
     def kind(self, text):
         """What sort of thing refuses a bend; Unknown where it isn't there."""
-        words = text.partition(": ")[0].replace("`", "")
         if self.named(text):
             return "lemma"
-        it = re.fullmatch(r"(law|test) (\w+) of (\w+)", words)
-        if it:
-            self.check_named(self.functions, it[3], it[2], it[1])
-            return it[1]
-        it = re.fullmatch(r"test (\w+) of the library", words)
-        if it:
-            if not re.search(r"^    def %s\(self\):$" % it[1], read(LIBRARY_TESTS), re.M):
-                raise Unknown("%s: %s has no test %s" % (FILE, LIBRARY_TESTS, it[1]))
-            return "test"
-        if words == "rows of test_ants.c" and exists(LIBRARY_ROWS) or words == "rows of .ci/options.txt" and exists(OPTION_ROWS):
-            return "test"
-        it = re.fullmatch(r"tests in ([\w/]+\.rt)(?:, (\w+))?", words)
-        if it:
-            self.check_table(it[1], it[2])
-            return "test"
-        it = re.fullmatch(r"tests of (\w+)", words)
-        if it:
-            if not exists("crates/%s/src/tests.rt" % it[1]) and not any(file.startswith("crates/%s/" % it[1]) and "test" in file for file in self.texts):
-                raise Unknown("%s: %s has no tests" % (FILE, it[1]))
-            return "test"
-        it = re.fullmatch(r"(RULES|README), (.+)", text.partition(": ")[0])
-        if it:
-            self.check_example(it[1], it[2])
-            return "example"
+        forms = (
+            (r"law (\w+) of (\w+)", "law", lambda name, crate: (crate, name) in self.functions),
+            (r"test (\w+) of the library", "test", lambda name: bool(re.search(r"^    def %s\(self\):$" % name, read(LIBRARY_TESTS), re.M))),
+            (r"test (\w+) of (\w+)", "test", lambda name, crate: (crate, name) in self.functions),
+            (r"rows of (test_ants\.c|\.ci/options\.txt)", "test", lambda name: exists(name if "/" in name else "library/" + name)),
+            (r"tests in ([\w/]+\.rt)(?:, (\w+))?", "test", self.table),
+            (r"tests of (\w+)", "test", lambda crate: any(file.startswith("crates/%s/" % crate) and "test" in file for file in self.texts)),
+            (r"(RULES|README), (.+)", "example", self.example),
+        )
+        said = text.partition(": ")[0]
+        for form, sort, holds in forms:
+            it = re.fullmatch(form, said if sort == "example" else said.replace("`", ""))
+            if it and not holds(*it.groups()):
+                raise Unknown("%s: what `%s` names isn't there" % (FILE, text))
+            if it:
+                return sort
         raise Unknown("%s: what is `%s`?" % (FILE, text))
 
 

@@ -100,7 +100,7 @@ def structs(texts):
 
 def exports(texts):
     """The exported functions, in the order of their files."""
-    for it, text in found(r'#\[unsafe\(no_mangle\)\]\npub extern "C" fn (\w+)\(([^()]*)\) -> u32\n', "#[unsafe(no_mangle)]", texts):
+    for it, text in found(r'#\[unsafe\(no_mangle\)\]\n(?:#\[[^\n]*\]\n)*pub extern "C" fn (\w+)\(([^()]*)\) -> u32\n', "#[unsafe(no_mangle)]", texts):
         given = [(name, kind.strip()) for name, kind in re.findall(r"(\w+): ([^,]+),?", " ".join(it[2].split()))]
         yield Export(it[1], docs_above(text, it.start()), [(name, kind) for name, kind in given if kind != "Global"])
 

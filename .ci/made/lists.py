@@ -1,5 +1,4 @@
-"""docs/GLOSSARY.md, docs/LEMMAS.md and docs/GATE.md: the words that are coined here, the lemmas that other crates cite, what the gate costs."""
-from crate_tables import lemma_table
+"""docs/GLOSSARY.md and docs/GATE.md: the words that are coined here, and what the gate costs."""
 from gate_costs import cost_table
 from tree import Unknown, crates, read
 
@@ -18,10 +17,6 @@ def glossary_page():
                 raise Unknown("docs/glossary.txt:%d: not a word, a colon and a sense" % number)
             lines.append("| %s | %s |" % (word, cell(sense)))
     return "\n".join(lines) + "\n"
-
-
-def lemma_page():
-    return "# Lemmas that other crates cite\n\nThe files of `proofs/`, all of them. Made from the tree by `.ci/make-documents`.\n\n" + lemma_table()
 
 
 def planted_table():

@@ -39,23 +39,3 @@ class Words:
             limits = "%s to %s" % (number(least[kind]), number(most[kind])) if kind else None
             default = "needed" if form == "needed" else number(default) if default else None
             self.options[word] = (limits, default)
-
-
-def missing(page, words, line_of):
-    """What a page leaves out of the table. `line_of` gives what the page says of an option, or nothing."""
-    for command in words.commands:
-        if not re.search(r"(?<![\w-])%s(?![\w-])" % re.escape(command), page):
-            yield "says nothing of the command %s" % command
-    for keyword in words.keywords:
-        if keyword not in page:
-            yield "says nothing of %s" % keyword
-    for option, (limits, default) in words.options.items():
-        line = line_of(option)
-        if line is None:
-            yield "says nothing of %s" % option
-            continue
-        line = " ".join(line.split())
-        if limits and limits not in line:
-            yield "doesn't say that %s is from %s" % (option, limits)
-        if default and not re.search(r"(?<!\d)(?<!\d,)%s(?!,?\d)" % re.escape(default), line.replace(limits or "", "", 1)):
-            yield "doesn't say that %s is %s" % (option, "needed" if default == "needed" else "%s where it isn't given" % default)

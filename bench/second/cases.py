@@ -25,12 +25,13 @@ class Case:
     """What a program is started with. A case is run in a folder with the files and an empty folder `sub`.
 
     The commands of `further` are run one after another behind the first one, as long as each ends with status 0. What
-    each printed is for the next one the file `printed`.
+    each printed is for the next one the file `printed`; where that is a save, `brains` has other brains for it.
     """
 
     def __init__(self, words=(), files=None, stdin=b''):
         self.words = list(words)
         self.further = []
+        self.brains = {}
         self.files = dict(files or {})
         self.stdin = stdin
         self.is_full = False  # whether standard output takes nothing

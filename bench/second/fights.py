@@ -1,5 +1,8 @@
-"""Worlds and brains of crowded games."""
-from spelling import chance
+"""Worlds, brains and options of crowded games, and cases of commands that play such games."""
+from brains import fighting_lines
+from cases import Case, put_game, rounds_of_run, seed_and_rounds, shuffled, some_sheet
+from spelling import chance, spelled
+from worlds import grid, world_text
 
 TAKERS = [
     ['Move 1 1', 'PickUp 2 2', 'Drop 1'],
@@ -17,7 +20,7 @@ WALKERS = [
 def crowded_rows(r):
     """The rows of a world with many ants and much food."""
     width, height = r.randint(5, 12), r.randint(5, 12)
-    red = r.choice([.25, .3, .35, .4])
+    red = r.choice([.25, .3, .35, .4, .45])
     black = red * r.choice([1, 1, 1, 1, .6, .2])
     rows = [['#'] * width for _ in range(height)]
     for y in range(1, height - 1):
@@ -40,3 +43,42 @@ def crowded_cell(r, red, black):
     if chance(r, .5) and cell in '+-' and red == black:
         return r.choice('+-')
     return cell
+
+
+def put_fight(case, r, lively=.35):
+    """Makes a crowded world and two brains files of the case, and tells their names.
+
+    With the probability `lively` the brains are of TAKERS and WALKERS.
+    """
+    case.files['w'] = world_text(r, crowded_rows(r), False)
+    is_lively = chance(r, lively)
+    for name in 'rb':
+        case.files[name] = spelled(r, r.choice(TAKERS + WALKERS) if is_lively else fighting_lines(r), 0)
+    return ['w', 'r', 'b']
+
+
+def fighting_rounds(r):
+    """A number of rounds in which much happens."""
+    return str(r.choice([r.randint(1, 10), r.randint(5, 40), r.randint(20, 80), r.randint(30, 120)]))
+
+
+def quick_options(r, rounds):
+    """Options for a game that goes quickly: short rests, and few foes that surround."""
+    options = [['--seed', str(r.randrange(2**32))], ['--rounds', rounds]]
+    options.append(['--rest', str(r.choice([0, 0, 0, 0, 1, 2, 14]))])
+    options.append(['--surround', str(r.choice([4, 4, 4, 4, 5, 6]))])
+    options.append(['--corpse', str(r.choice([0, 1, 3, 9]))])
+    return options
+
+
+def case_of_game(r, word, crowded):
+    """A case of a command that plays a game by some sheet; with this probability its world is crowded."""
+    case = Case()
+    if chance(r, crowded):
+        case.words = [word] + put_fight(case, r, .8) + shuffled(r, quick_options(r, fighting_rounds(r)))
+        return case
+    rows = grid(r)
+    files = put_game(case, r, rows, .03)
+    options = seed_and_rounds(r, rounds_of_run(r, rows)) + some_sheet(r, [0, 0, 0, 1, 2, 14, 255], .6)
+    case.words = [word] + files + shuffled(r, options)
+    return case

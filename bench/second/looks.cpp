@@ -72,8 +72,8 @@ int parts_sensed(int condition, int colour) {
     return 0;
 }
 
-// Where a turn kills. It is taken on the base, which is put back afterwards.
-std::vector<int> killed_by(World& base, const Rules& rules, int id, int place, int ahead) {
+// Whom a turn kills. It is taken on the base, which is put back afterwards.
+std::vector<Kill> kills_of(World& base, const Rules& rules, int id, int place, int ahead) {
     std::vector<std::pair<int, Cell>> kept = {{place, base.cells[place]}, {ahead, base.cells[ahead]}};
     for (int direction = 0; direction < 6; direction++) {
         const int beside = neighbour(base, ahead, direction);
@@ -90,7 +90,7 @@ std::vector<int> killed_by(World& base, const Rules& rules, int id, int place, i
             base.places[cell.ant->id] = where;
         }
     }
-    return trace.killed;
+    return trace.kills;
 }
 
 void add_reads_of_move(World& base, const Rules& rules, int id, int place, std::vector<Read>& reads) {
@@ -110,8 +110,8 @@ void add_reads_of_move(World& base, const Rules& rules, int id, int place, std::
             reads.push_back({neighbour(base, beside, further), who});
         }
     }
-    for (int killed : killed_by(base, rules, id, place, ahead)) {
-        reads.push_back({killed, load | food});
+    for (const Kill& kill : kills_of(base, rules, id, place, ahead)) {
+        reads.push_back({kill.place, load | food});
     }
 }
 

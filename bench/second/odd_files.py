@@ -35,8 +35,10 @@ def case_of_order(r):
         elif word in SMALL_FILES:
             case.files[word] = any_text(r, word)
         case.words.append(word)
+    options = [[flag] for flag in command.flags if chance(r, .5)]
     if '--seed' in command.limits:
-        case.words += shuffled(r, seed_and_rounds(r, r.randrange(4)) + [[flag] for flag in command.flags if chance(r, .5)])
+        options += seed_and_rounds(r, r.randrange(4))
+    case.words += shuffled(r, options)
     return case
 
 
@@ -47,11 +49,15 @@ def world_of(width, height, cell):
     return ('%d\n%d\n' % (width, height) + '\n'.join(rows)).encode()
 
 
+def tellings(r):
+    """Options of `asm`."""
+    return r.choice([[], ['--labels'], ['--lines'], ['--lines', '--labels']])
+
+
 def long_brain(r):
     """A brain of about as many bytes as a file may have."""
     size = r.choice([4194303, 4194304, 4194305, 4194306])
-    words = r.choice([['brain', 'f'], ['minimise', 'f'], ['minimise', 'f', '--states'], ['asm', 'f'],
-                      ['asm', 'f', '--labels']])
+    words = r.choice([['brain', 'f'], ['minimise', 'f'], ['minimise', 'f', '--states'], ['asm', 'f'] + tellings(r)])
     start = r.choice([b'Drop next ;', b'go: ;\n\nDrop next ;']) if words[0] == 'asm' else b'Drop 0 ;'
     return Case(words, {'f': start.ljust(size)})
 
@@ -114,24 +120,30 @@ def many_states(r):
 
 def doubled_program(r):
     """A program whose brain has about as many instructions as there may be."""
-    return Case(['asm', 'f'] + r.choice([[], ['--labels']]), {'f': doubling(r)})
+    return Case(['asm', 'f'] + tellings(r), {'f': doubling(r)})
 
 
 def program_of_many_blocks(r):
     """A program with about as many blocks as there may be."""
-    return Case(['asm', 'f'] + r.choice([[], ['--labels']]), {'f': many_blocks(r)})
+    return Case(['asm', 'f'] + tellings(r), {'f': many_blocks(r)})
 
 
 def program_of_many_labels(r):
     """A program whose labels come to many lines."""
-    return Case(['asm', 'f', '--labels'], {'f': many_labels(r)})
+    return Case(['asm', 'f', '--labels'] + r.choice([[], ['--lines']]), {'f': many_labels(r)})
 
 
 def plain_program(r):
     """About as many instructions as a program may have, without a block."""
     count = r.choice([9999, 10000, 10001])
     text = text_of(r, ['Move next next'] * count + r.choice([[], ['@end:'], ['x'], ['end']]), 0)
-    return Case(['asm', '-'] + r.choice([[], ['--labels']]), stdin=text)
+    return Case(['asm', '-'] + tellings(r), stdin=text)
+
+
+def words_for_save(r, rounds):
+    """The words of a command that goes on with a save, with some of its flags."""
+    name = r.choice([name for name, it in COMMANDS.items() if it.heads == [[name, 's']]])
+    return [name, 'f', '--rounds', rounds] + [flag for flag in COMMANDS[name].flags if chance(r, .5)]
 
 
 def long_save(r):
@@ -142,7 +154,7 @@ def long_save(r):
     text = save.text()
     if chance(r, .3):
         text = text.ljust(r.choice([4194303, 4194304, 4194305]), b'\n')
-    return Case(['resume', 'f', '--rounds', '2', '--stats'], {'f': text})
+    return Case(words_for_save(r, '2'), {'f': text})
 
 
 def crowded_save(r):
@@ -150,7 +162,7 @@ def crowded_save(r):
     width, height = r.choice([(130, 130), (131, 130), (512, 3), (512, 35), (513, 3), (2, 3)])
     rim = '#' * width
     save = Save([rim] + ['#' + '+' * (width - 2) + '#'] * (height - 2) + [rim])
-    return Case(['resume', 'f', '--rounds', '0', '--dump', r.choice(['none', '0'])], {'f': save.text()})
+    return Case(words_for_save(r, '0'), {'f': save.text()})
 
 
 LARGE_CASES = [

@@ -6,6 +6,7 @@ import shutil
 import subprocess
 
 from kinds import HERE
+from saves import with_brains
 
 SECONDS = 100  # that a program has for a case
 
@@ -24,14 +25,15 @@ def build(folder):
 def run(program, case, folder):
     """Runs a program on a case that is laid out in the folder, with what comes behind its first command."""
     done = run_once(program, case.words, case, folder)
+    texts = [done.text]
     for words in case.further:
         if done.status != 0:
-            return done
+            break
         with open(os.path.join(folder, 'printed'), 'wb') as file:
-            file.write(done.text)
-        after = run_once(program, words, case, folder)
-        done = Outcome(done.text + b'\0' + after.text, after.fault, after.status)
-    return done
+            file.write(with_brains(done.text, case.brains))
+        done = run_once(program, words, case, folder)
+        texts.append(done.text)
+    return done._replace(text=b'\0'.join(texts))
 
 
 def run_once(program, words, case, folder):

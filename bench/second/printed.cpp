@@ -6,13 +6,11 @@
 
 namespace {
 
-const std::string colours[2] = {"red", "black"};
-
 std::string marks_text(int colour, int marks) {
     if (marks == 0) {
         return "";
     }
-    std::string text = colours[colour] + " marks: ";
+    std::string text = colour_words[colour] + " marks: ";
     for (int marker = 0; marker < 6; marker++) {
         if ((marks >> marker & 1) == 1) {
             text += decimal(marker);
@@ -22,7 +20,7 @@ std::string marks_text(int colour, int marks) {
 }
 
 std::string ant_text(const Ant& ant) {
-    return colours[ant.colour] + " ant of id " + decimal(ant.id) + ", dir " + decimal(ant.direction) + ", food " +
+    return colour_words[ant.colour] + " ant of id " + decimal(ant.id) + ", dir " + decimal(ant.direction) + ", food " +
            (ant.has_food ? "1" : "0") + ", state " + decimal(ant.state) + ", resting " + decimal(ant.resting);
 }
 
@@ -35,7 +33,7 @@ std::string content_of(const Cell& cell) {
         text += decimal(cell.food) + " food; ";
     }
     if (cell.hill) {
-        text += colours[*cell.hill] + " hill; ";
+        text += colour_words[*cell.hill] + " hill; ";
     }
     text += marks_text(RED, cell.marks[RED]);
     text += marks_text(BLACK, cell.marks[BLACK]);
@@ -51,9 +49,12 @@ std::string seed_line(uint64_t seed) {
     return "random seed: " + decimal(seed) + "\n";
 }
 
+std::string place_text(const World& world, int place) {
+    return "(" + decimal(place % world.width) + ", " + decimal(place / world.width) + ")";
+}
+
 std::string cell_line(const World& world, int place) {
-    const std::string where = decimal(place % world.width) + ", " + decimal(place / world.width);
-    return "cell (" + where + "): " + content_of(world.cells[place]) + "\n";
+    return "cell " + place_text(world, place) + ": " + content_of(world.cells[place]) + "\n";
 }
 
 std::string cells_text(const World& world) {
@@ -68,8 +69,7 @@ std::string dump_text(const World& world, uint64_t round) {
     return "\nAfter round " + decimal(round) + "...\n" + cells_text(world);
 }
 
-std::string score_line(const World& world) {
-    const Score score = score_of(world);
+std::string score_line(const Score& score) {
     return "score: red " + decimal(score.red) + " black " + decimal(score.black) + "\n";
 }
 
@@ -96,7 +96,7 @@ void play(Game& game, const Telling& told, std::string text, uint64_t round, con
             text.clear();
         }
     }
-    text += "\n" + score_line(game.world);
+    text += "\n" + score_line(score_of(game.world));
     if (told.has_counts) {
         text += counts_line(windows.counts);
     }

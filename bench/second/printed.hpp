@@ -9,9 +9,10 @@
 
 std::string seed_line(uint64_t seed);
 std::string cells_text(const World& world);
+std::string place_text(const World& world, int place);
 std::string cell_line(const World& world, int place);
 std::string dump_text(const World& world, uint64_t round);
-std::string score_line(const World& world);
+std::string score_line(const Score& score);
 std::string counts_line(const Counts& counts);
 
 // What is told of a game.

@@ -19,7 +19,6 @@ constexpr uint64_t most_sets = 63;
 constexpr uint64_t most_in_a_byte = 62;  // of food; more has a line of its own
 constexpr char more_food = 'o';
 
-const std::string colours[2] = {"red", "black"};
 const std::string kinds = "#.+-";
 
 using Tokens = std::vector<std::string>;
@@ -91,7 +90,7 @@ std::string ants_text(const World& world) {
         }
         const size_t place = static_cast<size_t>(world.places[id]);
         const Ant& ant = *world.cells[place].ant;
-        text += "ant " + decimal(id) + " " + colours[ant.colour] + " " + position_text(world, place) + " " +
+        text += "ant " + decimal(id) + " " + colour_words[ant.colour] + " " + position_text(world, place) + " " +
                 decimal(ant.direction) + " " + (ant.has_food ? "1" : "0") + " " + decimal(ant.state) + " " +
                 decimal(ant.resting) + "\n";
     }
@@ -276,14 +275,15 @@ void Reader::read_ants() {
     uint64_t least = 0;
     while (next() != "end") {
         const Tokens pieces = pieces_of(lines[done - 1]);
-        const std::string colour = pieces.size() > 2 && pieces[2] == colours[BLACK] ? colours[BLACK] : colours[RED];
+        const std::string colour =
+            pieces.size() > 2 && pieces[2] == colour_words[BLACK] ? colour_words[BLACK] : colour_words[RED];
         done--;
         const std::vector<uint64_t> it =
             numbers({"ant", decimal(least) + ".." + decimal(most_ants - 1), colour, up_to(width - 1), up_to(height - 1),
                      "0..5", "0..1", up_to(most_instructions - 1), "0..255"});
         Ant ant;
         ant.id = static_cast<int>(it[0]);
-        ant.colour = colour == colours[RED] ? RED : BLACK;
+        ant.colour = colour == colour_words[RED] ? RED : BLACK;
         ant.direction = static_cast<int>(it[3]);
         ant.has_food = it[4] == 1;
         ant.state = static_cast<int>(it[5]);
@@ -369,8 +369,8 @@ void Reader::judge(Saved& saved) const {
 Saved Reader::read() {
     Saved saved;
     read_head(saved);
-    saved.brains[RED] = read_program(colours[RED]);
-    saved.brains[BLACK] = read_program(colours[BLACK]);
+    saved.brains[RED] = read_program(colour_words[RED]);
+    saved.brains[BLACK] = read_program(colour_words[BLACK]);
     read_cells(saved.world);
     read_ants();
     read_end();
@@ -389,7 +389,7 @@ std::string saved_text(const Saved& saved) {
                        decimal(static_cast<uint64_t>(saved.world.height)) + "\n";
     for (int colour : {RED, BLACK}) {
         const Brain& brain = saved.brains[colour];
-        text += colours[colour] + " " + decimal(brain.size()) + "\n" + canonical_text(brain);
+        text += colour_words[colour] + " " + decimal(brain.size()) + "\n" + canonical_text(brain);
     }
     text += rows_text(saved.world, kind_byte);
     for (int colour : {RED, BLACK}) {
@@ -407,6 +407,23 @@ std::string saved_text(const Saved& saved) {
     return text + ants_text(saved.world) + "end\n";
 }
 
-Saved read_saved(const std::string& name, const std::string& text) {
-    return Reader(name, text).read();
+Saved fetch_saved(const std::string& name, uint64_t rounds) {
+    const Saved saved = Reader(name, fetch(name)).read();
+    if (saved.round > rounds) {
+        refuse(5, name + ": already at round " + decimal(saved.round));
+    }
+    return saved;
+}
+
+void play_on(Saved& saved, uint64_t rounds) {
+    Game game(saved, saved.place);
+    Windows windows(game, saved.window);
+    windows.counts = saved.counts();
+    for (; saved.round < rounds; saved.round++) {
+        windows.play_round();
+    }
+    saved.place = game.random.place();
+    saved.taken = windows.counts.taken;
+    saved.redone = windows.counts.redone;
+    saved.world = game.world;
 }

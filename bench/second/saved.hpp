@@ -13,9 +13,16 @@ struct Saved : Setup {
     uint64_t place = 0;
     uint64_t taken = 0;
     uint64_t redone = 0;
+
+    Counts counts() const {
+        return {taken + redone, taken, redone};
+    }
 };
 
 std::string saved_text(const Saved& saved);
 
-// Refuses a text that is no save.
-Saved read_saved(const std::string& name, const std::string& text);
+// Refuses a text that is no save, and one whose round is above these.
+Saved fetch_saved(const std::string& name, uint64_t rounds);
+
+// Plays a saved game on up to a round, in its windows.
+void play_on(Saved& saved, uint64_t rounds);

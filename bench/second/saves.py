@@ -1,4 +1,6 @@
 """Random texts of saved games. They are states of games, if not of games that anybody played."""
+import re
+
 from brains import brain_lines
 from spelling import LINE_BYTES, NUMBERS, chance, with_other_bytes, with_other_lines
 from worlds import grid
@@ -127,6 +129,17 @@ def any_save(r):
     add_ants(r, save)
     add_cells(r, save)
     return save
+
+
+def with_brains(text, brains):
+    """The text of a save with other brains, by colour."""
+    lines = text.decode('latin1').split('\n')
+    for colour, brain in brains.items():
+        for place, line in enumerate(lines):
+            if re.fullmatch(colour + r' \d+', line, re.ASCII):
+                lines[place:place + 1 + int(line.split(' ')[1])] = ['%s %d' % (colour, len(brain))] + brain
+                break
+    return '\n'.join(lines).encode('latin1')
 
 
 def with_bad_state(r, save):

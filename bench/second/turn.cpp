@@ -59,20 +59,21 @@ void check(World& world, const Sheet& sheet, int place, Trace& trace) {
     if (foes < sheet.surround) {
         return;
     }
+    trace.kills.push_back({place, *cell.ant});
+    trace.touched.push_back(place);
     cell.food += sheet.corpse + (cell.ant->has_food ? 1 : 0);
     world.places[cell.ant->id] = dead;
     cell.ant.reset();
-    trace.killed.push_back(place);
-    trace.touched.push_back(place);
 }
 
-void move(World& world, const Rules& rules, int place, const Instruction& it, Trace& trace) {
+// Does a Move, and tells its answer.
+int move(World& world, const Rules& rules, int place, const Instruction& it, Trace& trace) {
     Cell& from = world.cells[place];
     const int ahead = neighbour(world, place, from.ant->direction);
     Cell& to = world.cells[ahead];
     if (to.is_rocky || to.ant) {
         from.ant->state = static_cast<int>(it.next[1]);
-        return;
+        return 1;
     }
     to.ant = from.ant;
     from.ant.reset();
@@ -84,9 +85,10 @@ void move(World& world, const Rules& rules, int place, const Instruction& it, Tr
     for (int direction = 0; direction < 6; direction++) {
         check(world, rules.sheet, neighbour(world, ahead, direction), trace);
     }
+    return 0;
 }
 
-// Does an instruction that changes no cell but the ant's own, and tells which of its states the ant goes to.
+// Does an instruction that changes no cell but the ant's own, and tells its answer.
 int act(const World& world, Random& random, int place, const Instruction& it, Cell& cell) {
     Ant& ant = *cell.ant;
     switch (it.operation) {
@@ -154,7 +156,8 @@ int sensed_place(const World& world, int place, int direction, int sight) {
 
 void take_turn(World& world, const Rules& rules, Random& random, int id, Trace& trace) {
     trace.touched.clear();
-    trace.killed.clear();
+    trace.kills.clear();
+    trace.answer.reset();
     const int place = world.places[id];
     if (place == dead) {
         return;
@@ -168,9 +171,10 @@ void take_turn(World& world, const Rules& rules, Random& random, int id, Trace& 
     }
     const Instruction& it = (*rules.brains[ant.colour])[ant.state];
     if (it.operation == MOVE) {
-        move(world, rules, place, it, trace);
+        trace.answer = move(world, rules, place, it, trace);
     } else {
-        ant.state = static_cast<int>(it.next[act(world, random, place, it, cell)]);
+        trace.answer = act(world, random, place, it, cell);
+        ant.state = static_cast<int>(it.next[*trace.answer]);
     }
 }
 

@@ -2,6 +2,7 @@
 // "Score and weight" of docs/RULES.md.
 #pragma once
 #include <cstdint>
+#include <optional>
 #include <vector>
 
 #include "brain.hpp"
@@ -35,10 +36,18 @@ struct Rules {
     Sheet sheet;
 };
 
-// What a turn did: the places of the cells that it may have changed, and of those among them whose ants it killed.
+// An ant that was killed, as it was then, and the place of its cell.
+struct Kill {
+    int place;
+    Ant ant;
+};
+
+// What a turn did: the places of the cells that it may have changed, its kills in the order of the checks, and the
+// answer to which an instruction came, if one was executed: 0 is the first one.
 struct Trace {
     std::vector<int> touched;
-    std::vector<int> killed;
+    std::vector<Kill> kills;
+    std::optional<int> answer;
 };
 
 int sensed_place(const World& world, int place, int direction, int sight);

@@ -110,6 +110,8 @@ void judge_ants(const Judged& world) {
 
 }  // namespace
 
+const std::string colour_words[2] = {"red", "black"};
+
 Point neighbour(Point point, int direction) {
     return {point.x + steps_right[point.y & 1][direction], point.y + steps_down[direction]};
 }

@@ -7,6 +7,8 @@
 
 enum Colour { RED, BLACK };
 
+extern const std::string colour_words[2];
+
 struct Ant {
     int id = 0;
     int colour = RED;

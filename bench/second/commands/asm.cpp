@@ -224,9 +224,10 @@ class Expansion {
     }
     Brain brain() const;
     void print_labels() const;
+    void print_lines() const;
 
   private:
-    std::string path(size_t use) const;
+    std::string way_to(size_t use) const;
     void place(const Body& body, size_t outer, size_t item);
     uint64_t target(size_t use, size_t item, const std::string& label) const;
 
@@ -262,14 +263,14 @@ uint64_t Expansion::target(size_t use, size_t item, const std::string& label) co
     return here.first[place] % emitted.size();
 }
 
-// What stands before a name in a body: each use that leads there from main, with its line.
-std::string Expansion::path(size_t use) const {
+// Each use that leads to a body from main, with its line; nothing for main.
+std::string Expansion::way_to(size_t use) const {
     if (use == 0) {
         return "";
     }
     const Placed& here = placed[use];
     const Item& used = placed[here.outer].body->items[here.item];
-    return path(here.outer) + here.body->name + "@" + decimal(used.line) + "/";
+    return way_to(here.outer) + (here.outer == 0 ? "" : "/") + here.body->name + "@" + decimal(used.line);
 }
 
 // A body stands in `placed` before those that it uses, and these stand in the order of their uses: so do the lines.
@@ -279,13 +280,29 @@ void Expansion::print_labels() const {
         if (it.body->ordered_labels.empty()) {
             continue;
         }
-        const std::string before = path(it.use);
+        const std::string before = way_to(it.use) + (it.use == 0 ? "" : "/");
         for (const std::string& label : it.body->ordered_labels) {
             text += decimal(it.first[it.body->labels.at(label)] % emitted.size()) + " " + before + label + "\n";
             if (text.size() > most_text) {
                 print(text);
                 text.clear();
             }
+        }
+    }
+    print(text);
+}
+
+// A line for each state: that of its instruction, and the way to its body.
+void Expansion::print_lines() const {
+    std::string text;
+    for (size_t state = 0; state < emitted.size(); state++) {
+        const Emitted& it = emitted[state];
+        const std::string way = way_to(it.use);
+        text += decimal(state) + " " + decimal(placed[it.use].body->items[it.item].line) + (way.empty() ? "" : " ") +
+                way + "\n";
+        if (text.size() > most_text) {
+            print(text);
+            text.clear();
         }
     }
     print(text);
@@ -323,12 +340,17 @@ Program read_program(const std::string& name, const std::string& text) {
 static const Command here("asm", [](Words& words) {
     const std::string name = words.file_name();
     bool tells_labels = false;
-    words.options({flag("--labels", tells_labels)});
+    bool tells_lines = false;
+    words.options({flag("--labels", tells_labels), flag("--lines", tells_lines)});
     const Program program = read_program(name, fetch(name));
     const Expansion expansion(program);
     if (tells_labels) {
         expansion.print_labels();
-    } else {
+    }
+    if (tells_lines) {
+        expansion.print_lines();
+    }
+    if (!tells_labels && !tells_lines) {
         print(canonical_text(expansion.brain()));
     }
 });

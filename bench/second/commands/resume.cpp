@@ -8,11 +8,8 @@ static const Command here("resume", [](Words& words) {
     Telling told;
     words.options({needed_number("--rounds", 0, most_rounds, told.rounds), dumps_option(told.dumps), workers_option(),
                    flag("--stats", told.has_counts)});
-    const Saved saved = read_saved(name, fetch(name));
-    if (saved.round > told.rounds) {
-        refuse(5, name + ": already at round " + decimal(saved.round));
-    }
+    const Saved saved = fetch_saved(name, told.rounds);
     told.window = saved.window;
     Game game(saved, saved.place);
-    play(game, told, "", saved.round, {saved.taken + saved.redone, saved.taken, saved.redone});
+    play(game, told, "", saved.round, saved.counts());
 });

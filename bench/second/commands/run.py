@@ -1,13 +1,11 @@
 """Random cases of `run`."""
-from brains import fighting_lines
 from cases import (
     DUMP, SEED_AND_ROUNDS, SHEET, WINDOW, WORKERS, Case, dump_word, put_game, rounds_of_run, seed_and_rounds, shuffled,
     some, some_sheet, some_workers,
 )
-from fights import TAKERS, WALKERS, crowded_rows
+from fights import fighting_rounds, put_fight, quick_options
 from kinds import command, kind
-from spelling import chance, spelled
-from worlds import grid, world_text
+from worlds import grid
 
 command('run', heads=[['run', 'w', 'r', 'b']], flags=['--stats', '--far'],
         limits={**SEED_AND_ROUNDS, **SHEET, **DUMP, **WORKERS, **WINDOW})
@@ -36,12 +34,9 @@ def case_of_run(r):
 
 
 def fight_options(r):
-    """Options for a game that goes quickly: short rests, and few foes that surround."""
-    rounds = str(r.choice([r.randint(1, 10), r.randint(5, 40), r.randint(20, 80), r.randint(30, 120)]))
-    options = [['--seed', str(r.randrange(2**32))], ['--rounds', rounds], ['--dump', rounds], ['--stats']]
-    options.append(['--rest', str(r.choice([0, 0, 0, 0, 1, 2, 14]))])
-    options.append(['--surround', str(r.choice([4, 4, 4, 4, 5, 6]))])
-    options.append(['--corpse', str(r.choice([0, 1, 3, 9]))])
+    """Options for a game that goes quickly, with counts."""
+    rounds = fighting_rounds(r)
+    options = quick_options(r, rounds) + [['--dump', rounds], ['--stats']]
     options.append(['--window', str(r.choice([16384, r.randint(2, 20), r.randint(10, 40)]))])
     return shuffled(r, options + some_workers(r, .3) + some(r, '--far', .2))
 
@@ -50,12 +45,5 @@ def fight_options(r):
 def case_of_fight(r):
     """A crowded game with counts: looks that fail for each part that a turn may read."""
     case = Case()
-    case.files['w'] = world_text(r, crowded_rows(r), False)
-    case.files['r'] = spelled(r, fighting_lines(r), 0)
-    case.files['b'] = spelled(r, fighting_lines(r), 0)
-    if chance(r, .35):
-        pair = r.choice(TAKERS), r.choice(WALKERS)
-        for name, lines in zip('rb' if chance(r, .5) else 'br', pair):
-            case.files[name] = spelled(r, lines, 0)
-    case.words = ['run', 'w', 'r', 'b'] + fight_options(r)
+    case.words = ['run'] + put_fight(case, r) + fight_options(r)
     return case

@@ -1,5 +1,5 @@
-// `same`: the section "The commands" of docs/RULES.md.
-#include <deque>
+// `same`: the section "Minimised brains" of docs/RULES.md.
+#include <algorithm>
 #include <optional>
 #include <set>
 
@@ -7,33 +7,59 @@
 
 namespace {
 
-// Two states that differ, and after how many answers they are reached.
-struct Difference {
-    uint64_t answers;
+// Two states to which the same answers lead: those that lead to the pair before it, and one more.
+struct Pair {
     uint64_t first;
     uint64_t second;
+    size_t before;
+    size_t answer;
 };
+
+// The pairs on the way to two states that differ, from the states 0 on.
+using Way = std::vector<Pair>;
+
+Way way_to(const std::vector<Pair>& pairs, size_t last) {
+    Way way = {pairs[last]};
+    while (last != 0) {
+        last = pairs[last].before;
+        way.push_back(pairs[last]);
+    }
+    std::reverse(way.begin(), way.end());
+    return way;
+}
 
 // Goes through the pairs of states to which the same answers lead, fewer answers first and met before unmet. Tells none
 // where the brains are the same.
-std::optional<Difference> difference_of(const Brain& first, const Brain& second) {
-    std::set<std::pair<uint64_t, uint64_t>> met = {{0, 0}};
-    std::deque<Difference> left = {{0, 0, 0}};
-    while (!left.empty()) {
-        const Difference pair = left.front();
-        left.pop_front();
-        const Instruction& one = first[pair.first];
-        const Instruction& other = second[pair.second];
+std::optional<Way> way_to_difference(const Brain& first, const Brain& second) {
+    std::set<std::pair<uint64_t, uint64_t>> known = {{0, 0}};
+    std::vector<Pair> pairs = {{0, 0, 0, 0}};
+    for (size_t place = 0; place < pairs.size(); place++) {
+        const Instruction& one = first[pairs[place].first];
+        const Instruction& other = second[pairs[place].second];
         if (kind_of(one) != kind_of(other)) {
-            return pair;
+            return way_to(pairs, place);
         }
-        for (size_t i = 0; i < one.next.size(); i++) {
-            if (met.insert({one.next[i], other.next[i]}).second) {
-                left.push_back({pair.answers + 1, one.next[i], other.next[i]});
+        for (size_t answer = 0; answer < one.next.size(); answer++) {
+            if (known.insert({one.next[answer], other.next[answer]}).second) {
+                pairs.push_back({one.next[answer], other.next[answer], place, answer});
             }
         }
     }
     return {};
+}
+
+std::string state_text(uint64_t state, const Brain& brain) {
+    return decimal(state) + ": " + line_of(brain[state]);
+}
+
+// A line for each answer on the way.
+std::string answers_text(const Way& way, const Brain& first, const Brain& second) {
+    std::string text;
+    for (size_t i = 0; i + 1 < way.size(); i++) {
+        text += "first " + state_text(way[i].first, first) + ", second " + state_text(way[i].second, second) + ": " +
+                (way[i + 1].answer == 0 ? "met" : "unmet") + "\n";
+    }
+    return text;
 }
 
 }  // namespace
@@ -41,15 +67,16 @@ std::optional<Difference> difference_of(const Brain& first, const Brain& second)
 static const Command here("same", [](Words& words) {
     const std::string first_name = words.file_name();
     const std::string second_name = words.file_name();
-    words.end();
+    bool tells_way = false;
+    words.options({flag("--way", tells_way)});
     const Brain first = fetch_brain(first_name);
     const Brain second = fetch_brain(second_name);
-    const std::optional<Difference> found = difference_of(first, second);
-    if (!found) {
+    const std::optional<Way> way = way_to_difference(first, second);
+    if (!way) {
         print("same\n");
         return;
     }
-    print("different after " + decimal(found->answers) + " answers\nfirst " + decimal(found->first) + ": " +
-          line_of(first[found->first]) + "\nsecond " + decimal(found->second) + ": " + line_of(second[found->second]) +
-          "\n");
+    print("different after " + decimal(way->size() - 1) + " answers\n" +
+          (tells_way ? answers_text(*way, first, second) : "") + "first " + state_text(way->back().first, first) +
+          "\nsecond " + state_text(way->back().second, second) + "\n");
 });

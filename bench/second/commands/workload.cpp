@@ -60,5 +60,5 @@ static const Command here("workload", [](Words& words) {
         windows.play_round();
     }
     print("workload seed " + decimal(seed) + " rounds " + decimal(rounds) + "\n" + start_lines(world) +
-          alive_line(game.world) + score_line(game.world) + counts_line(windows.counts));
+          alive_line(game.world) + score_line(score_of(game.world)) + counts_line(windows.counts));
 });

@@ -33,14 +33,14 @@ module _ (main : Items) where
       ap₂ (λ (s : ℕ) (l : List LabelState). (let one : LabelState = record { way = way; name = name; state = s } in one) ∷ l)
       (number_first-is main items frame numbers k is ∙ first-state items frame numbers k others at is fits there)
       (own-is others items frame numbers way k at is fits there)
-  own-is (Instructed others) items frame numbers way k at is fits there =
+  own-is (Instructed line others) items frame numbers way k at is fits there =
       go (from_place k items) refl fits (λ fit next. own-is others items frame numbers way (suc k) (at + 1) is fit next)
     where
-      go : (rest : Items) → from_place k items ≡ rest → Fits (Instructed others) rest → (Fits others (from_place (suc k) items) → at + 1 ≡ numbers.base + offset (suc k) items →
+      go : (rest : Items) → from_place k items ≡ rest → Fits (Instructed line others) rest → (Fits others (from_place (suc k) items) → at + 1 ≡ numbers.base + offset (suc k) items →
           own_labels others (put items frame way) (suc k) ≡ own_states others (at + 1) numbers.after way) → own_labels others (put items frame way) (suc k) ≡ own_states others (at + 1) numbers.after way
       go End e fit later = absurd fit
       go (Do action left) e fit later =
-          later (fits-next others items (Do action left) k e fit)
+          later (fits-next others items (Do action left) k e fit.1)
           (let next : offset (suc k) items ≡ offset k items + 1 = offset-next k items ∙ ap (λ (i : Items). offset k items + offset 1 i) e in omega (arith, there, next))
       go (Use handed block left) e fit later = absurd fit
   own-is (Used line name block others) items frame numbers way k at is fits there =
@@ -59,14 +59,14 @@ module _ (main : Items) where
       inner_labels outline (put items frame way) k ≡ inner_states outline at numbers.after way
   inner-is Closed items frame numbers way k at is fits there = refl
   inner-is (Labelled name others) items frame numbers way k at is fits there = inner-is others items frame numbers way k at is fits there
-  inner-is (Instructed others) items frame numbers way k at is fits there =
+  inner-is (Instructed line others) items frame numbers way k at is fits there =
       go (from_place k items) refl fits (λ fit next. inner-is others items frame numbers way (suc k) (at + 1) is fit next)
     where
-      go : (rest : Items) → from_place k items ≡ rest → Fits (Instructed others) rest → (Fits others (from_place (suc k) items) → at + 1 ≡ numbers.base + offset (suc k) items →
+      go : (rest : Items) → from_place k items ≡ rest → Fits (Instructed line others) rest → (Fits others (from_place (suc k) items) → at + 1 ≡ numbers.base + offset (suc k) items →
           inner_labels others (put items frame way) (suc k) ≡ inner_states others (at + 1) numbers.after way) → inner_labels others (put items frame way) (suc k) ≡ inner_states others (at + 1) numbers.after way
       go End e fit later = absurd fit
       go (Do action left) e fit later =
-          later (fits-next others items (Do action left) k e fit)
+          later (fits-next others items (Do action left) k e fit.1)
           (let next : offset (suc k) items ≡ offset k items + 1 = offset-next k items ∙ ap (λ (i : Items). offset k items + offset 1 i) e in omega (arith, there, next))
       go (Use handed block left) e fit later = absurd fit
   inner-is (Used line name block others) items frame numbers way k at is fits there =

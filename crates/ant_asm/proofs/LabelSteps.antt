@@ -1,4 +1,4 @@
--- The labels of a line of a body that is put in place, and those of the lines after it.
+-- What is told of a line of a body that is put in place, and of the lines after it.
 use Rattle.std.proofs.Common.{◌≡◌, ℕ, zero, suc, ◌+◌, ◌<◌, ◌≤◌, List, [], ◌∷◌, ◌++◌, drop, length, Some, refl, sym, ap, ◌∙◌, subst, arith}
 use Rattle.std.specs.Prelude.{◌==◌, if◌then◌else◌, slice_get, slice_index_or, Vec}
 use Rattle.std.proofs.lemmas.List.{drop_more}
@@ -7,10 +7,12 @@ use Rattle.ant_base.specs.Sink.{PushedAll, SinkState}
 use Rattle.ant_asm.specs.declared.named.NamedBody.{NamedBody}
 use Rattle.ant_asm.specs.declared.named.NamedLine.{NamedLine}
 use Rattle.ant_asm.specs.Labels.{LabelState, Outline, WayStep, labels_text}
+use Rattle.ant_asm.specs.StateLines.{StateLine, state_lines_text}
 use Rattle.ant_asm.specs.Labels.Outline.{Closed}
 use Rattle.ant_asm.specs.Inner.Flat.{most}
-use Rattle.ant_asm.specs.Inner.Outlines.{AreGoodNamed, IsUseBelow, all_states, further, inner_states, label_of, line_before, line_size, lines_before, most_size, outline_at, outline_size, outlines_of, own_states, size_in, state_at}
+use Rattle.ant_asm.specs.Inner.Outlines.{AreGoodNamed, IsUseBelow, all_states, further, inner_states, label_of, line_before, line_size, lines_before, most_size, outline_at, outline_size, outlines_of, own_states, size_in, state_at, told_lines}
 use Rattle.ant_asm.proofs.FlatLemmas.{all_at, read_at}
+use Rattle.ant_asm.proofs.LabelTexts.{labels_text-append, state_lines_text-append}
 use Rattle.ant_asm.proofs.LabelWalk.{AreTold, state-is, told-all, told-none}
 use Rattle.ant_asm.proofs.OutlineLemmas.{IsNamedAt, line_before-size, named-at, use_below-more}
 
@@ -24,16 +26,31 @@ own-split : (blocks : List Outline) (line : NamedLine) (rest : Outline) (at afte
     own_states (line_before blocks line rest) at after way ≡ label_of line (state_at (outline_size (line_before blocks line rest)) at after) way ++ own_states rest (at + size) after way
 own-split blocks (NamedLine.Label name) rest at after way size is =
     ap (λ (n : ℕ). (let one : LabelState = record { way = way; name = name.items; state = state_at (outline_size rest) at after } in one) ∷ own_states rest n after way) (let e : at ≡ at + size = omega (arith, is) in e)
-own-split blocks NamedLine.Instruction rest at after way size is = ap (λ (n : ℕ). own_states rest n after way) (let e : at + 1 ≡ at + size = omega (arith, is) in e)
+own-split blocks (NamedLine.Instruction line) rest at after way size is = ap (λ (n : ℕ). own_states rest n after way) (let e : at + 1 ≡ at + size = omega (arith, is) in e)
 own-split blocks (NamedLine.Use line name block) rest at after way size is =
     ap (λ (n : ℕ). own_states rest n after way) (let e : at + outline_size (slice_index_or blocks block Closed) ≡ at + size = omega (arith, is) in e)
 
 inner-split : (blocks : List Outline) (line : NamedLine) (rest : Outline) (at after : ℕ) (way : List WayStep) (size : ℕ) → size ≡ outline_size (line_before blocks line Closed) →
     inner_states (line_before blocks line rest) at after way ≡ used_states blocks line at (state_at (outline_size rest) (at + size) after) way ++ inner_states rest (at + size) after way
 inner-split blocks (NamedLine.Label name) rest at after way size is = ap (λ (n : ℕ). inner_states rest n after way) (let e : at ≡ at + size = omega (arith, is) in e)
-inner-split blocks NamedLine.Instruction rest at after way size is = ap (λ (n : ℕ). inner_states rest n after way) (let e : at + 1 ≡ at + size = omega (arith, is) in e)
+inner-split blocks (NamedLine.Instruction line) rest at after way size is = ap (λ (n : ℕ). inner_states rest n after way) (let e : at + 1 ≡ at + size = omega (arith, is) in e)
 inner-split blocks (NamedLine.Use line name block) rest at after way size is =
     ap (λ (n : ℕ). used_states blocks (NamedLine.Use line name block) at (state_at (outline_size rest) n after) way ++ inner_states rest n after way)
+    (let e : at + outline_size (slice_index_or blocks block Closed) ≡ at + size = omega (arith, is) in e)
+
+-- where the instructions of a line stand
+abbrev pub line_states : List Outline → NamedLine → ℕ → List WayStep → List StateLine
+line_states blocks (NamedLine.Label name) at way = []
+line_states blocks (NamedLine.Instruction line) at way = (record { state = at; line = line; way = way }) ∷ []
+line_states blocks (NamedLine.Use line name block) at way = told_lines (slice_index_or blocks block Closed) at (further way name.items line)
+
+lines-split : (blocks : List Outline) (line : NamedLine) (rest : Outline) (at : ℕ) (way : List WayStep) (size : ℕ) → size ≡ outline_size (line_before blocks line Closed) →
+    told_lines (line_before blocks line rest) at way ≡ line_states blocks line at way ++ told_lines rest (at + size) way
+lines-split blocks (NamedLine.Label name) rest at way size is = ap (λ (n : ℕ). told_lines rest n way) (let e : at ≡ at + size = omega (arith, is) in e)
+lines-split blocks (NamedLine.Instruction line) rest at way size is =
+    ap (λ (n : ℕ). (let one : StateLine = record { state = at; line = line; way = way } in one) ∷ told_lines rest n way) (let e : at + 1 ≡ at + size = omega (arith, is) in e)
+lines-split blocks (NamedLine.Use line name block) rest at way size is =
+    ap (λ (n : ℕ). told_lines (slice_index_or blocks block Closed) at (further way name.items line) ++ told_lines rest n way)
     (let e : at + outline_size (slice_index_or blocks block Closed) ≡ at + size = omega (arith, is) in e)
 
 -- there is a body of a number that is known
@@ -74,7 +91,7 @@ module _ {bodies : List NamedBody} {number : ℕ} {body : NamedBody} (a : AtBody
     body-size = let same = named.size (omega (arith, fits)) in same
 
   -- the lines, of which none was told
-  pub told-start : (tell : Outline → ℕ → List LabelState) (base : ℕ) (list : List NamedLine) (state : SinkState) → list ≡ body.lines.items →
+  pub told-start : (tell : Outline → ℕ → List ℕ) (base : ℕ) (list : List NamedLine) (state : SinkState) → list ≡ body.lines.items →
       AreTold tell (tell whole base) (base + outline_size whole) (lines_before blocks (drop 0 list) Closed) base state state
   told-start tell base list state same =
       subst (λ (o : Outline). AreTold tell (tell o base) (base + outline_size o) (lines_before blocks list Closed) base state state)
@@ -110,10 +127,13 @@ module _ {bodies : List NamedBody} {number : ℕ} {body : NamedBody} (a : AtBody
 
       module _ (after : ℕ) (way : List WayStep) where
         pub own-step : (state : ℕ) → state ≡ (if here == end then after else here) →
-            own_states (lines_before blocks (drop i list) Closed) here after way ≡ label_of line state way ++ own_states (lines_before blocks (drop (i + 1) list) Closed) (here + size) after way
+            labels_text (own_states (lines_before blocks (drop i list) Closed) here after way)
+            ≡ labels_text (label_of line state way) ++ labels_text (own_states (lines_before blocks (drop (i + 1) list) Closed) (here + size) after way)
         own-step state is =
-            ap (λ (o : Outline). own_states o here after way) rest-split ∙ own-split blocks line rest here after way size size-is
-            ∙ ap (λ (s : ℕ). label_of line s way ++ own_states rest (here + size) after way)
+            ap (λ (o : Outline). labels_text (own_states o here after way)) rest-split
+            ∙ ap labels_text (own-split blocks line rest here after way size size-is)
+            ∙ labels_text-append (label_of line (state_at (outline_size (line_before blocks line rest)) here after) way) (own_states rest (here + size) after way)
+            ∙ ap (λ (s : ℕ). labels_text (label_of line s way) ++ labels_text (own_states rest (here + size) after way))
             (sym (is ∙ state-is here end after (outline_size (line_before blocks line rest)) (ap (λ (o : Outline). here + outline_size o) (sym rest-split) ∙ ends)))
 
         pub inner-step : (follows : ℕ) → follows ≡ (if here + size == end then after else here + size) →
@@ -125,20 +145,37 @@ module _ {bodies : List NamedBody} {number : ℕ} {body : NamedBody} (a : AtBody
 
         -- a line that puts a block in place, and one that doesn't
         pub use-step : (follows : ℕ) → follows ≡ (if here + size == end then after else here + size) → (number_of : ℕ) (name : Vec ℕ Global) (block : ℕ) (text : List ℕ) → line ≡ NamedLine.Use number_of name block → text ≡ name.items →
-            inner_states (lines_before blocks (drop i list) Closed) here after way ≡ all_states (outline_at bodies block) here follows (further way text number_of) ++ inner_states (lines_before blocks (drop (i + 1) list) Closed) (here + size) after way
+            labels_text (inner_states (lines_before blocks (drop i list) Closed) here after way)
+            ≡ labels_text (all_states (outline_at bodies block) here follows (further way text number_of)) ++ labels_text (inner_states (lines_before blocks (drop (i + 1) list) Closed) (here + size) after way)
         use-step follows is number_of name block text uses named =
-            inner-step follows is
+            ap labels_text (inner-step follows is
             ∙ ap (λ (l : NamedLine). used_states blocks l here follows way ++ inner_states rest (here + size) after way) uses
-            ∙ ap (λ (n : List ℕ). all_states (outline_at bodies block) here follows (further way n number_of) ++ inner_states rest (here + size) after way) (sym named)
+            ∙ ap (λ (n : List ℕ). all_states (outline_at bodies block) here follows (further way n number_of) ++ inner_states rest (here + size) after way) (sym named))
+            ∙ labels_text-append (all_states (outline_at bodies block) here follows (further way text number_of)) (inner_states rest (here + size) after way)
 
         pub plain-step : ((follows : ℕ) → used_states blocks line here follows way ≡ []) →
-            inner_states (lines_before blocks (drop i list) Closed) here after way ≡ [] ++ inner_states (lines_before blocks (drop (i + 1) list) Closed) (here + size) after way
+            labels_text (inner_states (lines_before blocks (drop i list) Closed) here after way) ≡ [] ++ labels_text (inner_states (lines_before blocks (drop (i + 1) list) Closed) (here + size) after way)
         plain-step none =
-            inner-step (if here + size == end then after else here + size) refl
-            ∙ ap (λ (l : List LabelState). l ++ inner_states rest (here + size) after way) (none (if here + size == end then after else here + size))
+            ap labels_text (inner-step (if here + size == end then after else here + size) refl
+            ∙ ap (λ (l : List LabelState). l ++ inner_states rest (here + size) after way) (none (if here + size == end then after else here + size)))
+
+      -- where the instructions of a line stand
+      module _ (way : List WayStep) where
+        lines-step : state_lines_text (told_lines (lines_before blocks (drop i list) Closed) here way)
+            ≡ state_lines_text (line_states blocks line here way) ++ state_lines_text (told_lines (lines_before blocks (drop (i + 1) list) Closed) (here + size) way)
+        lines-step =
+            ap (λ (o : Outline). state_lines_text (told_lines o here way)) rest-split ∙ ap state_lines_text (lines-split blocks line rest here way size size-is)
+            ∙ state_lines_text-append (line_states blocks line here way) (told_lines rest (here + size) way)
+
+        -- of a line that is this one
+        pub lines-at : (one : NamedLine) (text : List ℕ) → line ≡ one → text ≡ state_lines_text (line_states blocks one here way) →
+            state_lines_text (told_lines (lines_before blocks (drop i list) Closed) here way) ≡ text ++ state_lines_text (told_lines (lines_before blocks (drop (i + 1) list) Closed) (here + size) way)
+        lines-at one text is told_so =
+            lines-step ∙ ap (λ (l : NamedLine). state_lines_text (line_states blocks l here way) ++ state_lines_text (told_lines rest (here + size) way)) is
+            ∙ ap (λ (t : List ℕ). t ++ state_lines_text (told_lines rest (here + size) way)) (sym told_so)
 
   -- the end of the lines
-  pub told-end : (tell : Outline → ℕ → List LabelState) (list : List NamedLine) (i : ℕ) (all : List LabelState) (end at : ℕ) (old new : SinkState) → drop i list ≡ [] → tell Closed at ≡ [] →
-      AreTold tell all end (lines_before blocks (drop i list) Closed) at old new → PushedAll old new (labels_text all)
+  pub told-end : (tell : Outline → ℕ → List ℕ) (list : List NamedLine) (i : ℕ) (all : List ℕ) (end at : ℕ) (old new : SinkState) → drop i list ≡ [] → tell Closed at ≡ [] →
+      AreTold tell all end (lines_before blocks (drop i list) Closed) at old new → PushedAll old new all
   told-end tell list i all end at old new none nothing told =
       told-all tell all end at old new (subst (λ (l : List NamedLine). AreTold tell all end (lines_before blocks l Closed) at old new) none told) nothing

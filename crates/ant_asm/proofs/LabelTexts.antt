@@ -1,8 +1,9 @@
--- The texts of ways and of labels, in parts.
+-- The texts of ways, of labels and of lines, in parts.
 use Rattle.std.proofs.Common.{◌≡◌, ℕ, List, [], ◌∷◌, ◌++◌, codes, refl, sym, ap, ◌∙◌, append_assoc, append-nil}
 use Rattle.std.specs.Prelude.{decimal}
 use Rattle.ant_base.specs.Layout.{◌+++◌}
 use Rattle.ant_asm.specs.Labels.{LabelState, WayStep, label_text, labels_text, way_text}
+use Rattle.ant_asm.specs.StateLines.{StateLine, state_line_text, state_lines_text, uses_text}
 use Rattle.ant_asm.specs.Inner.Outlines.{further}
 
 -- the text of one use
@@ -17,3 +18,23 @@ way_text-further (step ∷ way) name line =
 pub labels_text-append : (front back : List LabelState) → labels_text (front ++ back) ≡ labels_text front ++ labels_text back
 labels_text-append [] back = refl
 labels_text-append (label ∷ front) back = ap (λ (t : List ℕ). label_text label ++ t) (labels_text-append front back) ∙ sym (append_assoc (label_text label) (labels_text front) (labels_text back))
+
+pub state_lines_text-append : (front back : List StateLine) → state_lines_text (front ++ back) ≡ state_lines_text front ++ state_lines_text back
+state_lines_text-append [] back = refl
+state_lines_text-append (it ∷ front) back = ap (λ (t : List ℕ). state_line_text it ++ t) (state_lines_text-append front back) ∙ sym (append_assoc (state_line_text it) (state_lines_text front) (state_lines_text back))
+
+-- the uses on the way, the last of which is this one
+pub uses_text-further : (before : List ℕ) (way : List WayStep) (name : List ℕ) (line : ℕ) → uses_text before (further way name line) ≡ before +++ way_text way +++ name +++ codes "@" +++ decimal line
+uses_text-further before [] name line = append-nil (before +++ name +++ codes "@" +++ decimal line)
+uses_text-further before (step ∷ way) name line =
+    ap (λ (t : List ℕ). (before +++ step.name +++ codes "@" +++ decimal step.line) ++ t) (uses_text-further (codes "/") way name line)
+    ∙ append_assoc before (step.name +++ codes "@" +++ decimal step.line) (codes "/" +++ way_text way +++ last)
+    ∙ ap (λ (t : List ℕ). before ++ t) (append_assoc step.name (codes "@" +++ decimal step.line) (codes "/" +++ way_text way +++ last) ∙ sym behind)
+  where
+    last : List ℕ
+    last = name +++ codes "@" +++ decimal line
+
+    behind : (use_text step.name step.line ++ way_text way) ++ last ≡ step.name +++ codes "@" +++ decimal step.line +++ codes "/" +++ way_text way +++ last
+    behind =
+        append_assoc (use_text step.name step.line) (way_text way) last ∙ append_assoc step.name (codes "@" +++ decimal step.line +++ codes "/") (way_text way ++ last)
+        ∙ ap (λ (t : List ℕ). step.name +++ codes "@" +++ t) (append_assoc (decimal step.line) (codes "/") (way_text way ++ last))

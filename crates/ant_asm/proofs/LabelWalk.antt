@@ -1,47 +1,45 @@
--- The labels of a body, line by line.
+-- What is told of a body, line by line.
 use Rattle.std.proofs.Common.{◌≡◌, ℕ, ◌+◌, Bool, true, false, List, [], ◌++◌, refl, sym, ap, ◌∙◌, subst, arith, append_assoc, append-nil}
 use Rattle.std.specs.Prelude.{◌==◌, if◌then◌else◌}
 use Rattle.std.proofs.lemmas.Bool.{eq-eqb, eqb-true}
 use Rattle.ant_base.specs.Sink.{PushedAll, PushedFront, SinkState}
 use Rattle.ant_base.proofs.Pushes.{all_of_nothing, all_then, front_more, front_then}
-use Rattle.ant_asm.specs.Labels.{LabelState, Outline, labels_text}
+use Rattle.ant_asm.specs.Labels.{Outline}
 use Rattle.ant_asm.specs.Labels.Outline.{Closed}
 use Rattle.ant_asm.specs.Inner.Outlines.{outline_size, state_at}
-use Rattle.ant_asm.proofs.LabelTexts.{labels_text-append}
 
--- some labels were told; those of the lines that are left, the first of whose instructions has this number, are the others
-pub record AreTold (tell : Outline → ℕ → List LabelState) (all : List LabelState) (end : ℕ) (rest : Outline) (at : ℕ) (old new : SinkState) : Type 0 where
-  pub told : List LabelState
-  pub pushed : PushedAll old new (labels_text told)
+-- a text was told; that of the lines that are left, the first of whose instructions has this number, is the rest of it
+pub record AreTold (tell : Outline → ℕ → List ℕ) (all : List ℕ) (end : ℕ) (rest : Outline) (at : ℕ) (old new : SinkState) : Type 0 where
+  pub told : List ℕ
+  pub pushed : PushedAll old new told
   pub left : told ++ tell rest at ≡ all
   pub ends : at + outline_size rest ≡ end
 
-module _ (tell : Outline → ℕ → List LabelState) where
+module _ (tell : Outline → ℕ → List ℕ) where
   pub told-none : (rest : Outline) (at end : ℕ) (state : SinkState) → at + outline_size rest ≡ end → AreTold tell (tell rest at) end rest at state state
   told-none rest at end state ends = record { told = []; pushed = all_of_nothing state; left = refl; ends = ends }
 
   -- some more
-  pub told-more : (all more : List LabelState) (end at next : ℕ) (rest later : Outline) (old mid new : SinkState) → AreTold tell all end rest at old mid → PushedAll mid new (labels_text more) →
+  pub told-more : (all more : List ℕ) (end at next : ℕ) (rest later : Outline) (old mid new : SinkState) → AreTold tell all end rest at old mid → PushedAll mid new more →
       tell rest at ≡ more ++ tell later next → next + outline_size later ≡ end → AreTold tell all end later next old new
   told-more all more end at next rest later old mid new before pushed split ends = record {
     told = before.told ++ more;
-    pushed = subst (PushedAll old new) (sym (labels_text-append before.told more)) (all_then old mid new (labels_text before.told) (labels_text more) before.pushed pushed);
-    left = append_assoc before.told more (tell later next) ∙ ap (λ (l : List LabelState). before.told ++ l) (sym split) ∙ before.left;
+    pushed = all_then old mid new before.told more before.pushed pushed;
+    left = append_assoc before.told more (tell later next) ∙ ap (λ (t : List ℕ). before.told ++ t) (sym split) ∙ before.left;
     ends = ends;
   }
 
   -- a prefix of some more
-  pub told-front : (all more others : List LabelState) (end at : ℕ) (rest : Outline) (old mid new : SinkState) → AreTold tell all end rest at old mid → PushedFront mid new (labels_text more) →
-      tell rest at ≡ more ++ others → PushedFront old new (labels_text all)
+  pub told-front : (all more others : List ℕ) (end at : ℕ) (rest : Outline) (old mid new : SinkState) → AreTold tell all end rest at old mid → PushedFront mid new more →
+      tell rest at ≡ more ++ others → PushedFront old new all
   told-front all more others end at rest old mid new before pushed split =
-      subst (PushedFront old new)
-      (ap (λ (t : List ℕ). labels_text before.told ++ t) (sym (labels_text-append more others) ∙ ap labels_text (sym split)) ∙ sym (labels_text-append before.told (tell rest at)) ∙ ap labels_text before.left)
-      (front_then old mid new (labels_text before.told) (labels_text more ++ labels_text others) before.pushed (front_more mid new (labels_text more) (labels_text others) pushed))
+      subst (PushedFront old new) (ap (λ (t : List ℕ). before.told ++ t) (sym split) ∙ before.left)
+      (front_then old mid new before.told (more ++ others) before.pushed (front_more mid new more others pushed))
 
   -- nothing is left
-  pub told-all : (all : List LabelState) (end at : ℕ) (old new : SinkState) → AreTold tell all end Closed at old new → tell Closed at ≡ [] → PushedAll old new (labels_text all)
+  pub told-all : (all : List ℕ) (end at : ℕ) (old new : SinkState) → AreTold tell all end Closed at old new → tell Closed at ≡ [] → PushedAll old new all
   told-all all end at old new before none =
-      subst (λ (l : List LabelState). PushedAll old new (labels_text l)) (sym (append-nil before.told) ∙ ap (λ (l : List LabelState). before.told ++ l) (sym none) ∙ before.left) before.pushed
+      subst (PushedAll old new) (sym (append-nil before.told) ∙ ap (λ (t : List ℕ). before.told ++ t) (sym none) ∙ before.left) before.pushed
 
 -- the state of what is numbered so
 pub state-is : (at end after left : ℕ) → at + left ≡ end → (if at == end then after else at) ≡ state_at left at after

@@ -1,4 +1,4 @@
--- What was read of a program is its labels.
+-- What was read of a program is its labels, and where its instructions stand.
 use Rattle.std.proofs.Common.{◌≡◌, ℕ, List, [], sym, ap, ap₂, ◌∙◌, refl, arith}
 use Rattle.line_tokens.specs.TokenLines.{lines_with_tokens}
 use Rattle.ant_asm.specs.declared.body.Body.{Body}
@@ -7,12 +7,14 @@ use Rattle.ant_asm.specs.declared.named.NamedBody.{NamedBody}
 use Rattle.ant_asm.specs.Program.{Items, size_of}
 use Rattle.ant_asm.specs.Text.{IsAsmFault, IsAsmText}
 use Rattle.ant_asm.specs.Labels.{AreLabelsOf, LabelState, Outline, labels_of, outline_of}
+use Rattle.ant_asm.specs.StateLines.{AreStateLinesOf, StateLine, state_lines_of}
 use Rattle.ant_asm.specs.Inner.Flat.{tree_at}
-use Rattle.ant_asm.specs.Inner.Outlines.{AreListed, AreOutlinesOf, all_states, lines_said, listed, main_of, outline_at, outline_size}
+use Rattle.ant_asm.specs.Inner.Outlines.{AreListed, AreOutlinesOf, all_states, lines_said, listed, listed_lines, main_of, outline_at, outline_size, told_lines}
 use Rattle.ant_asm.specs.Inner.ProgramView.{AreBodiesOf, last_of}
 use Rattle.ant_asm.proofs.Expansion.{main-few, main-some}
 use Rattle.ant_asm.proofs.LabelStates.{labels-are}
 use Rattle.ant_asm.proofs.LineLemmas.{lines_decide}
+use Rattle.ant_asm.proofs.LineStates.{lines-are}
 use Rattle.ant_asm.proofs.OutlineFits.{Fits, fits-size, one-said, text-fits, text-said}
 use Rattle.ant_asm.proofs.TextLemmas.{never_both, one_program}
 
@@ -28,6 +30,15 @@ module _ (text : List ℕ) (bodies : List Body) (named : List NamedBody) (are : 
     good = outlines.good;
     some = outlines.some;
     few = let size : outline_size (outline_at named (main_of named)) ≡ size_of main = ap outline_size outlines.main ∙ fits-size (outline_of (lines_said text)) main fits in let few = main-few text bodies are in omega (arith, size, few);
+  }
+
+  pub lines-read : AreStateLinesOf text (listed_lines named)
+  lines-read = record {
+    main = main;
+    is = are.main;
+    lines = lines_said text;
+    said = text-said text main are.main;
+    are = ap (λ (o : Outline). told_lines o 0 []) outlines.main ∙ sym (lines-are (outline_of (lines_said text)) main fits);
   }
 
   pub labels-read : AreLabelsOf text (listed named)
@@ -50,3 +61,14 @@ one-labels text a b first second =
 
 pub labels-fault : (text : List ℕ) (labels : List LabelState) → AreLabelsOf text labels → (fault : AsmFault) → IsAsmFault text fault → ⊥
 labels-fault text labels are fault wrong = never_both lines_decide text are.main fault are.is wrong
+
+-- so it has one list of where its instructions stand
+pub has-lines : (text : List ℕ) (main : Items) → IsAsmText text main → (lines : List StateLine) × AreStateLinesOf text lines
+has-lines text main is = (state_lines_of main (lines_said text), record { main = main; is = is; lines = lines_said text; said = text-said text main is; are = refl })
+
+pub one-lines : (text : List ℕ) (a b : List StateLine) → AreStateLinesOf text a → AreStateLinesOf text b → a ≡ b
+one-lines text a b first second =
+    first.are ∙ ap₂ state_lines_of (one_program lines_decide text first.main second.main first.is second.is) (one-said (lines_with_tokens text) first.lines second.lines first.said second.said) ∙ sym second.are
+
+pub lines-fault : (text : List ℕ) (lines : List StateLine) → AreStateLinesOf text lines → (fault : AsmFault) → IsAsmFault text fault → ⊥
+lines-fault text lines are fault wrong = never_both lines_decide text are.main fault are.is wrong

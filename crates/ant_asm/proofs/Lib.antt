@@ -26,15 +26,17 @@ pub mod Expansion
 pub mod HasAssembled
 pub mod OnAnswers
 pub mod MadeLists
--- The names of bodies, and the labels of a program.
+-- The names of bodies, and the labels and the lines of a program.
 pub mod LabelTexts
 pub mod OutlineLemmas
 pub mod OutlineReading
 pub mod OutlineFits
 pub mod LabelStates
+pub mod LineStates
 pub mod LabelWalk
 pub mod LabelSteps
 pub mod LabelsRead
+pub mod LineInstructions
 -- Worked values.
 pub mod Worked
 mod WorkedLabels

@@ -1,7 +1,9 @@
 -- The outline of a program is that of its items.
 use Rattle.std.proofs.Common.{◌≡◌, ℕ, suc, ◌+◌, Bool, true, false, cond, List, [], ◌∷◌, ◌++◌, Option, Some, None, refl, sym, ap, ap₂, ◌∙◌, subst, append_assoc, append-nil}
 use Rattle.std.specs.Prelude.{bytes_eq}
+use Rattle.std.specs.List.{AllByRecursion}
 use Rattle.line_tokens.specs.TokenLines.{TokenLine, lines_with_tokens}
+use Rattle.ant_asm.specs.declared.action.Action.{Action}
 use Rattle.ant_asm.specs.declared.action.Label.{Label}
 use Rattle.ant_asm.specs.declared.fault.AsmFault.TheVariants.{Misplaced, NoBlock}
 use Rattle.ant_asm.specs.Program.{Items, size_of}
@@ -9,7 +11,7 @@ use Rattle.ant_asm.specs.Program.Items.{End, Do, Use}
 use Rattle.ant_asm.specs.Names.{Named}
 use Rattle.ant_asm.specs.Lines.{Line}
 use Rattle.ant_asm.specs.Lines.Line.{Marks, Begins, Ends, Uses, Instructs}
-use Rattle.ant_asm.specs.Standing.{Begun, Block, Draft, ItemLine, Standing, below, earlier, items_by, items_of, new_draft, nothing_yet, place_fault, unknown_of, use_fault, used, way_or_next, with_line, with_mark, with_name}
+use Rattle.ant_asm.specs.Standing.{Begun, Block, Draft, ItemLine, Standing, below, earlier, items_by, items_of, mapped, new_draft, nothing_yet, place_fault, unknown_of, use_fault, used, way_or_next, with_line, with_mark, with_name}
 use Rattle.ant_asm.specs.Standing.Item.{Instruction, Call}
 use Rattle.ant_asm.specs.Text.{IsAsmText, Leads, last_fault}
 use Rattle.ant_asm.specs.Labels.{AreSaid, NumberedLine, Outline, block_outline, main_outline, outline_of, with_use}
@@ -19,30 +21,24 @@ use Rattle.ant_asm.specs.Inner.Outlines.{lines_said, outline_size, said_before, 
 use Rattle.ant_asm.specs.Inner.Reading.{Read}
 use Rattle.ant_asm.proofs.LineLemmas.{line_again, lines_decide}
 
+-- an outline is that of items, and a fact holds of each instruction and its line
+abbrev pub Tells : (ℕ → Action Label → Type 0) → Outline → Items → Type 0
+Tells P Closed End = Unit {0}
+Tells P (Labelled name outline) items = Tells P outline items
+Tells P (Instructed line outline) (Do action others) = P line action × Tells P outline others
+Tells P (Used line name inside outline) (Use handed block others) = Tells P inside block × Tells P outline others
+Tells P it items = ⊥
+
 -- an outline is that of items
 abbrev pub Fits : Outline → Items → Type 0
-Fits Closed End = Unit {0}
-Fits (Labelled name outline) items = Fits outline items
-Fits (Instructed outline) (Do action others) = Fits outline others
-Fits (Used line name inside outline) (Use handed block others) = Fits inside block × Fits outline others
-Fits it items = ⊥
+Fits = Tells (λ line action. Unit {0})
 
 pub fits-size : (outline : Outline) (items : Items) → Fits outline items → outline_size outline ≡ size_of items
 fits-size Closed End fits = refl
 fits-size (Labelled name outline) items fits = fits-size outline items fits
-fits-size (Instructed outline) (Do action others) fits = ap suc (fits-size outline others fits)
+fits-size (Instructed line outline) (Do action others) fits = ap suc (fits-size outline others fits.1)
 fits-size (Used line name inside outline) (Use handed block others) fits = ap₂ ◌+◌ (fits-size inside block fits.0) (fits-size outline others fits.1)
 fits-size it items fits = absurd fits
-
--- that of a block's items, where there is the block
-abbrev FitsBlock : Option Outline → Option Block → Type 0
-FitsBlock outline None = Unit {0}
-FitsBlock None (Some block) = ⊥
-FitsBlock (Some outline) (Some block) = Fits outline block.items
-
--- that of items by names, whatever these stand for
-abbrev FitsLines : Outline → List ItemLine → Type 0
-FitsLines outline lines = (way : Named → Label) → Fits outline (items_by way lines)
 
 -- what lines say, none of which is at fault, leads from one standing to another
 abbrev LeadsSaid : Standing → List NumberedLine → Standing → Type 0
@@ -71,29 +67,11 @@ one-said (line ∷ lines) (At number said ∷ a) (At other says ∷ b) first sec
     ap₂ (λ (l : NumberedLine) (ls : List NumberedLine). l ∷ ls) (ap₂ At (first.0 ∙ sym second.0) (lines_decide.one line.tokens said says first.1 second.1)) (one-said lines a b first.2 second.2)
 one-said it that b first second = absurd second
 
--- what main's items become
-record HasMore (draft last : Draft) (outline : Outline) : Type 0 where
-  more : List ItemLine
-  are : last.items ≡ draft.items ++ more
-  fits : FitsLines outline more
-
--- a line that adds an item
-one-more : (draft last : Draft) (item : ItemLine) (outline whole : Outline) (next : Draft) → next.items ≡ draft.items ++ item ∷ [] → HasMore next last outline →
-    ((more : List ItemLine) → FitsLines outline more → FitsLines whole (item ∷ more)) → HasMore draft last whole
-one-more draft last item outline whole next is later grow = record {
-  more = item ∷ later.more;
-  are = later.are ∙ ap (λ (l : List ItemLine). l ++ later.more) is ∙ append_assoc draft.items (item ∷ []) later.more;
-  fits = grow later.more later.fits;
-}
-
 abbrev Blocks : Type 0
 Blocks = List ℕ → Option Block
 
 abbrev Named-blocks : Type 0
 Named-blocks = List ℕ → Option Outline
-
-abbrev AllFit : Named-blocks → Blocks → Type 0
-AllFit named blocks = (name : List ℕ) → FitsBlock (named name) (blocks name)
 
 -- where lines add to main
 abbrev outside : Draft → ℕ → Blocks → Option ℕ → Standing
@@ -108,73 +86,110 @@ use-known : (size : ℕ) (found : Option Block) (handed : List Named) (number : 
 use-known size None handed number free = let never : Some (NoBlock number) ≡ None = free in absurd (cc)
 use-known size (Some block) handed number free = (block, refl)
 
-fits-known : (named : Option Outline) (block : Block) → FitsBlock named (Some block) → (outline : Outline) × (named ≡ Some outline) × Fits outline block.items
-fits-known None block fits = absurd fits
-fits-known (Some outline) block fits = (outline, refl, fits)
+-- a fact holds of what a line says, if it is an instruction, whatever its labels stand for
+abbrev pub IsTold : (ℕ → Action Label → Type 0) → NumberedLine → Type 0
+IsTold P (At number (Marks name)) = Unit {0}
+IsTold P (At number (Begins name parameters)) = Unit {0}
+IsTold P (At number Ends) = Unit {0}
+IsTold P (At number (Uses name handed)) = Unit {0}
+IsTold P (At number (Instructs action)) = (way : Named → Label) → P number (mapped way action)
 
--- one block more
-AllFit-with : (named : Named-blocks) (blocks : Blocks) (name : List ℕ) (outline : Outline) (block : Block) → AllFit named blocks → Fits outline block.items → AllFit (with_name name outline named) (with_name name block blocks)
-AllFit-with named blocks name outline block all fits other = go (bytes_eq name other)
-  where
-    go : (b : Bool) → FitsBlock (cond b (Some outline) (named other)) (cond b (Some block) (blocks other))
-    go true = fits
-    go false = all other
+module _ (P : ℕ → Action Label → Type 0) where
+  -- that of a block's items, where there is the block
+  abbrev FitsBlock : Option Outline → Option Block → Type 0
+  FitsBlock outline None = Unit {0}
+  FitsBlock None (Some block) = ⊥
+  FitsBlock (Some outline) (Some block) = Tells P outline block.items
 
-mutual
-  fits-outside : (lines : List NumberedLine) (named : Named-blocks) (main : Draft) (count : ℕ) (blocks : Blocks) (unknown : Option ℕ) (last : Standing) → AllFit named blocks →
-      LeadsSaid (outside main count blocks unknown) lines last → last.begun ≡ None → HasMore main last.main (main_outline lines false named)
-  fits-outside [] named main count blocks unknown last all leads closed = record {
-    more = [];
-    are = ap (λ (s : Standing). s.main.items) (sym leads) ∙ sym (append-nil main.items);
-    fits = λ way. tt;
+  -- that of items by names, whatever these stand for
+  abbrev FitsLines : Outline → List ItemLine → Type 0
+  FitsLines outline lines = (way : Named → Label) → Tells P outline (items_by way lines)
+
+  -- what main's items become
+  record HasMore (draft last : Draft) (outline : Outline) : Type 0 where
+    more : List ItemLine
+    are : last.items ≡ draft.items ++ more
+    fits : FitsLines outline more
+
+  -- a line that adds an item
+  one-more : (draft last : Draft) (item : ItemLine) (outline whole : Outline) (next : Draft) → next.items ≡ draft.items ++ item ∷ [] → HasMore next last outline →
+      ((more : List ItemLine) → FitsLines outline more → FitsLines whole (item ∷ more)) → HasMore draft last whole
+  one-more draft last item outline whole next is later grow = record {
+    more = item ∷ later.more;
+    are = later.are ∙ ap (λ (l : List ItemLine). l ++ later.more) is ∙ append_assoc draft.items (item ∷ []) later.more;
+    fits = grow later.more later.fits;
   }
-  fits-outside (At number (Marks name) ∷ lines) named main count blocks unknown last all leads closed =
-      let later = fits-outside lines named (with_mark main name) count blocks unknown last all leads.1 closed in
-      record { more = later.more; are = later.are; fits = later.fits }
-  fits-outside (At number (Begins name parameters) ∷ lines) named main count blocks unknown last all leads closed =
-      fits-inside lines named main count blocks unknown name number (new_draft parameters) (block_outline lines named) last all (λ tail fits. fits) leads.1 closed
-  fits-outside (At number Ends ∷ lines) named main count blocks unknown last all leads closed = (let never : Some (Misplaced number) ≡ None = leads.0 in absurd (cc))
-  fits-outside (At number (Uses name handed) ∷ lines) named main count blocks unknown last all leads closed =
-      let known = use-known main.size (blocks name) handed number leads.0 in
-      let there = fits-known (named name) known.0 (subst (FitsBlock (named name)) known.1 (all name)) in
-      subst (λ (o : Option Outline). HasMore main last.main (with_use number name o (main_outline lines false named))) (sym there.1)
-      (one-more main last.main (record { line = number; item = Call handed known.0.items }) (main_outline lines false named) (Used number name there.0 (main_outline lines false named))
-      (with_line main number (Call handed known.0.items)) refl
-      (fits-outside lines named (with_line main number (Call handed known.0.items)) count blocks unknown last all
-      (subst (λ (b : Option Block). LeadsSaid (used b (outside main count blocks unknown) number handed) lines last) known.1 leads.1) closed)
-      (λ more fits way. (there.2, fits way)))
-  fits-outside (At number (Instructs action) ∷ lines) named main count blocks unknown last all leads closed =
-      one-more main last.main (record { line = number; item = Instruction action }) (main_outline lines false named) (Instructed (main_outline lines false named))
-      (with_line main number (Instruction action)) refl
-      (fits-outside lines named (with_line main number (Instruction action)) count blocks unknown last all leads.1 closed)
-      (λ more fits way. fits way)
 
-  fits-inside : (lines : List NumberedLine) (named : Named-blocks) (main : Draft) (count : ℕ) (blocks : Blocks) (unknown : Option ℕ) (name : List ℕ) (line : ℕ) (draft : Draft) (whole : Outline) (last : Standing) → AllFit named blocks →
-      ((tail : List ItemLine) → FitsLines (block_outline lines named) tail → FitsLines whole (draft.items ++ tail)) →
-      LeadsSaid (inside main count blocks unknown name line draft) lines last → last.begun ≡ None → HasMore main last.main (main_outline lines true (with_name name whole named))
-  fits-inside [] named main count blocks unknown name line draft whole last all grow leads closed =
-      (let never : Some (let b : Begun = record { name = name; line = line; draft = draft } in b) ≡ None = ap (λ (s : Standing). s.begun) leads ∙ closed in absurd (cc))
-  fits-inside (At number (Marks label) ∷ lines) named main count blocks unknown name line draft whole last all grow leads closed =
-      fits-inside lines named main count blocks unknown name line (with_mark draft label) whole last all (λ tail fits. grow tail (λ way. fits way)) leads.1 closed
-  fits-inside (At number (Begins label parameters) ∷ lines) named main count blocks unknown name line draft whole last all grow leads closed =
-      (let never : Some (Misplaced number) ≡ None = leads.0 in absurd (cc))
-  fits-inside (At number Ends ∷ lines) named main count blocks unknown name line draft whole last all grow leads closed =
-      fits-outside lines (with_name name whole named) main (suc count) (with_name name (record { parameters = draft.parameters; items = items_of draft }) blocks) (earlier unknown (unknown_of draft)) last
-      (AllFit-with named blocks name whole (record { parameters = draft.parameters; items = items_of draft }) all
-      (subst (λ (l : List ItemLine). Fits whole (items_by (way_or_next draft.meaning) l)) (append-nil draft.items) (grow [] (λ way. tt) (way_or_next draft.meaning))))
-      leads.1 closed
-  fits-inside (At number (Uses label handed) ∷ lines) named main count blocks unknown name line draft whole last all grow leads closed =
-      let known = use-known draft.size (blocks label) handed number leads.0 in
-      let there = fits-known (named label) known.0 (subst (FitsBlock (named label)) known.1 (all label)) in
-      let item : ItemLine = record { line = number; item = Call handed known.0.items } in
-      fits-inside lines named main count blocks unknown name line (with_line draft number (Call handed known.0.items)) whole last all
-      (λ tail fits. subst (FitsLines whole) (sym (append_assoc draft.items (item ∷ []) tail))
-      (grow (item ∷ tail) (subst (λ (o : Option Outline). FitsLines (with_use number label o (block_outline lines named)) (item ∷ tail)) (sym there.1) (λ way. (there.2, fits way)))))
-      (subst (λ (b : Option Block). LeadsSaid (used b (inside main count blocks unknown name line draft) number handed) lines last) known.1 leads.1) closed
-  fits-inside (At number (Instructs action) ∷ lines) named main count blocks unknown name line draft whole last all grow leads closed =
-      let item : ItemLine = record { line = number; item = Instruction action } in
-      fits-inside lines named main count blocks unknown name line (with_line draft number (Instruction action)) whole last all
-      (λ tail fits. subst (FitsLines whole) (sym (append_assoc draft.items (item ∷ []) tail)) (grow (item ∷ tail) (λ way. fits way))) leads.1 closed
+  abbrev AllFit : Named-blocks → Blocks → Type 0
+  AllFit named blocks = (name : List ℕ) → FitsBlock (named name) (blocks name)
+
+  fits-known : (named : Option Outline) (block : Block) → FitsBlock named (Some block) → (outline : Outline) × (named ≡ Some outline) × Tells P outline block.items
+  fits-known None block fits = absurd fits
+  fits-known (Some outline) block fits = (outline, refl, fits)
+
+  -- one block more
+  AllFit-with : (named : Named-blocks) (blocks : Blocks) (name : List ℕ) (outline : Outline) (block : Block) → AllFit named blocks → Tells P outline block.items → AllFit (with_name name outline named) (with_name name block blocks)
+  AllFit-with named blocks name outline block all fits other = go (bytes_eq name other)
+    where
+      go : (b : Bool) → FitsBlock (cond b (Some outline) (named other)) (cond b (Some block) (blocks other))
+      go true = fits
+      go false = all other
+
+  mutual
+    fits-outside : (lines : List NumberedLine) (named : Named-blocks) (main : Draft) (count : ℕ) (blocks : Blocks) (unknown : Option ℕ) (last : Standing) → AllFit named blocks →
+        LeadsSaid (outside main count blocks unknown) lines last → last.begun ≡ None → AllByRecursion (IsTold P) lines → HasMore main last.main (main_outline lines false named)
+    fits-outside [] named main count blocks unknown last all leads closed each = record {
+      more = [];
+      are = ap (λ (s : Standing). s.main.items) (sym leads) ∙ sym (append-nil main.items);
+      fits = λ way. tt;
+    }
+    fits-outside (At number (Marks name) ∷ lines) named main count blocks unknown last all leads closed each =
+        let later = fits-outside lines named (with_mark main name) count blocks unknown last all leads.1 closed each.1 in
+        record { more = later.more; are = later.are; fits = later.fits }
+    fits-outside (At number (Begins name parameters) ∷ lines) named main count blocks unknown last all leads closed each =
+        fits-inside lines named main count blocks unknown name number (new_draft parameters) (block_outline lines named) last all (λ tail fits. fits) leads.1 closed each.1
+    fits-outside (At number Ends ∷ lines) named main count blocks unknown last all leads closed each = (let never : Some (Misplaced number) ≡ None = leads.0 in absurd (cc))
+    fits-outside (At number (Uses name handed) ∷ lines) named main count blocks unknown last all leads closed each =
+        let known = use-known main.size (blocks name) handed number leads.0 in
+        let there = fits-known (named name) known.0 (subst (FitsBlock (named name)) known.1 (all name)) in
+        subst (λ (o : Option Outline). HasMore main last.main (with_use number name o (main_outline lines false named))) (sym there.1)
+        (one-more main last.main (record { line = number; item = Call handed known.0.items }) (main_outline lines false named) (Used number name there.0 (main_outline lines false named))
+        (with_line main number (Call handed known.0.items)) refl
+        (fits-outside lines named (with_line main number (Call handed known.0.items)) count blocks unknown last all
+        (subst (λ (b : Option Block). LeadsSaid (used b (outside main count blocks unknown) number handed) lines last) known.1 leads.1) closed each.1)
+        (λ more fits way. (there.2, fits way)))
+    fits-outside (At number (Instructs action) ∷ lines) named main count blocks unknown last all leads closed each =
+        one-more main last.main (record { line = number; item = Instruction action }) (main_outline lines false named) (Instructed number (main_outline lines false named))
+        (with_line main number (Instruction action)) refl
+        (fits-outside lines named (with_line main number (Instruction action)) count blocks unknown last all leads.1 closed each.1)
+        (λ more fits way. (each.0 way, fits way))
+
+    fits-inside : (lines : List NumberedLine) (named : Named-blocks) (main : Draft) (count : ℕ) (blocks : Blocks) (unknown : Option ℕ) (name : List ℕ) (line : ℕ) (draft : Draft) (whole : Outline) (last : Standing) → AllFit named blocks →
+        ((tail : List ItemLine) → FitsLines (block_outline lines named) tail → FitsLines whole (draft.items ++ tail)) →
+        LeadsSaid (inside main count blocks unknown name line draft) lines last → last.begun ≡ None → AllByRecursion (IsTold P) lines → HasMore main last.main (main_outline lines true (with_name name whole named))
+    fits-inside [] named main count blocks unknown name line draft whole last all grow leads closed each =
+        (let never : Some (let b : Begun = record { name = name; line = line; draft = draft } in b) ≡ None = ap (λ (s : Standing). s.begun) leads ∙ closed in absurd (cc))
+    fits-inside (At number (Marks label) ∷ lines) named main count blocks unknown name line draft whole last all grow leads closed each =
+        fits-inside lines named main count blocks unknown name line (with_mark draft label) whole last all (λ tail fits. grow tail (λ way. fits way)) leads.1 closed each.1
+    fits-inside (At number (Begins label parameters) ∷ lines) named main count blocks unknown name line draft whole last all grow leads closed each =
+        (let never : Some (Misplaced number) ≡ None = leads.0 in absurd (cc))
+    fits-inside (At number Ends ∷ lines) named main count blocks unknown name line draft whole last all grow leads closed each =
+        fits-outside lines (with_name name whole named) main (suc count) (with_name name (record { parameters = draft.parameters; items = items_of draft }) blocks) (earlier unknown (unknown_of draft)) last
+        (AllFit-with named blocks name whole (record { parameters = draft.parameters; items = items_of draft }) all
+        (subst (λ (l : List ItemLine). Tells P whole (items_by (way_or_next draft.meaning) l)) (append-nil draft.items) (grow [] (λ way. tt) (way_or_next draft.meaning))))
+        leads.1 closed each.1
+    fits-inside (At number (Uses label handed) ∷ lines) named main count blocks unknown name line draft whole last all grow leads closed each =
+        let known = use-known draft.size (blocks label) handed number leads.0 in
+        let there = fits-known (named label) known.0 (subst (FitsBlock (named label)) known.1 (all label)) in
+        let item : ItemLine = record { line = number; item = Call handed known.0.items } in
+        fits-inside lines named main count blocks unknown name line (with_line draft number (Call handed known.0.items)) whole last all
+        (λ tail fits. subst (FitsLines whole) (sym (append_assoc draft.items (item ∷ []) tail))
+        (grow (item ∷ tail) (subst (λ (o : Option Outline). FitsLines (with_use number label o (block_outline lines named)) (item ∷ tail)) (sym there.1) (λ way. (there.2, fits way)))))
+        (subst (λ (b : Option Block). LeadsSaid (used b (inside main count blocks unknown name line draft) number handed) lines last) known.1 leads.1) closed each.1
+    fits-inside (At number (Instructs action) ∷ lines) named main count blocks unknown name line draft whole last all grow leads closed each =
+        let item : ItemLine = record { line = number; item = Instruction action } in
+        fits-inside lines named main count blocks unknown name line (with_line draft number (Instruction action)) whole last all
+        (λ tail fits. subst (FitsLines whole) (sym (append_assoc draft.items (item ∷ []) tail)) (grow (item ∷ tail) (λ way. (each.0 way, fits way)))) leads.1 closed each.1
 
 -- no block is left open
 last-closed : (standing : Standing) (begun : Option Begun) → last_fault begun standing ≡ None → begun ≡ None
@@ -185,8 +200,19 @@ last-closed standing (Some begun) free = (let never : Some (Misplaced begun.line
 pub text-said : (text : List ℕ) (main : Items) → IsAsmText text main → AreSaid (lines_with_tokens text) (lines_said text)
 text-said text main is = are-said (lines_with_tokens text) nothing_yet is.standing is.leads
 
+pub text-tells : (P : ℕ → Action Label → Type 0) (text : List ℕ) (main : Items) → IsAsmText text main → AllByRecursion (IsTold P) (lines_said text) → Tells P (outline_of (lines_said text)) main
+text-tells P text main is each =
+    let more = fits-outside P (lines_said text) (λ name. None) (new_draft []) 0 (λ name. None) None is.standing (λ name. tt) (leads-said (lines_with_tokens text) nothing_yet is.standing is.leads)
+    (last-closed is.standing is.standing.begun is.good) each in
+    subst (Tells P (outline_of (lines_said text))) (sym (is.is ∙ ap (items_by (way_or_next is.standing.main.meaning)) more.are)) (more.fits (way_or_next is.standing.main.meaning))
+
 pub text-fits : (text : List ℕ) (main : Items) → IsAsmText text main → Fits (outline_of (lines_said text)) main
-text-fits text main is =
-    let more = fits-outside (lines_said text) (λ name. None) (new_draft []) 0 (λ name. None) None is.standing (λ name. tt) (leads-said (lines_with_tokens text) nothing_yet is.standing is.leads)
-    (last-closed is.standing is.standing.begun is.good) in
-    subst (Fits (outline_of (lines_said text))) (sym (is.is ∙ ap (items_by (way_or_next is.standing.main.meaning)) more.are)) (more.fits (way_or_next is.standing.main.meaning))
+text-fits text main is = text-tells (λ line action. Unit {0}) text main is (none (lines_said text))
+  where
+    none : (lines : List NumberedLine) → AllByRecursion (IsTold (λ line action. Unit {0})) lines
+    none [] = tt
+    none (At number (Instructs action) ∷ lines) = ((λ way. tt), none lines)
+    none (At number (Marks name) ∷ lines) = (tt, none lines)
+    none (At number (Begins name parameters) ∷ lines) = (tt, none lines)
+    none (At number Ends ∷ lines) = (tt, none lines)
+    none (At number (Uses name handed) ∷ lines) = (tt, none lines)

@@ -49,7 +49,7 @@ outlines_of-length bodies = let all = outlines_from-length [] bodies in omega (a
 pub lines_before-agree : (blocks more : List Outline) (lines : List NamedLine) (others : Outline) → AllByRecursion (IsUseBelow (length blocks)) lines → lines_before (blocks ++ more) lines others ≡ lines_before blocks lines others
 lines_before-agree blocks more [] others uses = refl
 lines_before-agree blocks more (NamedLine.Label name ∷ lines) others uses = ap (λ (o : Outline). Labelled name.items o) (lines_before-agree blocks more lines others uses.1)
-lines_before-agree blocks more (NamedLine.Instruction ∷ lines) others uses = ap (λ (o : Outline). Instructed o) (lines_before-agree blocks more lines others uses.1)
+lines_before-agree blocks more (NamedLine.Instruction line ∷ lines) others uses = ap (λ (o : Outline). Instructed line o) (lines_before-agree blocks more lines others uses.1)
 lines_before-agree blocks more (NamedLine.Use line name block ∷ lines) others uses =
     ap₂ (λ (b o : Outline). Used line name.items b o) (get_or_append_left blocks more Closed block uses.0) (lines_before-agree blocks more lines others uses.1)
 

@@ -23,11 +23,11 @@ AreSaid [] (said ∷ others) = ⊥
 AreSaid (line ∷ lines) [] = ⊥
 AreSaid (line ∷ lines) (At number said ∷ others) = (number ≡ line.number) × Says line.tokens said × AreSaid lines others
 
--- The lines of a body by their names, in order: a label; an instruction; or a use, with its line, the name of its block, and the block's own lines.
+-- The lines of a body by their names, in order: a label; an instruction, with its line; or a use, with its line, the name of its block, and the block's own lines.
 pub data Outline : Type 0 where
   Closed : Outline
   Labelled : (name : List ℕ) → (others : Outline) → Outline
-  Instructed : (others : Outline) → Outline
+  Instructed : (line : ℕ) → (others : Outline) → Outline
   Used : (line : ℕ) → (name : List ℕ) → (block : Outline) → (others : Outline) → Outline
 
 -- a use of a block before other lines; never without the block, since a program uses blocks that have ended above
@@ -42,7 +42,7 @@ block_outline (At number (Marks name) ∷ lines) blocks = Labelled name (block_o
 block_outline (At number (Begins name parameters) ∷ lines) blocks = block_outline lines blocks
 block_outline (At number Ends ∷ lines) blocks = Closed
 block_outline (At number (Uses name handed) ∷ lines) blocks = with_use number name (blocks name) (block_outline lines blocks)
-block_outline (At number (Instructs action) ∷ lines) blocks = Instructed (block_outline lines blocks)
+block_outline (At number (Instructs action) ∷ lines) blocks = Instructed number (block_outline lines blocks)
 
 -- the lines of main, which are those outside blocks; whether the first of these is inside one is told
 abbrev pub main_outline : List NumberedLine → Bool → (List ℕ → Option Outline) → Outline
@@ -51,7 +51,7 @@ main_outline (At number (Begins name parameters) ∷ lines) false blocks = main_
 main_outline (At number Ends ∷ lines) false blocks = main_outline lines false blocks
 main_outline (At number (Marks name) ∷ lines) false blocks = Labelled name (main_outline lines false blocks)
 main_outline (At number (Uses name handed) ∷ lines) false blocks = with_use number name (blocks name) (main_outline lines false blocks)
-main_outline (At number (Instructs action) ∷ lines) false blocks = Instructed (main_outline lines false blocks)
+main_outline (At number (Instructs action) ∷ lines) false blocks = Instructed number (main_outline lines false blocks)
 main_outline (At number (Begins name parameters) ∷ lines) true blocks = main_outline lines true blocks
 main_outline (At number Ends ∷ lines) true blocks = main_outline lines false blocks
 main_outline (At number (Marks name) ∷ lines) true blocks = main_outline lines true blocks
@@ -104,14 +104,14 @@ put_inside body k name line = record {
 abbrev pub own_labels : Outline → PutBody → ℕ → List LabelState
 own_labels Closed body k = []
 own_labels (Labelled name others) body k = (record { way = body.way; name = name; state = body.state (first_at body.items body.frame k) }) ∷ own_labels others body k
-own_labels (Instructed others) body k = own_labels others body (suc k)
+own_labels (Instructed line others) body k = own_labels others body (suc k)
 own_labels (Used line name block others) body k = own_labels others body (suc k)
 
 -- the labels of the blocks that it puts in place, use by use: of each its own, and then those of the blocks that it puts in place
 abbrev pub inner_labels : Outline → PutBody → ℕ → List LabelState
 inner_labels Closed body k = []
 inner_labels (Labelled name others) body k = inner_labels others body k
-inner_labels (Instructed others) body k = inner_labels others body (suc k)
+inner_labels (Instructed line others) body k = inner_labels others body (suc k)
 inner_labels (Used line name block others) body k =
     (own_labels block (put_inside body k name line) 0 ++ inner_labels block (put_inside body k name line) 0) ++ inner_labels others body (suc k)
 

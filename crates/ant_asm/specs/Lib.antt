@@ -11,6 +11,7 @@ pub mod LineFaults
 pub mod Standing
 pub mod Text
 pub mod Labels
+pub mod StateLines
 pub use Rattle.ant_base.specs.Shelf
 pub use Rattle.brain_read.specs.Forms
 pub use Rattle.brain_read.specs.Soundness

@@ -102,7 +102,7 @@ fn push_label<K: Sink>(line: &NamedLine, state: u16, way: &Way, sink: &mut K) ->
 {
     match line {
         NamedLine::Label(name) => layout!(state, " ", *way, Name(name), "\n").push_to(sink),
-        NamedLine::Instruction => Ok(()),
+        NamedLine::Instruction(_) => Ok(()),
         NamedLine::Use { .. } => Ok(()),
     }
 }
@@ -130,7 +130,7 @@ fn push_body<K: Sink>(
         next = at + size_of(bodies, line);
         match line {
             NamedLine::Label(_) => {}
-            NamedLine::Instruction => {}
+            NamedLine::Instruction(_) => {}
             NamedLine::Use { line, name, block } => {
                 let through = Way::Through {
                     outer: &*way,

@@ -1,6 +1,7 @@
 // Laws of assembled programs.
 ghost use Rattle.ant_asm.specs.Answers.{OneBrain};
 ghost use Rattle.ant_asm.specs.Match.{PlaysLabelled, ScoresLabelled};
+ghost use Rattle.ant_asm.specs.StateLines.{LineForEachState};
 ghost use Rattle.ant_asm.specs.Text.{OneProgramOrOneFault};
 
 /// A law: a text has one program or one fault, and never both.
@@ -23,4 +24,10 @@ pub fn plays_labelled()
 /// A law: so the scores of the two games are equal after each round (the task's game play).
 pub fn scores_labelled()
     ensures { ScoresLabelled }
+{}
+
+/// A law: where the instructions of a text's program stand is told for each state of the brain to which it is assembled, in order from 0, and the
+/// line that is told of a state is one of the text that says the state's instruction.
+pub fn line_for_each_state()
+    ensures { LineForEachState }
 {}

@@ -5,11 +5,11 @@ ghost use Rattle.ant_asm.specs.Inner.Outlines.{IsUseBelow, line_size, most_size}
 use hex_geometry::OutOfMemory;
 use std::alloc::Global;
 
-/// A line of a body: a label, an instruction, or the use on this line of the block of this name and number.
+/// A line of a body: a label, the instruction on this line, or the use on this line of the block of this name and number.
 #[derive(Drop)]
 pub enum NamedLine {
     Label(Vec<u8>),
-    Instruction,
+    Instruction(u32),
     Use {
         line: u32,
         name: Vec<u8>,
@@ -54,7 +54,7 @@ pub(crate) fn size_of(bodies: &[NamedBody], line: &NamedLine) -> u16
 {
     match line {
         NamedLine::Label(_) => 0,
-        NamedLine::Instruction => 1,
+        NamedLine::Instruction(_) => 1,
         NamedLine::Use {
             line: _,
             name: _,

@@ -88,7 +88,7 @@ impl<'t> Outlines<'t> {
             }
             Line::End => self.end(),
             Line::Use { name, handed: _ } => self.put(alloc, name, number),
-            Line::Instruct(_) => self.instruct(),
+            Line::Instruct(_) => self.instruct(number),
         }
     }
 
@@ -103,12 +103,12 @@ impl<'t> Outlines<'t> {
     }
 
     // An instruction.
-    fn instruct(&mut self) -> Result<(), OutOfMemory>
+    fn instruct(&mut self, line: u32) -> Result<(), OutOfMemory>
         requires good { IsGoodOutlines self.old }
         ensures good { OnOk result (IsGoodOutlines self.new) }
-        ensures on { (number : ℕ) (action : Action Named) (lines : List NumberedLine) → OnOk result (rest_of self.new lines ≡ rest_of self.old (At number (Instructs action) ∷ lines)) }
+        ensures on { (action : Action Named) (lines : List NumberedLine) → OnOk result (rest_of self.new lines ≡ rest_of self.old (At line (Instructs action) ∷ lines)) }
     {
-        self.current.add(NamedLine::Instruction, 1)
+        self.current.add(NamedLine::Instruction(line), 1)
     }
 
     // A block put in place; in a program it has ended above.

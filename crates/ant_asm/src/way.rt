@@ -30,6 +30,28 @@ impl<'w> Layout for Way<'w> {
     }
 }
 
+/// The uses on the way behind the line of a state: a space, and the uses with `/` between; none in main.
+#[derive(Clone, Copy)]
+pub struct Uses<'w>(pub Way<'w>);
+
+/// How they are told.
+impl<'w> Layout for Uses<'w> {
+    ghost use Rattle.std.specs.Prelude.{codes};
+    ghost use Rattle.ant_asm.specs.StateLines.{uses_text};
+    ghost use Rattle.ant_asm.specs.Inner.Ways.{steps_of};
+
+    ghost text = { λ uses. uses_text (codes " ") (steps_of uses.0) };
+
+    fn push_to<K: Sink>(&self, sink: &mut K) -> Result<(), Failed> {
+        match self.0 {
+            Way::Main => Ok(()),
+            Way::Through { outer, name, line } => {
+                layout!(" ", *outer, Name(name), "@", line).push_to(sink)
+            }
+        }
+    }
+}
+
 /// A name that is told.
 #[derive(Clone, Copy)]
 pub struct Name<'n>(pub &'n [u8]);

@@ -15,8 +15,8 @@ use Rattle.brain_same.specs.Text.{comparison_text}
 use Rattle.break_view.proofs.ViewLaws.{one_first_stop}
 use Rattle.break_view.specs.Texts.{view_of}
 use Rattle.cell_world.specs.Grid.{Grid, world_of}
-use Rattle.ant_commands.specs.Setups.{CupWithin, ResumeSetup, RunSetup, ShapeWithin, TraceSetup, resume_of, save_setup_of, setup_of, shape_of, trace_of}
-use Rattle.ant_commands.specs.Jobs.{asm_job, brain_job, cup_job, gen_job, help_job, job_by, job_of, minimise_job, resume_job, run_job, same_job, save_job, show_job, trace_job, version_job, view_job, workload_job}
+use Rattle.ant_commands.specs.Setups.{CupWithin, ResumeSetup, RunSetup, ShapeWithin, resume_of, save_setup_of, setup_of, shape_of, told_of, trace_of}
+use Rattle.ant_commands.specs.Jobs.{asm_job, brain_job, cup_job, gen_job, help_job, job_by, job_of, minimise_job, resume_job, run_job, same_job, save_job, show_job, version_job, view_job, workload_job}
 use Rattle.ant_commands.specs.declared.commands.setups.GenShape.{GenShape}
 use Rattle.match_run.specs.Counts.{whole_text}
 use Rattle.tournament.proofs.LawsLemmas.{standing_law}
@@ -33,18 +33,18 @@ use Rattle.world_read.specs.Canonical.{canonical_text}
 use Rattle.world_read.specs.Opened.{kinds_of}
 use Rattle.ant_commands.specs.Files.{AreAccepted, FileContent}
 use Rattle.ant_commands.specs.Help.{help_text, version_text}
-use Rattle.ant_commands.specs.Outputs.{IsAsmOutput, IsCupOutput, IsViewOutput, ReadCup, ReadGame, ReadPair, ReadProgram, ReadView, Tells, TellsGenerated, TellsMinimised, TellsSame, TellsWorkload, brain_contents, brain_file, pair_contents, contest_shape, roster_contents, cup_files, game_contents, is_text_of, labelled_file, match_output, minimise_output, program_contents, resume_output, save_output, score_between, shape_named, show_output, summary_of, trace_output, workload_text}
-use Rattle.ant_commands.specs.Job.{Job}
+use Rattle.ant_commands.specs.Outputs.{IsAsmOutput, IsCupOutput, IsViewOutput, ReadCup, ReadGame, ReadPair, ReadProgram, ReadView, Tells, TellsGenerated, TellsMinimised, TellsSame, TellsWorkload, brain_contents, brain_file, pair_contents, contest_shape, roster_contents, cup_files, events_output, game_contents, game_files, is_text_of, labelled_file, match_output, minimise_output, profile_output, program_contents, resume_output, save_output, score_between, shape_named, show_output, summary_of, trace_output, workload_text}
+use Rattle.ant_commands.specs.Job.{Job, plain_job}
 use Rattle.command_words.specs.Command.{AskedWithin, PlainAsked}
 use Rattle.command_words.specs.declared.table.CommandKind.{CommandKind}
-use Rattle.command_words.specs.declared.table.CommandKind.TheVariants.{Asm, Brain, Cup, Gen, Help, HelpWord, Minimise, Resume, Run, Same, Save, Show, Trace, Version, View, Workload}
+use Rattle.command_words.specs.declared.table.CommandKind.TheVariants.{Asm, Brain, Cup, Events, Gen, Help, HelpWord, Minimise, Profile, Resume, Run, Same, Save, Show, Trace, Version, View, Workload}
 use Rattle.command_words.specs.declared.table.Choice.TheVariants.{Seed, Rounds, Workers, Labels, States, Games}
 use Rattle.command_words.specs.declared.table.NameList.TheVariants.{Worlds, Brains}
 use Rattle.ant_commands.proofs.SetupLemmas.{cup-within, shape-within}
 use Rattle.ant_commands.specs.Laws.{HasOutput, OneText, TellsNoLabel, TextsEndInLf, WindowsChangeCountsAlone}
 use Rattle.ant_commands.proofs.Cups.{players_counted}
 use Rattle.ant_commands.proofs.ReadContents.{has_text_of, has_told, one_text_of, one_told, read_brain, read_cup, read_game, read_labels, read_none, read_pair, read_program, read_save, read_view, read_world}
-use Rattle.ant_commands.proofs.TextEnds.{EndsInLf, lf_brain, lf_canonical, lf_comparison, lf_help, lf_match, lf_minimised, lf_rest, lf_save, lf_show, lf_standing, lf_states, lf_told, lf_trace, lf_version, lf_view, lf_workload, lines_labels}
+use Rattle.ant_commands.proofs.TextEnds.{EndsInLf, lf_brain, lf_canonical, lf_comparison, lf_events, lf_help, lf_match, lf_minimised, lf_profile, lf_rest, lf_save, lf_show, lf_standing, lf_states, lf_told, lf_trace, lf_version, lf_view, lf_workload, lines_labels}
 use Rattle.ant_commands.proofs.Viewed.{view_of-view}
 
 -- what is told ends in LF
@@ -293,11 +293,13 @@ resume-laws a save setup = record {
   crowded = λ element lacks. absurd lacks;
 }
 
-trace-laws : (a : PlainAsked) (world red black : List ℕ) (id : ℕ) (setup : TraceSetup) → JobLaws a (trace_job world red black id setup)
-trace-laws a world red black id setup = record {
-  ends = λ within fetches contents text are is. inl (ends is.told (lf_trace id setup is.value));
-  one = λ contents text other x y. one_text_of (read_game world red black) (trace_output id setup) contents text other x y;
-  has = λ within fetches contents are room. has_text_of (read_game world red black) (trace_output id setup) fetches contents are;
+-- a text of a game that is just played
+told-laws : (a : PlainAsked) (world red black : List ℕ) (text_of : ReadGame → List ℕ) → ((game : ReadGame) → EndsInLf (text_of game))
+    → JobLaws a (plain_job (game_files world red black) (Tells game_contents (is_text_of text_of)))
+told-laws a world red black text_of lf = record {
+  ends = λ within fetches contents text are is. inl (ends is.told (lf is.value));
+  one = λ contents text other x y. one_text_of (read_game world red black) text_of contents text other x y;
+  has = λ within fetches contents are room. has_text_of (read_game world red black) text_of fetches contents are;
   crowded = λ element lacks. absurd lacks;
 }
 
@@ -325,8 +327,10 @@ laws_by Version a is = version-laws a
 laws_by Asm a is = asm-laws a is (a.file 0)
 laws_by Save a is = save-laws a (a.file 0) (a.file 1) (a.file 2) (save_setup_of a)
 laws_by Resume a is = resume-laws a (a.file 0) (resume_of a)
-laws_by Trace a is = trace-laws a (a.file 0) (a.file 1) (a.file 2) (a.number 3) (trace_of a)
+laws_by Trace a is = told-laws a (a.file 0) (a.file 1) (a.file 2) (trace_output (a.number 3) (trace_of a)) (lf_trace (a.number 3) (trace_of a))
 laws_by Same a is = same-laws a (a.file 0) (a.file 1)
+laws_by Events a is = told-laws a (a.file 0) (a.file 1) (a.file 2) (events_output (told_of a)) (lf_events (told_of a))
+laws_by Profile a is = told-laws a (a.file 0) (a.file 1) (a.file 2) (profile_output (told_of a)) (lf_profile (told_of a))
 
 pub laws_of : (a : PlainAsked) → JobLaws a (job_of a)
 laws_of a = laws_by a.kind a refl

@@ -6,12 +6,12 @@ use Rattle.std.specs.Prelude.{IsSome, IsSomeAnd}
 use Rattle.ant_base.specs.Fetched.{Fetched}
 use Rattle.ant_base.specs.Shelf.{IsTold, longest}
 use Rattle.ant_base.specs.declared.shelf.FetchFault.TheVariants as answer
+use Rattle.text_fault.specs.declared.fault.TextFault.TheVariants.{TooLong}
 use Rattle.ant_commands.specs.declared.stop.FileFault.{FileFault}
-use Rattle.ant_commands.specs.declared.stop.FileFault.TheVariants.{TooLong}
+use Rattle.ant_commands.specs.declared.stop.FileFault.TheVariants.{Text}
 use Rattle.ant_commands.specs.Files.{AreAccepted, FileContent, File, IsAccepted, IsNoText, IsRefused, Refuses, StopsAt}
 use Rattle.ant_commands.specs.Verdict.{AreThere, IsJudged, IsRefusedAs, Judged, JudgesOnce, FilesVerdict}
 use Rattle.ant_commands.specs.Verdict.FilesVerdict.{AllAccepted, FirstRefused}
-use Rattle.ant_commands.proofs.Readings.{refused_text}
 use Rattle.ant_commands.proofs.Texts.{one_refusal, some_reading}
 use Rattle.ant_commands.proofs.Verdicts.{At, accepted_never_refused, never_bytes, one_bytes, one_content, one_verdict}
 
@@ -22,10 +22,10 @@ one_text_fault at file first second a b one two is also =
 
 -- a file is refused with one fault
 one_fault : (at : At) (file : File) (first second : Fetched) (a b : FileFault) → IsTold (Some at) first → IsTold (Some at) second → IsRefused file first a → IsRefused file second b → a ≡ b
-one_fault at file first second TooLong TooLong one two is also = refl
-one_fault at file first second TooLong b one two is also = absurd (never_bytes at file.name also.bytes second first two one also.got is)
-one_fault at file first second a TooLong one two is also = absurd (never_bytes at file.name is.bytes first second one two is.got also)
-one_fault at file first second a b one two is also = one_text_fault at file first second a b one two is also
+one_fault at file first second a b one two is also = elim is [
+  | inl long ↦ elim also [ inl other ↦ long.0 ∙ sym other.0 | inr bad ↦ absurd (never_bytes at file.name bad.bytes second first two one bad.got long.1) ]
+  | inr bad ↦ elim also [ inl long ↦ absurd (never_bytes at file.name bad.bytes first second one two bad.got long.1) | inr other ↦ one_text_fault at file first second a b one two bad other ]
+]
 
 -- files are accepted as the same contents
 same_contents : (at : At) (files : List File) (first second : List Fetched) (a b : List FileContent) → AllByRecursion (IsTold (Some at)) first → AllByRecursion (IsTold (Some at)) second → AreAccepted files first a → AreAccepted files second b → a ≡ b
@@ -75,17 +75,12 @@ short_file : (at : At) (file : File) (bytes : List ℕ) → at file.name ≡ Som
 short_file at file bytes is short =
     elim (some_reading file.kind bytes) [
       | inl reads ↦ inl (record { name = file.name; answer = Ok bytes }, reads.0, record { told = is; short = short }, record { bytes = bytes; got = refl; reads = reads.1 })
-      | inr refuses ↦ inr (
-        record { name = file.name; answer = Ok bytes },
-        refuses.0,
-        record { told = is; short = short },
-        refused_text file (record { name = file.name; answer = Ok bytes }) bytes refuses.0 refl refuses.1,
-      )
+      | inr refuses ↦ inr (record { name = file.name; answer = Ok bytes }, refuses.0, record { told = is; short = short }, inr (record { bytes = bytes; got = refl; refuses = refuses.1 }))
     ]
 
 long_file : (at : At) (file : File) (bytes : List ℕ) → at file.name ≡ Some bytes → longest < length bytes → HasFileVerdict at file
 long_file at file bytes is long =
-    inr (record { name = file.name; answer = Err answer.TooLong }, TooLong, subst (λ found. IsSomeAnd found (λ content. longest < length content)) (sym is) long, refl)
+    inr (record { name = file.name; answer = Err answer.TooLong }, Text TooLong, subst (λ found. IsSomeAnd found (λ content. longest < length content)) (sym is) long, inl (refl, refl))
 
 one_file : (at : At) (file : File) (found : Option (List ℕ)) → at file.name ≡ found → IsSome found → HasFileVerdict at file
 one_file at file None is there = absurd (cc)

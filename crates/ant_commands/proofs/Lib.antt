@@ -20,12 +20,15 @@ pub mod Generated
 pub mod Planned
 pub mod Untouched
 pub mod Workloads
--- The laws: labelled games, saves, the headline.
+-- The laws: labelled games, saves, the headline, one run.
 pub mod LabelledGames
 pub mod ResumedGames
 pub mod Headlines
+pub mod RunWords
+pub mod RunPromises
 mod FirstWorlds
 -- Worked values.
 pub mod HelpWorked
 pub mod WorkedStops
 pub mod WorkedJobs
+pub mod RunWorked

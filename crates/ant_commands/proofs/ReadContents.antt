@@ -33,52 +33,28 @@ first file files (fetch ∷ fetches) (content ∷ more) are = record { content =
 -- the content of a file of each kind
 world-read : (name : List ℕ) (fetch : Fetched) (content : FileContent) → IsAccepted (world_file name) fetch content → (grid : Grid) × (content ≡ WorldContent grid)
 world-read name fetch (WorldContent grid) got = (grid, refl)
-world-read name fetch (BrainContent list) got = absurd got.reads
-world-read name fetch (BreakContent items) got = absurd got.reads
-world-read name fetch (LabelledContent brain places) got = absurd got.reads
-world-read name fetch (SaveContent saved) got = absurd got.reads
-world-read name fetch (LabelsContent labels) got = absurd got.reads
+world-read name fetch content got = absurd got.reads
 
 brain-read : (name : List ℕ) (fetch : Fetched) (content : FileContent) → IsAccepted (brain_file name) fetch content → (list : List Instr) × (content ≡ BrainContent list)
 brain-read name fetch (BrainContent list) got = (list, refl)
-brain-read name fetch (WorldContent grid) got = absurd got.reads
-brain-read name fetch (BreakContent items) got = absurd got.reads
-brain-read name fetch (LabelledContent brain places) got = absurd got.reads
-brain-read name fetch (SaveContent saved) got = absurd got.reads
-brain-read name fetch (LabelsContent labels) got = absurd got.reads
+brain-read name fetch content got = absurd got.reads
 
 breaks-read : (name : List ℕ) (fetch : Fetched) (content : FileContent) → IsAccepted (break_file name) fetch content → (items : List Break) × (content ≡ BreakContent items)
 breaks-read name fetch (BreakContent items) got = (items, refl)
-breaks-read name fetch (WorldContent grid) got = absurd got.reads
-breaks-read name fetch (BrainContent list) got = absurd got.reads
-breaks-read name fetch (LabelledContent brain places) got = absurd got.reads
-breaks-read name fetch (SaveContent saved) got = absurd got.reads
-breaks-read name fetch (LabelsContent labels) got = absurd got.reads
+breaks-read name fetch content got = absurd got.reads
 
 program-read : (name : List ℕ) (fetch : Fetched) (content : FileContent) → IsAccepted (labelled_file false name) fetch content
     → (program : ReadProgram) × (content ≡ LabelledContent program.brain program.places)
 program-read name fetch (LabelledContent brain places) got = (record { brain = brain; places = places }, refl)
-program-read name fetch (WorldContent grid) got = absurd got.reads
-program-read name fetch (BrainContent list) got = absurd got.reads
-program-read name fetch (BreakContent items) got = absurd got.reads
-program-read name fetch (SaveContent saved) got = absurd got.reads
-program-read name fetch (LabelsContent labels) got = absurd got.reads
+program-read name fetch content got = absurd got.reads
 
 labels-read : (name : List ℕ) (fetch : Fetched) (content : FileContent) → IsAccepted (labelled_file true name) fetch content → (labels : List LabelState) × (content ≡ LabelsContent labels)
 labels-read name fetch (LabelsContent labels) got = (labels, refl)
-labels-read name fetch (WorldContent grid) got = absurd got.reads
-labels-read name fetch (BrainContent list) got = absurd got.reads
-labels-read name fetch (BreakContent items) got = absurd got.reads
-labels-read name fetch (LabelledContent brain places) got = absurd got.reads
-labels-read name fetch (SaveContent saved) got = absurd got.reads
+labels-read name fetch content got = absurd got.reads
 
 save-read : (name : List ℕ) (rounds : ℕ) (fetch : Fetched) (content : FileContent) → IsAccepted (save_file name rounds) fetch content → (saved : SavedValue) × (content ≡ SaveContent saved)
 save-read name rounds fetch (SaveContent saved) got = (saved, refl)
-save-read name rounds fetch (WorldContent grid) got = absurd got.reads
-save-read name rounds fetch (BrainContent list) got = absurd got.reads
-save-read name rounds fetch (BreakContent items) got = absurd got.reads
-save-read name rounds fetch (LabelledContent brain places) got = absurd got.reads
-save-read name rounds fetch (LabelsContent labels) got = absurd got.reads
+save-read name rounds fetch content got = absurd got.reads
 
 -- one file
 alone : (file : File) (contents : List FileContent) (other : FileContent) (it : First file [] contents) → it.content ≡ other → contents ≡ other ∷ []

@@ -14,12 +14,11 @@ use Rattle.ant_commands.specs.Jobs.{job_of}
 use Rattle.ant_commands.specs.Job.{IsJobText, Job, WritesInPlay, files_of}
 use Rattle.ant_base.specs.declared.push_fault.PushFault.{PushFault}
 use Rattle.ant_base.specs.declared.push_fault.PushFault.TheVariants as play
+use Rattle.game_tellings.specs.Pushes.{StoppedBefore}
 use Rattle.match_run.specs.Play.{PushedBy, PushedProperPrefix, StoppedBy}
-use Rattle.ant_commands.specs.declared.stop.FileFault.{FileFault}
-use Rattle.ant_commands.specs.declared.stop.FileFault.TheVariants.{TooLong, World, Brain, Breaks, Labelled, Save, AlreadyAt}
 use Rattle.ant_commands.specs.declared.stop.CommandStop.{CommandStop}
 use Rattle.ant_commands.specs.declared.stop.CommandStop.TheVariants as stop
-use Rattle.ant_commands.specs.Files.{File, FileContent, AreAccepted, AreBegun, IsRefused, Refuses, StopsAt}
+use Rattle.ant_commands.specs.Files.{File, FileContent, AreAccepted, AreBegun, StopsAt}
 use Rattle.ant_commands.specs.Inner.Plans.{play_ending, stop_of}
 use Rattle.ant_commands.specs.Inner.Reading.{CarriesOut, CarriesOutWords, ComesTo, EndsBy, ReadOutcome, ReadingStops, ReadsFiles, ending_of, outcome_of, push_ending}
 use Rattle.ant_commands.specs.Inner.Reading.ReadOutcome.{Contents, Stopped}
@@ -32,7 +31,6 @@ use Rattle.ant_commands.specs.FaultLines.{Reason, ending_by, reason_of}
 use Rattle.ant_commands.specs.FaultLines.Ending.{RefusedWord}
 use Rattle.ant_commands.specs.FaultLines.Reason.{AtFile, AtOutput, AtInput, AtRoom, AtMemory}
 use Rattle.ant_commands.proofs.JobTexts.{texts_end_in_lf}
-use Rattle.ant_commands.proofs.Texts.{never_long}
 
 -- the files a were accepted, and then the files b
 accepted_then : (a b : List File) (fetches more : List Fetched) (contents others : List FileContent) → AreAccepted a fetches contents → AreAccepted b more others → AreAccepted (a ++ b) (fetches ++ more) (contents ++ others)
@@ -149,16 +147,6 @@ reads_stopped first second a b reason reads =
 pub reads_wanting : (first second : ShelfState) (files : List File) (contents : List FileContent) → ReadsFiles first second files (Contents contents) → ReadsFiles first second files (Stopped AtMemory)
 reads_wanting first second files contents reads =
     record { fetches = reads.fetches; fetched = reads.fetched; comes = accepted_begun files reads.fetches contents reads.comes }
-
--- a file whose bytes are refused is
-pub refused_text : (file : File) (fetch : Fetched) (bytes : List ℕ) (fault : FileFault) → fetch ≡ record { name = file.name; answer = Ok bytes } → Refuses file.kind bytes fault → IsRefused file fetch fault
-refused_text file fetch bytes TooLong got refuses = absurd (never_long file.kind bytes refuses)
-refused_text file fetch bytes (World fault) got refuses = record { bytes = bytes; got = got; refuses = refuses }
-refused_text file fetch bytes (Brain fault) got refuses = record { bytes = bytes; got = got; refuses = refuses }
-refused_text file fetch bytes (Breaks fault) got refuses = record { bytes = bytes; got = got; refuses = refuses }
-refused_text file fetch bytes (Labelled fault) got refuses = record { bytes = bytes; got = got; refuses = refuses }
-refused_text file fetch bytes (Save fault) got refuses = record { bytes = bytes; got = got; refuses = refuses }
-refused_text file fetch bytes (AlreadyAt round) got refuses = record { bytes = bytes; got = got; refuses = refuses }
 
 stops_for : (command : Job) (shelf new_shelf : ShelfState) (fetches : List Fetched) (out err new_err : SinkState) (reason : Reason) → ReadingStops shelf new_shelf (files_of command) fetches reason
     → StopsFor command (outside_of shelf out err) (outside_of new_shelf out new_err) fetches reason
@@ -297,3 +285,10 @@ pub carries_wanting_later : {U : Type 0} (command : Job) (shelf new_shelf : Shel
     → ReadsFiles shelf new_shelf (files_of command) (Contents contents) → CarriesOut command shelf new_shelf out out (ending_of result)
 carries_wanting_later command shelf new_shelf out contents result same reads =
     carries_stop command shelf new_shelf out result stop.Memory same (reads_wanting shelf new_shelf (files_of command) contents reads)
+
+-- a command that answers with the fault of a telling, which has all its memory before it pushes
+pub carries_early : {U : Type 0} (command : Job) (shelf new_shelf : ShelfState) (out new_out : SinkState) (contents : List FileContent) (result : Result U CommandStop) (fault : PushFault) → IsErrAnd result (λ other. other ≡ stop_of fault)
+    → ReadsFiles shelf new_shelf (files_of command) (Contents contents) → (text : List ℕ) → IsJobText command contents text → StoppedBefore out new_out text fault → CarriesOut command shelf new_shelf out new_out (ending_of result)
+carries_early command shelf new_shelf out new_out contents result play.WriteFault same reads text is pushed = carries_failure command shelf new_shelf out new_out contents result same reads text is pushed
+carries_early command shelf new_shelf out new_out contents result play.OutOfMemory same reads text is kept =
+    subst (λ after. CarriesOut command shelf new_shelf out after (ending_of result)) (sym kept) (carries_wanting_later command shelf new_shelf out contents result same reads)

@@ -13,6 +13,7 @@ use Rattle.ant_base.specs.Lines.{ends_in_lf}
 use Rattle.ant_trace.specs.Trace.{lives_in_first, told_line, trace_text, unmade_text, way_line, way_text}
 use Rattle.ant_turn.specs.Minds.{Minds}
 use Rattle.ant_turn.specs.Rounds.{after_rounds, start_of}
+use Rattle.ant_turn.specs.Turn.{instruction_at}
 use Rattle.brain_minimise.specs.Minimised.{new_number}
 use Rattle.brain_minimise.specs.Text.{became_text, minimised_text, state_line, states_text}
 use Rattle.brain_read.specs.Canonical.{brain_text, instruction_text}
@@ -28,13 +29,19 @@ use Rattle.cell_world.specs.Grid.{Grid, world_of}
 use Rattle.cell_world.specs.Score.{score_of}
 use Rattle.cell_world.specs.World.{World, place_in}
 use Rattle.hex_geometry.specs.declared.position.Pos.{Pos}
+use Rattle.cell_world.specs.declared.ant.Colour.{Colour}
+use Rattle.cell_world.specs.declared.ant.Colour.TheVariants.{Red, Black}
 use Rattle.cell_world.specs.declared.cell.Cell.{Cell}
 use Rattle.cell_world.specs.declared.kind.Kind.{Kind}
 use Rattle.cell_world.specs.declared.kind.Kind.TheVariants.{Rock}
 use Rattle.cell_world.specs.declared.score.Score.{Score}
-use Rattle.ant_commands.specs.Setups.{ResumeSetup, RunSetup, TraceSetup}
+use Rattle.ant_commands.specs.Setups.{ResumeSetup, RunSetup, ToldSetup, TraceSetup}
+use Rattle.dump_print.specs.Content.{colour_text}
 use Rattle.dump_print.specs.Texts.{cell_line, cell_words, cells_text, dump_text, row_text, score_text, seed_text, seed_words, stats_text}
 use Rattle.dump_print.specs.declared.totals.Totals.{Totals}
+use Rattle.game_tellings.specs.Events.{events_text, turn_lines}
+use Rattle.game_tellings.specs.Profile.{brain_lines, executed_in_rounds, met_of, met_text, profile_text, state_line as tally_of_state, tally_line, times_of}
+use Rattle.game_tellings.specs.Told.{told_in_rounds}
 use Rattle.line_tokens.specs.Fields.{LineField, field_text, further_text, line_text}
 use Rattle.match_run.specs.Counts.{counts_text, totals_of, whole_text, both}
 use Rattle.match_run.specs.Run.{dumps_text, run_text, world_after}
@@ -55,7 +62,7 @@ use Rattle.world_read.specs.Canonical.{canonical_text, cell_text, line_of_row, s
 use Rattle.ant_commands.specs.declared.commands.workload.Summary.{Summary}
 use Rattle.ant_commands.specs.Help.{head_lines, help_text, tail_lines, version_text}
 use Rattle.command_words.specs.Help.{table_text}
-use Rattle.ant_commands.specs.Outputs.{ReadGame, traced_sheet, trace_output, chosen_rounds, match_output, minds_named, resume_output, save_output, show_output, summary_lines, workload_text}
+use Rattle.ant_commands.specs.Outputs.{ReadGame, traced_sheet, trace_output, chosen_rounds, events_output, match_output, minds_named, profile_output, resume_output, save_output, show_output, summary_lines, told_minds, workload_text}
 
 -- a text that ends in LF
 pub record EndsInLf (text : List ℕ) : Type 0 where
@@ -317,6 +324,11 @@ lf_told worlds names score text some told =
     subst EndsInLf (sym told.is)
     (lf_last (games_text worlds names (cup_played worlds names score) 1) (standing_text names told.lines) (lf_standing names (length names) (length worlds) score told.lines some told.standing))
 
+-- the line of the seed
+lf_seed : (seed : ℕ) → EndsInLf (seed_text seed)
+unfolding seed_text
+lf_seed seed = lf_last (seed_words seed) (codes "\n") lf_end
+
 -- the lines of an ant's way
 lf_way : (round : ℕ) (w : World) (place : Option Pos) → EndsInLf (way_line round w place)
 lf_way round w None = lf_last (codes "round ") (decimal round +++ codes ": dead\n") (lf_last (decimal round) (codes ": dead\n") (record { is = refl }))
@@ -338,12 +350,47 @@ lines_end true worlds id from n = lines_numbered (told_line worlds id from) n (l
 lines_end false worlds id from n = inr (lf_last (codes "no ant of id ") (decimal id +++ codes "\n") (lf_last (decimal id) (codes "\n") lf_end))
 
 pub lf_trace : (id : ℕ) (setup : TraceSetup) (game : ReadGame) → EndsInLf (trace_output id setup game)
-unfolding trace_output trace_text seed_text
+unfolding trace_output trace_text
 lf_trace id setup game =
     let minds : Minds = record { red = game.red; black = game.black; sheet = traced_sheet setup } in
     let w : World = world_of game.world in
-    lf_then (seed_text setup.seed) _ (lf_last (seed_words setup.seed) (codes "\n") lf_end)
+    lf_then (seed_text setup.seed) _ (lf_seed setup.seed)
     (lines_end (nat_lt id w.ids) (λ i. world_after minds setup.seed w (setup.from + i)) id setup.from (setup.rounds + 1 - setup.from))
+
+-- who died and how the score went
+pub lf_events : (setup : ToldSetup) (game : ReadGame) → EndsInLf (events_output setup game)
+unfolding events_output events_text
+lf_events setup game =
+    let minds : Minds = told_minds setup game in
+    let lines : List (List ℕ) = told_in_rounds (turn_lines minds setup.seed) minds setup.seed (start_of (world_of game.world)) setup.rounds in
+    lf_then (seed_text setup.seed) (flat_map (λ words. words +++ codes "\n") lines) (lf_seed setup.seed)
+    (lines_flat_map (λ words. words +++ codes "\n") lines (λ words. lf_last words (codes "\n") lf_end))
+
+-- how often each state was executed
+lf_tally : (colour : Colour) (state : ℕ) (instruction : Instr) (times met : ℕ) → EndsInLf (tally_line colour state instruction times met)
+unfolding tally_line
+lf_tally colour state instruction times met =
+    let line : List ℕ = codes ": " +++ instruction_text instruction in
+    let answers : List ℕ = met_text instruction met +++ line in
+    let often : List ℕ = decimal times +++ codes " times" +++ answers in
+    lf_last (colour_text colour) _ (lf_last (codes " ") _ (lf_last (decimal state) _ (lf_last (codes ": ") often (lf_last (decimal times) _ (lf_last (codes " times") answers
+    (lf_last (met_text instruction met) line (lf_last (codes ": ") (instruction_text instruction) (lf_instruction instruction))))))))
+
+lines_tallies : (minds : Minds) (seed : ℕ) (w : World) (rounds : ℕ) (colour : Colour) (brain : List Instr) → AreLines (brain_lines colour brain (executed_in_rounds minds seed w rounds))
+unfolding brain_lines
+lines_tallies minds seed w rounds colour brain =
+    let list = executed_in_rounds minds seed w rounds in
+    lines_numbered (tally_of_state colour brain list) (length brain)
+    (λ state. inr (lf_tally colour state (instruction_at brain state) (times_of list colour state) (met_of list colour state)))
+
+pub lf_profile : (setup : ToldSetup) (game : ReadGame) → EndsInLf (profile_output setup game)
+unfolding profile_output profile_text
+lf_profile setup game =
+    let minds : Minds = told_minds setup game in
+    let w : World = world_of game.world in
+    let list = executed_in_rounds minds setup.seed w setup.rounds in
+    lf_then (seed_text setup.seed) (brain_lines Red game.red list +++ brain_lines Black game.black list) (lf_seed setup.seed)
+    (lines_then (brain_lines Red game.red list) (brain_lines Black game.black list) (lines_tallies minds setup.seed w setup.rounds Red game.red) (lines_tallies minds setup.seed w setup.rounds Black game.black))
 
 -- what two brains come to
 lf_found : (found : Found) → EndsInLf (found_text found)

@@ -15,7 +15,6 @@ use Rattle.ant_commands.specs.Job.{HasRoom, Job, LacksRoom, files_of}
 use Rattle.ant_commands.specs.declared.status.Status.{Status}
 use Rattle.ant_commands.specs.declared.status.Status.TheVariants as status
 use Rattle.ant_commands.specs.declared.stop.FileFault.{FileFault}
-use Rattle.ant_commands.specs.declared.stop.FileFault.TheVariants.{TooLong, World, Brain, Breaks, Labelled, Save, AlreadyAt}
 use Rattle.ant_commands.specs.Files.{AreAccepted, AreBegun, AreInOrder, FileContent, File, IsAccepted, IsFetched, IsNoText, IsRefused, Reads, Refuses, StopsAt}
 use Rattle.ant_commands.specs.Inner.Reading.{EndsBy}
 use Rattle.ant_commands.specs.Verdict.{IsRefusedAs, Judged, FilesVerdict}
@@ -73,13 +72,8 @@ accepted_no_text at file first second content fault one two is refused =
 
 -- a file is never both accepted and refused
 pub one_verdict : (at : At) (file : File) (first second : Fetched) (content : FileContent) (fault : FileFault) → IsTold (Some at) first → IsTold (Some at) second → IsAccepted file first content → IsRefused file second fault → ⊥
-one_verdict at file first second content TooLong one two is refused = never_bytes at file.name is.bytes first second one two is.got refused
-one_verdict at file first second content (World fault) one two is refused = accepted_no_text at file first second content (World fault) one two is refused
-one_verdict at file first second content (Brain fault) one two is refused = accepted_no_text at file first second content (Brain fault) one two is refused
-one_verdict at file first second content (Breaks fault) one two is refused = accepted_no_text at file first second content (Breaks fault) one two is refused
-one_verdict at file first second content (Labelled fault) one two is refused = accepted_no_text at file first second content (Labelled fault) one two is refused
-one_verdict at file first second content (Save fault) one two is refused = accepted_no_text at file first second content (Save fault) one two is refused
-one_verdict at file first second content (AlreadyAt round) one two is refused = accepted_no_text at file first second content (AlreadyAt round) one two is refused
+one_verdict at file first second content fault one two is refused =
+    elim refused [ inl long ↦ never_bytes at file.name is.bytes first second one two is.got long.1 | inr bad ↦ accepted_no_text at file first second content fault one two is bad ]
 
 -- files that are all accepted have none that is refused
 pub accepted_never_refused : (at : At) (files : List File) (first second : List Fetched) (contents : List FileContent) (name : List ℕ) (fault : FileFault) → AllByRecursion (IsTold (Some at)) first → AllByRecursion (IsTold (Some at)) second
@@ -100,13 +94,7 @@ accepted_name file fetch content is = ap (λ (f : Fetched). f.name) is.got
 
 -- so did that of a refused one
 refused_name : (file : File) (fetch : Fetched) (fault : FileFault) → IsRefused file fetch fault → fetch.name ≡ file.name
-refused_name file fetch TooLong is = ap (λ (f : Fetched). f.name) is
-refused_name file fetch (World fault) is = ap (λ (f : Fetched). f.name) is.got
-refused_name file fetch (Brain fault) is = ap (λ (f : Fetched). f.name) is.got
-refused_name file fetch (Breaks fault) is = ap (λ (f : Fetched). f.name) is.got
-refused_name file fetch (Labelled fault) is = ap (λ (f : Fetched). f.name) is.got
-refused_name file fetch (Save fault) is = ap (λ (f : Fetched). f.name) is.got
-refused_name file fetch (AlreadyAt round) is = ap (λ (f : Fetched). f.name) is.got
+refused_name file fetch fault is = elim is [ inl long ↦ ap (λ (f : Fetched). f.name) long.1 | inr bad ↦ ap (λ (f : Fetched). f.name) bad.got ]
 
 -- the shelf was sure of a file of which it wasn't
 never_sure : (shelf : ShelfState) (name : List ℕ) (file : File) (fetch other : Fetched) → IsUnsure shelf name file fetch → other.name ≡ file.name → shelf.sure other.name ≡ true → ⊥

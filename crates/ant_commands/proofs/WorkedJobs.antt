@@ -4,9 +4,11 @@ use Rattle.ant_base.specs.Number.{decimal_value}
 use Rattle.command_words.specs.Command.{asked_in, is_among, rest_after}
 use Rattle.command_words.specs.Slots.{dumps_of, is_dumps, is_file_name}
 use Rattle.command_words.specs.Slots.DumpChoice.{EveryDump, NoDump}
-use Rattle.command_words.specs.declared.table.CommandKind.TheVariants.{Asm, Brain, Cup, Gen, Help, HelpWord, Minimise, Resume, Run, Same, Save, Show, Trace, Version, View, Workload}
+use Rattle.command_words.specs.declared.table.CommandKind.TheVariants.{Asm, Brain, Cup, Events, Gen, Help, HelpWord, Minimise, Profile, Resume, Run, Same, Save, Show, Trace, Version, View, Workload}
 use Rattle.command_words.proofs.WorkedLines.{words_of}
-use Rattle.ant_commands.specs.Jobs.{asm_job, brain_job, cup_job, gen_job, help_job, job_of, minimise_job, resume_job, run_job, same_job, save_job, show_job, trace_job, version_job, view_job, workload_job}
+use Rattle.ant_commands.specs.Outputs.{ReadGame, told_minds}
+use Rattle.ant_commands.specs.Setups.{told_of}
+use Rattle.ant_commands.specs.Jobs.{asm_job, brain_job, cup_job, events_job, gen_job, help_job, job_of, minimise_job, profile_job, resume_job, run_job, same_job, save_job, show_job, trace_job, version_job, view_job, workload_job}
 
 pub show_asked : job_of (asked_in Show (words_of (codes "show w 7"))) ≡ show_job (codes "w") 7
 unfolding is_among rest_after is_file_name is_dumps dumps_of decimal_value
@@ -71,3 +73,17 @@ trace_asked = refl
 pub same_asked : job_of (asked_in Same (words_of (codes "same a b"))) ≡ same_job (codes "a") (codes "b")
 unfolding is_among rest_after is_file_name is_dumps dumps_of decimal_value
 same_asked = refl
+
+pub events_asked : job_of (asked_in Events (words_of (codes "events w r b --rest 1 --corpse 2 --surround 6 --rounds 5 --seed 7"))) ≡ events_job (codes "w") (codes "r") (codes "b") (record { seed = 7; rounds = 5; surround = 6; corpse = 2; rest = 1 })
+unfolding is_among rest_after is_file_name is_dumps dumps_of decimal_value
+events_asked = refl
+
+pub profile_asked : job_of (asked_in Profile (words_of (codes "profile w r b --rest 1 --corpse 2 --surround 6 --rounds 5 --seed 7"))) ≡ profile_job (codes "w") (codes "r") (codes "b") (record { seed = 7; rounds = 5; surround = 6; corpse = 2; rest = 1 })
+unfolding is_among rest_after is_file_name is_dumps dumps_of decimal_value
+profile_asked = refl
+
+-- both are of a game by the numbers that the words name
+pub told_by : (game : ReadGame) → told_minds (told_of (asked_in Events (words_of (codes "events w r b --rest 1 --corpse 2 --surround 6 --rounds 5 --seed 7")))) game
+    ≡ record { red = game.red; black = game.black; sheet = record { surround = 6; corpse = 2; rest = 1 } }
+unfolding is_among rest_after is_file_name is_dumps dumps_of decimal_value
+told_by game = refl

@@ -2,6 +2,7 @@
 use Rattle.std.proofs.Common.{◌≡◌, [], ◌∷◌, codes, map, refl}
 use Rattle.std.specs.Fmt.{digits}
 use Rattle.brain_read.specs.declared.fault.BrainFault.TheVariants as brain
+use Rattle.text_fault.specs.declared.fault.TextFault.TheVariants as text
 use Rattle.world_read.specs.declared.fault.WorldFault.TheVariants as world
 use Rattle.ant_commands.specs.declared.status.Status.TheVariants.{Done, Words, Read, Write, Input, Memory}
 use Rattle.ant_commands.specs.declared.stop.FileFault.TheVariants as file
@@ -15,7 +16,7 @@ pub numbers : map status_number (Done ∷ Words ∷ Read ∷ Write ∷ Input ∷
 numbers = refl
 
 -- the status of each ending
-pub statuses : map ending_status (Finished ∷ RefusedWord 3 ∷ Stopped (AtFile (codes "w")) ∷ Stopped AtOutput ∷ Stopped (AtInput (codes "w") file.TooLong) ∷ Stopped (AtRoom 1) ∷ Stopped AtMemory ∷ [])
+pub statuses : map ending_status (Finished ∷ RefusedWord 3 ∷ Stopped (AtFile (codes "w")) ∷ Stopped AtOutput ∷ Stopped (AtInput (codes "w") (file.Text text.TooLong)) ∷ Stopped (AtRoom 1) ∷ Stopped AtMemory ∷ [])
     ≡ Done ∷ Words ∷ Read ∷ Write ∷ Input ∷ Input ∷ Memory ∷ []
 statuses = refl
 
@@ -30,16 +31,16 @@ unfolding fault_line
 memory_line = refl
 
 -- the column of a position stands before its row
-pub open_rim_line : fault_line (AtInput (codes "w") (file.World (world.OpenRim 2 0))) ≡ codes "ants: w: rim open at (2, 0)\n"
+pub open_rim_line : fault_line (AtInput (codes "w") (file.Text (text.World (world.OpenRim 2 0)))) ≡ codes "ants: w: rim open at (2, 0)\n"
 unfolding digits fault_line
 open_rim_line = refl
 
 -- the row of a bad cell stands before its column
-pub bad_cell_line : fault_line (AtInput (codes "w") (file.World (world.BadCell 1 2))) ≡ codes "ants: w: row 1: bad cell at column 2\n"
+pub bad_cell_line : fault_line (AtInput (codes "w") (file.Text (text.World (world.BadCell 1 2)))) ≡ codes "ants: w: row 1: bad cell at column 2\n"
 unfolding digits fault_line
 bad_cell_line = refl
 
 -- a line of a brain stands before its state
-pub no_state_line : fault_line (AtInput (codes "b") (file.Brain (brain.NoSuchState 2 5))) ≡ codes "ants: b: line 2: no such state 5\n"
+pub no_state_line : fault_line (AtInput (codes "b") (file.Text (text.Brain (brain.NoSuchState 2 5)))) ≡ codes "ants: b: line 2: no such state 5\n"
 unfolding digits fault_line
 no_state_line = refl

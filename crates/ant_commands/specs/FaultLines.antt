@@ -3,18 +3,15 @@ use Rattle.std.specs.Prelude.{ℕ, List, Option, Some, None, codes}
 use Rattle.ant_base.specs.Layout.{◌+++◌}
 use Rattle.ant_base.specs.FaultText.{failed_text, fetch_fault_text, memory_text}
 use Rattle.ant_base.specs.declared.shelf.FetchFault.TheVariants as fetch
-use Rattle.ant_asm.specs.FaultText.{asm_fault_text}
-use Rattle.brain_read.specs.FaultText.{brain_fault_text}
 use Rattle.break_view.specs.FaultText.{break_fault_text}
 use Rattle.command_words.specs.FaultText.{refused_text}
-use Rattle.match_save.specs.FaultText.{already_at_text, save_fault_text}
+use Rattle.text_fault.specs.FaultText.{text_fault_text}
 use Rattle.world_gen.specs.FaultText.{gen_fault_text}
 use Rattle.world_gen.specs.declared.generator.GenFault.TheVariants as gen
-use Rattle.world_read.specs.FaultText.{world_fault_text}
 use Rattle.ant_commands.specs.declared.status.Status.{Status}
 use Rattle.ant_commands.specs.declared.status.Status.TheVariants as status
 use Rattle.ant_commands.specs.declared.stop.FileFault.{FileFault}
-use Rattle.ant_commands.specs.declared.stop.FileFault.TheVariants.{TooLong, World, Brain, Breaks, Labelled, Save, AlreadyAt}
+use Rattle.ant_commands.specs.declared.stop.FileFault.TheVariants.{Breaks, Text}
 use Rattle.ant_commands.specs.declared.stop.CommandStop.{CommandStop}
 use Rattle.ant_commands.specs.declared.stop.CommandStop.TheVariants as stop
 use Rattle.ant_commands.specs.declared.stop.Ended.{Ended}
@@ -70,13 +67,8 @@ ending_status (Stopped reason) = status_of reason
 
 -- what a file's fault says
 abbrev pub file_fault_text : FileFault → List ℕ
-file_fault_text TooLong = fetch_fault_text fetch.TooLong
-file_fault_text (World fault) = world_fault_text fault
-file_fault_text (Brain fault) = brain_fault_text fault
+file_fault_text (Text fault) = text_fault_text fault
 file_fault_text (Breaks fault) = break_fault_text fault
-file_fault_text (Labelled fault) = asm_fault_text fault
-file_fault_text (Save fault) = save_fault_text fault
-file_fault_text (AlreadyAt round) = already_at_text round
 
 -- what a reason says
 abbrev pub reason_text : Reason → List ℕ

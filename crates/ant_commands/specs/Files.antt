@@ -1,24 +1,23 @@
 -- The files of a command, and what is accepted of them.
-use Rattle.std.specs.Prelude.{◌≡◌, ℕ, ◌<◌, ◌≤◌, Bool, true, false, List, [], ◌∷◌, ◌++◌, map, Ok, Err, ◌⊎◌}
+use Rattle.std.specs.Prelude.{◌≡◌, ℕ, Bool, true, false, List, [], ◌∷◌, ◌++◌, map, Ok, Err, ◌⊎◌}
 use Rattle.ant_asm.specs.Answers.{IsAssembledText}
 use Rattle.ant_asm.specs.Labels.{AreLabelsOf, LabelState}
 use Rattle.ant_asm.specs.Places.{Address}
-use Rattle.ant_asm.specs.Text.{IsAsmFault}
 use Rattle.ant_base.specs.Fetched.{Fetched}
 use Rattle.ant_base.specs.declared.shelf.FetchFault.TheVariants as answer
 use Rattle.brain_read.specs.declared.instr.Instr.{Instr}
 use Rattle.brain_read.specs.Grammar.{IsBrainText}
-use Rattle.brain_read.specs.Faulty.{IsBrainFault}
 use Rattle.break_view.specs.Grammar.{IsBreakText}
 use Rattle.break_view.specs.Faulty.{IsBreakFault}
 use Rattle.break_view.specs.declared.breaks.Break.{Break}
 use Rattle.cell_world.specs.Grid.{Grid}
-use Rattle.match_save.specs.Faulty.{IsSaveFault}
-use Rattle.match_save.specs.Saved.{IsSaveText, SavedValue}
-use Rattle.world_read.specs.Faulty.{IsWorldFault}
+use Rattle.match_save.specs.Saved.{SavedValue}
+use Rattle.text_fault.specs.Opens.{IsSaveWithin}
+use Rattle.text_fault.specs.Refusals.{IsNoBrain, IsNoProgram, IsNoSave, IsNoWorld}
+use Rattle.text_fault.specs.declared.fault.TextFault.TheVariants.{TooLong}
 use Rattle.world_read.specs.Opened.{OpensAs}
 use Rattle.ant_commands.specs.declared.stop.FileFault.{FileFault}
-use Rattle.ant_commands.specs.declared.stop.FileFault.TheVariants.{TooLong, World, Brain, Breaks, Labelled, Save, AlreadyAt}
+use Rattle.ant_commands.specs.declared.stop.FileFault.TheVariants.{Breaks, Text}
 
 -- what a file is read as; of a labelled program the brain is wanted, or else its labels; a save is one of which at most so many rounds are done
 pub data FileKind : Type 0 where
@@ -51,24 +50,16 @@ Reads BrainFile bytes (BrainContent list) = IsBrainText bytes list
 Reads BreakFile bytes (BreakContent items) = IsBreakText bytes items
 Reads (LabelledFile false) bytes (LabelledContent brain places) = IsAssembledText bytes brain places
 Reads (LabelledFile true) bytes (LabelsContent labels) = AreLabelsOf bytes labels
-Reads (SaveFile rounds) bytes (SaveContent saved) = IsSaveText bytes saved × (saved.round ≤ rounds)
+Reads (SaveFile rounds) bytes (SaveContent saved) = IsSaveWithin rounds bytes saved
 Reads kind bytes content = ⊥
-
--- bytes are those of a save of which this many rounds are done, and they are too many
-pub record IsPast (bytes : List ℕ) (rounds round : ℕ) : Type 0 where
-  pub saved : SavedValue
-  pub is : IsSaveText bytes saved
-  pub at : saved.round ≡ round
-  pub past : rounds < round
 
 -- bytes have this fault in a file of this kind
 abbrev pub Refuses : FileKind → List ℕ → FileFault → Type 0
-Refuses WorldFile bytes (World fault) = IsWorldFault bytes fault
-Refuses BrainFile bytes (Brain fault) = IsBrainFault bytes fault
+Refuses WorldFile bytes (Text fault) = IsNoWorld bytes fault
+Refuses BrainFile bytes (Text fault) = IsNoBrain bytes fault
 Refuses BreakFile bytes (Breaks fault) = IsBreakFault bytes fault
-Refuses (LabelledFile labels) bytes (Labelled fault) = IsAsmFault bytes fault
-Refuses (SaveFile rounds) bytes (Save fault) = IsSaveFault bytes fault
-Refuses (SaveFile rounds) bytes (AlreadyAt round) = IsPast bytes rounds round
+Refuses (LabelledFile labels) bytes (Text fault) = IsNoProgram bytes fault
+Refuses (SaveFile rounds) bytes (Text fault) = IsNoSave rounds bytes fault
 Refuses kind bytes fault = ⊥
 
 -- the file was fetched, and its bytes are read as this content
@@ -83,15 +74,10 @@ pub record IsNoText (file : File) (fetch : Fetched) (fault : FileFault) : Type 0
   pub got : fetch ≡ record { name = file.name; answer = Ok bytes }
   pub refuses : Refuses file.kind bytes fault
 
--- the file was fetched, and is refused with this fault
+-- the file was fetched, and is refused with this fault: it is too long, or no such text
 abbrev pub IsRefused : File → Fetched → FileFault → Type 0
-IsRefused file fetch TooLong = fetch ≡ record { name = file.name; answer = Err answer.TooLong }
-IsRefused file fetch (World fault) = IsNoText file fetch (World fault)
-IsRefused file fetch (Brain fault) = IsNoText file fetch (Brain fault)
-IsRefused file fetch (Breaks fault) = IsNoText file fetch (Breaks fault)
-IsRefused file fetch (Labelled fault) = IsNoText file fetch (Labelled fault)
-IsRefused file fetch (Save fault) = IsNoText file fetch (Save fault)
-IsRefused file fetch (AlreadyAt round) = IsNoText file fetch (AlreadyAt round)
+IsRefused file fetch fault =
+    ((fault ≡ Text TooLong) × (fetch ≡ record { name = file.name; answer = Err answer.TooLong })) ⊎ IsNoText file fetch fault
 
 -- the files were fetched, each once and in order, and accepted as these contents
 abbrev pub AreAccepted : List File → List Fetched → List FileContent → Type 0

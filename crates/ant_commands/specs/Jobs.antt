@@ -4,14 +4,14 @@ use Rattle.brain_read.specs.Canonical.{brain_text}
 use Rattle.world_gen.specs.Placing.{HasNoRoom}
 use Rattle.command_words.specs.Command.{PlainAsked}
 use Rattle.command_words.specs.declared.table.CommandKind.{CommandKind}
-use Rattle.command_words.specs.declared.table.CommandKind.TheVariants.{Show, Brain, Minimise, Run, Gen, Cup, View, Workload, Help, HelpWord, Version, Asm, Save, Resume, Trace, Same}
+use Rattle.command_words.specs.declared.table.CommandKind.TheVariants.{Show, Brain, Minimise, Run, Gen, Cup, View, Workload, Help, HelpWord, Version, Asm, Save, Resume, Trace, Same, Events, Profile}
 use Rattle.command_words.specs.declared.table.Choice.TheVariants.{Seed, Rounds, Workers, Labels, States, Games}
 use Rattle.command_words.specs.declared.table.NameList.TheVariants.{Worlds, Brains}
 use Rattle.ant_commands.specs.declared.commands.setups.GenShape.{GenShape}
 use Rattle.ant_commands.specs.Help.{help_text, version_text}
 use Rattle.ant_commands.specs.Job.{Job, plain_job}
-use Rattle.ant_commands.specs.Outputs.{CupInPlay, IsAsmOutput, IsCupOutput, IsViewOutput, Tells, TellsGenerated, TellsMinimised, TellsSame, TellsWorkload, brain_contents, brain_file, break_file, contest_shape, cup_files, game_contents, game_files, is_text_of, labelled_file, match_output, no_contents, pair_contents, resume_output, roster_contents, save_contents, save_file, save_output, shape_named, show_output, trace_output, view_contents, world_contents, world_file}
-use Rattle.ant_commands.specs.Setups.{ResumeSetup, RunSetup, TraceSetup, resume_of, save_setup_of, setup_of, shape_of, trace_of}
+use Rattle.ant_commands.specs.Outputs.{CupInPlay, IsAsmOutput, IsCupOutput, IsViewOutput, Tells, TellsGenerated, TellsMinimised, TellsSame, TellsWorkload, brain_contents, brain_file, break_file, contest_shape, cup_files, events_output, game_contents, game_files, is_text_of, labelled_file, match_output, no_contents, pair_contents, profile_output, resume_output, roster_contents, save_contents, save_file, save_output, shape_named, show_output, trace_output, view_contents, world_contents, world_file}
+use Rattle.ant_commands.specs.Setups.{ResumeSetup, RunSetup, ToldSetup, TraceSetup, resume_of, save_setup_of, setup_of, shape_of, told_of, trace_of}
 
 abbrev pub show_job : List ℕ → ℕ → Job
 show_job world seed = plain_job (world_file world ∷ []) (Tells world_contents (is_text_of (show_output seed)))
@@ -59,6 +59,12 @@ trace_job world red black id setup = plain_job (game_files world red black) (Tel
 abbrev pub same_job : List ℕ → List ℕ → Job
 same_job first second = plain_job (brain_file first ∷ brain_file second ∷ []) (Tells pair_contents TellsSame)
 
+abbrev pub events_job : List ℕ → List ℕ → List ℕ → ToldSetup → Job
+events_job world red black setup = plain_job (game_files world red black) (Tells game_contents (is_text_of (events_output setup)))
+
+abbrev pub profile_job : List ℕ → List ℕ → List ℕ → ToldSetup → Job
+profile_job world red black setup = plain_job (game_files world red black) (Tells game_contents (is_text_of (profile_output setup)))
+
 -- the job of a command line, a row a command
 abbrev pub job_by : CommandKind → PlainAsked → Job
 job_by Show a = show_job (a.file 0) (a.number 1)
@@ -77,6 +83,8 @@ job_by Save a = save_job (a.file 0) (a.file 1) (a.file 2) (save_setup_of a)
 job_by Resume a = resume_job (a.file 0) (resume_of a)
 job_by Trace a = trace_job (a.file 0) (a.file 1) (a.file 2) (a.number 3) (trace_of a)
 job_by Same a = same_job (a.file 0) (a.file 1)
+job_by Events a = events_job (a.file 0) (a.file 1) (a.file 2) (told_of a)
+job_by Profile a = profile_job (a.file 0) (a.file 1) (a.file 2) (told_of a)
 
 abbrev pub job_of : PlainAsked → Job
 job_of asked = job_by asked.kind asked

@@ -1,5 +1,6 @@
 pub mod Files
 pub mod Headline
+pub mod RunPromise
 pub mod Help
 pub mod Inner
 pub mod Setups

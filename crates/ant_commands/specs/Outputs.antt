@@ -26,6 +26,8 @@ use Rattle.command_words.specs.Slots.{DumpChoice}
 use Rattle.command_words.specs.Table.{default_of}
 use Rattle.command_words.specs.declared.table.Choice.TheVariants.{Blobs, Height, Rocks, Width, Window}
 use Rattle.command_words.specs.Slots.DumpChoice.{NoDump, EveryDump, ChosenDumps}
+use Rattle.game_tellings.specs.Events.{events_text}
+use Rattle.game_tellings.specs.Profile.{profile_text}
 use Rattle.match_run.specs.Counts.{totals_of, whole_text}
 use Rattle.match_run.specs.Dumps.{has_round}
 use Rattle.match_run.specs.Run.{world_after}
@@ -33,7 +35,7 @@ use Rattle.match_save.specs.Resumed.{resumed_text}
 use Rattle.match_save.specs.Saved.{SavedValue, save_text}
 use Rattle.match_save.specs.Saves.{saved_after}
 use Rattle.dump_print.specs.Texts.{seed_text, dump_text, score_text, stats_text}
-use Rattle.ant_commands.specs.Setups.{ResumeSetup, RunSetup, TraceSetup}
+use Rattle.ant_commands.specs.Setups.{ResumeSetup, RunSetup, ToldSetup, TraceSetup}
 use Rattle.tournament.specs.Games.{all_played}
 use Rattle.tournament.specs.Text.{IsCupText}
 use Rattle.tournament.specs.Told.{IsToldCupText, games_text}
@@ -162,6 +164,10 @@ sheet_named setup = record { surround = setup.surround; corpse = setup.corpse; r
 abbrev pub traced_sheet : TraceSetup → Sheet
 traced_sheet setup = record { surround = setup.surround; corpse = setup.corpse; rest = setup.rest }
 
+-- the numbers of the rules that the words of `events` or `profile` name
+abbrev pub told_sheet : ToldSetup → Sheet
+told_sheet setup = record { surround = setup.surround; corpse = setup.corpse; rest = setup.rest }
+
 -- both brains of a game, and the numbers of its rules
 abbrev pub minds_named : RunSetup → List Instr → List Instr → Minds
 minds_named setup red black = record { red = red; black = black; sheet = sheet_named setup }
@@ -183,6 +189,18 @@ resume_output setup saved = resumed_text saved setup.rounds (chosen_rounds setup
 unfoldable pub trace_output : ℕ → TraceSetup → ReadGame → List ℕ
 trace_output id setup game =
     trace_text (record { red = game.red; black = game.black; sheet = traced_sheet setup }) setup.seed (world_of game.world) setup.rounds id setup.from
+
+-- both brains of a game of which events or a profile are told, and the numbers of its rules
+abbrev pub told_minds : ToldSetup → ReadGame → Minds
+told_minds setup game = record { red = game.red; black = game.black; sheet = told_sheet setup }
+
+-- the output of `events`: the line of the seed, and the lines of the dead and of the score, turn after turn
+unfoldable pub events_output : ToldSetup → ReadGame → List ℕ
+events_output setup game = events_text (told_minds setup game) setup.seed (world_of game.world) setup.rounds
+
+-- the output of `profile`: the line of the seed, and a line for each state of the red brain and then of the black one
+unfoldable pub profile_output : ToldSetup → ReadGame → List ℕ
+profile_output setup game = profile_text (told_minds setup game) setup.seed (world_of game.world) setup.rounds
 
 -- the output of `same`: what the two brains come to
 pub record TellsSame (pair : ReadPair) (text : List ℕ) : Type 0 where

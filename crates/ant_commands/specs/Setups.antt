@@ -11,6 +11,7 @@ use Rattle.command_words.specs.declared.table.NameList.TheVariants.{Worlds, Brai
 use Rattle.ant_commands.specs.declared.commands.setups.GenShape.{GenShape}
 use Rattle.ant_commands.specs.declared.commands.setups.ResumeOptions.{ResumeOptions}
 use Rattle.ant_commands.specs.declared.commands.setups.RunOptions.{RunOptions}
+use Rattle.ant_commands.specs.declared.commands.setups.ToldGame.{ToldGame}
 use Rattle.ant_commands.specs.declared.commands.setups.TracedGame.{TracedGame}
 
 -- what the options of `run` say
@@ -42,6 +43,14 @@ pub record TraceSetup : Type 0 where
   pub corpse : ℕ
   pub rest : ℕ
 
+-- what the options of `events` say, and those of `profile`
+pub record ToldSetup : Type 0 where
+  pub seed : ℕ
+  pub rounds : ℕ
+  pub surround : ℕ
+  pub corpse : ℕ
+  pub rest : ℕ
+
 -- what a command line of `run` says
 abbrev pub setup_of : PlainAsked → RunSetup
 setup_of asked = record {
@@ -61,7 +70,7 @@ setup_of asked = record {
 abbrev pub save_setup_of : PlainAsked → RunSetup
 save_setup_of asked = record (setup_of asked) { dumps = NoDump; stats = false; far = false }
 
--- what one of `resume`, of `trace` or of `gen` says
+-- what one of `resume`, of `trace`, of `events` or `profile`, or of `gen` says
 abbrev pub resume_of : PlainAsked → ResumeSetup
 resume_of asked = record { rounds = asked.option Rounds; dumps = asked.dumps; workers = asked.option Workers; stats = asked.has Stats }
 
@@ -70,6 +79,15 @@ trace_of asked = record {
   seed = asked.option Seed;
   rounds = asked.option Rounds;
   from = asked.option From;
+  surround = asked.option Surround;
+  corpse = asked.option Corpse;
+  rest = asked.option Rest;
+}
+
+abbrev pub told_of : PlainAsked → ToldSetup
+told_of asked = record {
+  seed = asked.option Seed;
+  rounds = asked.option Rounds;
   surround = asked.option Surround;
   corpse = asked.option Corpse;
   rest = asked.option Rest;
@@ -119,6 +137,14 @@ pub record TraceWithin (setup : TraceSetup) : Type 0 where
   pub corpse : IsWithin CorpseFood setup.corpse
   pub rest : IsWithin RestRounds setup.rest
 
+-- the numbers of a game of which events or a profile are told are within the limits
+pub record ToldWithin (setup : ToldSetup) : Type 0 where
+  pub seed : IsWithin SeedNumber setup.seed
+  pub rounds : IsWithin RoundCount setup.rounds
+  pub surround : IsWithin FoeCount setup.surround
+  pub corpse : IsWithin CorpseFood setup.corpse
+  pub rest : IsWithin RestRounds setup.rest
+
 -- the options of `run` that were read
 abbrev pub plain_setup : RunOptions → RunSetup
 plain_setup options = record {
@@ -144,6 +170,16 @@ plain_trace game = record {
   seed = game.seed;
   rounds = game.rounds;
   from = game.from;
+  surround = game.surround;
+  corpse = game.corpse;
+  rest = game.rest;
+}
+
+-- the options of `events` or `profile` that were read
+abbrev pub plain_told : ToldGame → ToldSetup
+plain_told game = record {
+  seed = game.seed;
+  rounds = game.rounds;
   surround = game.surround;
   corpse = game.corpse;
   rest = game.rest;

@@ -10,11 +10,13 @@ ghost use Rattle.ant_commands.specs.Jobs.{job_of};
 mod asm;
 mod brain;
 mod cup;
+mod events;
 pub mod far;
 mod generate;
 mod help;
 mod minimise;
 mod played;
+mod profile;
 mod resume;
 mod run;
 mod same;
@@ -29,15 +31,17 @@ mod workload;
 use crate::commands::asm::asm;
 use crate::commands::brain::brain;
 use crate::commands::cup::cup;
+use crate::commands::events::events;
 use crate::commands::generate::gen_world;
 use crate::commands::help::{help, version};
 use crate::commands::minimise::minimise;
+use crate::commands::profile::profile;
 use crate::commands::resume::resume;
 use crate::commands::run::run;
 use crate::commands::same::same;
 use crate::commands::save::save;
 use crate::commands::setups::{
-    AskedGame, CupEntry, GenShape, ResumeOptions, TracedGame, ViewedGame,
+    AskedGame, CupEntry, GenShape, ResumeOptions, ToldGame, TracedGame, ViewedGame,
 };
 use crate::commands::show::show;
 use crate::commands::trace::trace;
@@ -99,6 +103,8 @@ pub fn dispatch<'w, R: Threads + Sync, C: Crew, S: Shelf, K: Sink>(
         ),
         CommandKind::Trace => trace(alloc, TracedGame::of(asked), shelf, out),
         CommandKind::Same => same(alloc, asked.file(0), asked.file(1), shelf, out),
+        CommandKind::Events => events(alloc, ToldGame::of_events(asked), shelf, out),
+        CommandKind::Profile => profile(alloc, ToldGame::of_profile(asked), shelf, out),
     }
 }
 

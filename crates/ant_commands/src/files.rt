@@ -4,17 +4,17 @@ ghost use Rattle.ant_base.specs.Shelf.{longest};
 ghost use Rattle.command_words.specs.Words.{texts};
 ghost use Rattle.ant_commands.specs.Files.{FileContent, FileKind};
 ghost use Rattle.ant_commands.specs.Inner.Cups.{files_named};
-ghost use Rattle.ant_commands.specs.Inner.Reading.{FetchesFile, ReadsFiles, ReadsText, brain_reason, break_reason, fetch_reason, labelled_reason, outcome_of, world_reason};
+ghost use Rattle.ant_commands.specs.Inner.Reading.{FetchesFile, IsNamed, ReadsFiles, ReadsText, break_reason, fetch_reason, outcome_of};
 ghost use Rattle.ant_commands.specs.FaultLines.{reason_of};
 
 use crate::stop::{CommandStop, FileFault};
-use ant_asm::{AsmFault, Assembled, Labels, assemble, read_labels};
+use ant_asm::{Assembled, Labels};
 use ant_base::{FetchFault, Shelf};
-use brain_read::{Brain, BrainFault, read_brain};
+use brain_read::Brain;
 use break_view::{BreakFault, Breaks, read_breaks};
 use cell_world::World;
 use std::alloc::Global;
-use world_read::{WorldFault, read_world};
+use text_fault::{TextFault, TextStop, open_brain, open_labels, open_program, open_world};
 
 /// What the bytes of a file can be read as.
 pub trait FileText: Sized {
@@ -39,10 +39,7 @@ impl FileText for World {
     ghost content = { WorldContent };
 
     fn read<'w>(alloc: Global, name: &'w str, bytes: &[u8]) -> Result<World, CommandStop<'w>> {
-        match read_world(alloc, bytes) {
-            Ok(world) => Ok(world),
-            Err(fault) => Err(world_stop(name, fault)),
-        }
+        named(name, open_world(alloc, bytes))
     }
 }
 
@@ -55,10 +52,7 @@ impl FileText for Brain {
     ghost content = { BrainContent };
 
     fn read<'w>(alloc: Global, name: &'w str, bytes: &[u8]) -> Result<Brain, CommandStop<'w>> {
-        match read_brain(alloc, bytes) {
-            Ok(brain) => Ok(brain),
-            Err(fault) => Err(brain_stop(name, fault)),
-        }
+        named(name, open_brain(alloc, bytes))
     }
 }
 
@@ -88,10 +82,7 @@ impl FileText for Assembled {
     ghost content = { λ made. LabelledContent made.brain made.places };
 
     fn read<'w>(alloc: Global, name: &'w str, bytes: &[u8]) -> Result<Assembled, CommandStop<'w>> {
-        match assemble(alloc, bytes) {
-            Ok(made) => Ok(made),
-            Err(fault) => Err(labelled_stop(name, fault)),
-        }
+        named(name, open_program(alloc, bytes))
     }
 }
 
@@ -105,10 +96,7 @@ impl FileText for Labels {
     ghost content = { LabelsContent };
 
     fn read<'w>(alloc: Global, name: &'w str, bytes: &[u8]) -> Result<Labels, CommandStop<'w>> {
-        match read_labels(alloc, bytes) {
-            Ok(labels) => Ok(labels),
-            Err(fault) => Err(labelled_stop(name, fault)),
-        }
+        named(name, open_labels(alloc, bytes))
     }
 }
 
@@ -161,28 +149,19 @@ fn fetch_stop<'w>(name: &'w str, fault: FetchFault) -> CommandStop<'w>
 {
     match fault {
         FetchFault::Failed => CommandStop::Read(name),
-        FetchFault::TooLong => CommandStop::Input(name, FileFault::TooLong),
+        FetchFault::TooLong => CommandStop::Input(name, FileFault::Text(TextFault::TooLong)),
         FetchFault::OutOfMemory => CommandStop::Memory,
     }
 }
 
-// Why a command stops at the text of a world.
-fn world_stop<'w>(name: &'w str, fault: WorldFault) -> CommandStop<'w>
-    ensures { reason_of result ≡ world_reason name.now fault }
+/// What the text of the file of this name was opened as, or why a command stops at it.
+pub fn named<'w, T>(name: &'w str, opened: Result<T, TextStop>) -> Result<T, CommandStop<'w>>
+    ensures { IsNamed name.now opened result }
 {
-    match fault {
-        WorldFault::OutOfMemory => CommandStop::Memory,
-        other => CommandStop::Input(name, FileFault::World(other)),
-    }
-}
-
-// Why a command stops at the text of a brain.
-fn brain_stop<'w>(name: &'w str, fault: BrainFault) -> CommandStop<'w>
-    ensures { reason_of result ≡ brain_reason name.now fault }
-{
-    match fault {
-        BrainFault::OutOfMemory => CommandStop::Memory,
-        other => CommandStop::Input(name, FileFault::Brain(other)),
+    match opened {
+        Ok(value) => Ok(value),
+        Err(TextStop::OutOfMemory) => Err(CommandStop::Memory),
+        Err(TextStop::Refused(fault)) => Err(CommandStop::Input(name, FileFault::Text(fault))),
     }
 }
 
@@ -193,15 +172,5 @@ fn break_stop<'w>(name: &'w str, fault: BreakFault) -> CommandStop<'w>
     match fault {
         BreakFault::OutOfMemory => CommandStop::Memory,
         other => CommandStop::Input(name, FileFault::Breaks(other)),
-    }
-}
-
-// Why a command stops at the text of a labelled program.
-fn labelled_stop<'w>(name: &'w str, fault: AsmFault) -> CommandStop<'w>
-    ensures { reason_of result ≡ labelled_reason name.now fault }
-{
-    match fault {
-        AsmFault::OutOfMemory => CommandStop::Memory,
-        other => CommandStop::Input(name, FileFault::Labelled(other)),
     }
 }

@@ -1,5 +1,6 @@
 // Laws on the definitions of what a command does. Each is proved by a function that does nothing.
 ghost use Rattle.ant_commands.specs.Headline.{Headline};
+ghost use Rattle.ant_commands.specs.RunPromise.{RefusedWords, RunPromise};
 ghost use Rattle.ant_commands.specs.Verdict.{JudgesOnce};
 ghost use Rattle.ant_commands.specs.Laws.{AssembledAndMinimised, HasOutput, OneText, SavesAreResumed, TextsEndInLf, WindowsChangeCountsAlone, WorkersChangeNothing};
 
@@ -7,6 +8,18 @@ ghost use Rattle.ant_commands.specs.Laws.{AssembledAndMinimised, HasOutput, OneT
 /// and written. It follows from the one clause of `run_to_exit`.
 pub fn headline()
     ensures { Headline }
+{}
+
+/// The promise of one `run` without `--stats`, in definitions of its own: what each status says of its three files, of the text of its game and of the
+/// errors, whatever the words that are a `run`; and words that begin with `run` and are not refused are such words.
+pub fn run_promise()
+    ensures { RunPromise }
+{}
+
+/// Words that are no command end with status 2 at the first word that is refused; and what the table of commands has as a `run` without
+/// `--stats` is one as `run_promise` has it.
+pub fn refused_words()
+    ensures { RefusedWords }
 {}
 
 /// Contents that have each file of a command judge them in exactly one way: all are accepted, as the same contents, or one and the same file is the first

@@ -5,34 +5,21 @@ ghost use Rattle.ant_commands.specs.Inner.Plans.{play_ending};
 ghost use Rattle.ant_commands.specs.Inner.Reading.{ending_of, push_ending};
 
 use crate::status::Status;
-use ant_asm::AsmFault;
 use ant_base::{Failed, FetchFault, Layout, Sink, layout};
-use brain_read::BrainFault;
 use break_view::BreakFault;
 use cell_world::Score;
 use match_run::{OutOfMemory, PlayFault};
-use match_save::{AlreadyAt, SaveFault};
 use std::alloc::AllocFailed;
+use text_fault::TextFault;
 use world_gen::GenFault;
-use world_read::WorldFault;
 
 /// Why a file was refused.
 #[derive(Clone, Copy)]
 pub enum FileFault {
-    /// It has more than 4,194,304 bytes.
-    TooLong,
-    /// It is no world.
-    World(WorldFault),
-    /// It is no brain.
-    Brain(BrainFault),
+    /// Its text is refused.
+    Text(TextFault),
     /// It is no list of breaks.
     Breaks(BreakFault),
-    /// It is no labelled program.
-    Labelled(AsmFault),
-    /// It is no save.
-    Save(SaveFault),
-    /// It is a save of which this many rounds are done, more than are to be played in all.
-    AlreadyAt(u32),
 }
 
 /// Why a command stopped before its whole text was written.
@@ -145,13 +132,8 @@ impl Layout for FileFault {
 
     fn push_to<K: Sink>(&self, sink: &mut K) -> Result<(), Failed> {
         match *self {
-            FileFault::TooLong => FetchFault::TooLong.push_to(sink),
-            FileFault::World(fault) => fault.push_to(sink),
-            FileFault::Brain(fault) => fault.push_to(sink),
+            FileFault::Text(fault) => fault.push_to(sink),
             FileFault::Breaks(fault) => fault.push_to(sink),
-            FileFault::Labelled(fault) => fault.push_to(sink),
-            FileFault::Save(fault) => fault.push_to(sink),
-            FileFault::AlreadyAt(round) => AlreadyAt(round).push_to(sink),
         }
     }
 }

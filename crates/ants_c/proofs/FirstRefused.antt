@@ -1,70 +1,45 @@
--- A text is refused for its length alone, or read; and of some texts the first that is at fault is refused.
-use Rattle.std.proofs.Common.{◌≡◌, ◌<◌, ℕ, List, length, Ok, Err, Result, sym, ◌∙◌, ap, arith}
-use Rattle.ant_base.specs.Shelf.{longest}
+-- Of some texts the first that is at fault is refused.
+use Rattle.std.proofs.Common.{◌≡◌, ℕ, List, refl, ap, arith}
 use Rattle.brain_read.specs.declared.fault.BrainFault.{BrainFault}
 use Rattle.brain_read.specs.Faulty.{IsBrainFault}
 use Rattle.brain_read.proofs.FaultyLemmas.{never_both}
 use Rattle.cell_world.specs.Grid.{Grid}
+use Rattle.text_fault.proofs.Verdicts.{world_verdict}
+use Rattle.text_fault.specs.declared.fault.TextFault.{TextFault}
+use Rattle.text_fault.specs.declared.fault.TextFault.TheVariants.{World}
+use Rattle.text_fault.specs.Opens.{GivesWorld}
+use Rattle.text_fault.specs.Refusals.{IsNoBrain, IsNoWorld}
+use Rattle.text_fault.specs.Refusals.IsRefusal.{Bad, Long}
 use Rattle.world_read.specs.declared.fault.WorldFault.{WorldFault}
 use Rattle.world_read.specs.Faulty.{IsWorldFault}
-use Rattle.world_read.specs.Grammar.{Plan}
-use Rattle.world_read.proofs.VerdictLemmas.{plan_of-verdict}
 use Rattle.ants_c.specs.declared.refusal.Refusal.{Refusal}
-use Rattle.ants_c.specs.declared.refusal.TextFault.TheVariants.{TooLong, World, Brain, Labelled, Save, AlreadyAt}
-use Rattle.ants_c.specs.Readable.{GivesWorld}
-use Rattle.ants_c.specs.Refused.{IsRefusedBrain, IsRefusedGame, IsRefusedPair, IsRefusedProgram, IsRefusedSave, IsRefusedWorld}
+use Rattle.ants_c.specs.Refused.{IsRefusedGame, IsRefusedPair, IsRefusedText, IsRefusedWorld}
 use Rattle.ants_c.specs.Texts.{IsWithin}
-
--- what is refused as too long is longer than what is read
-pub long-world : (text : List ℕ) (refusal : Refusal) → refusal.fault ≡ TooLong → IsRefusedWorld text refusal → longest < length text
-long-world text refusal long (IsRefusedWorld.TooLong more same) = more
-long-world text refusal long (IsRefusedWorld.NoWorld short why is same) = let never : World why ≡ TooLong = sym (ap (λ (r : Refusal). r.fault) same) ∙ long in absurd (cc)
-
-pub long-brain : (number : ℕ) (text : List ℕ) (refusal : Refusal) → refusal.fault ≡ TooLong → IsRefusedBrain number text refusal → longest < length text
-long-brain number text refusal long (IsRefusedBrain.TooLong more same) = more
-long-brain number text refusal long (IsRefusedBrain.NoBrain short why is same) = let never : Brain why ≡ TooLong = sym (ap (λ (r : Refusal). r.fault) same) ∙ long in absurd (cc)
-
-pub long-program : (text : List ℕ) (refusal : Refusal) → refusal.fault ≡ TooLong → IsRefusedProgram text refusal → longest < length text
-long-program text refusal long (IsRefusedProgram.TooLong more same) = more
-long-program text refusal long (IsRefusedProgram.NoProgram short why is same) = let never : Labelled why ≡ TooLong = sym (ap (λ (r : Refusal). r.fault) same) ∙ long in absurd (cc)
-
-pub long-save : (rounds : ℕ) (text : List ℕ) (refusal : Refusal) → refusal.fault ≡ TooLong → IsRefusedSave rounds text refusal → longest < length text
-long-save rounds text refusal long (IsRefusedSave.TooLong more same) = more
-long-save rounds text refusal long (IsRefusedSave.NoSave short why is same) = let never : Save why ≡ TooLong = sym (ap (λ (r : Refusal). r.fault) same) ∙ long in absurd (cc)
-long-save rounds text refusal long (IsRefusedSave.TooFar saved gives far same) = let never : AlreadyAt saved.round ≡ TooLong = sym (ap (λ (r : Refusal). r.fault) same) ∙ long in absurd (cc)
 
 -- a world's text has no fault
 one-world : (text : List ℕ) (grid : Grid) (why : WorldFault) → GivesWorld text grid → IsWorldFault text why → ⊥
-one-world text grid why gives is =
-    let plan : Plan = record { width = grid.width; height = grid.height; kinds = gives.is.kinds } in
-    let both : ◌≡◌ {A = Result Plan WorldFault} (Ok plan) (Err why) = plan_of-verdict text (Ok plan) gives.is.is ∙ sym (plan_of-verdict text (Err why) is) in cc
+one-world text grid why gives is = (world_verdict text).never_both grid (World why) gives.is (record { why = why; is = is; told = refl })
 
 not-refused : (text : List ℕ) (grid : Grid) (refusal : Refusal) → GivesWorld text grid → IsRefusedWorld text refusal → ⊥
-not-refused text grid refusal gives (IsRefusedWorld.TooLong more same) = omega (arith, more, gives.short)
-not-refused text grid refusal gives (IsRefusedWorld.NoWorld short why is same) = one-world text grid why gives is
+not-refused text grid refusal gives refused = elim refused.why [ Long more is ↦ omega (arith, more, gives.short) | Bad short wrong ↦ one-world text grid wrong.why gives wrong.is ]
 
-first-text : (text : List ℕ) (refusal : Refusal) → IsRefusedWorld text refusal → refusal.text ≡ 1
-first-text text refusal (IsRefusedWorld.TooLong more same) = ap (λ (r : Refusal). r.text) same
-first-text text refusal (IsRefusedWorld.NoWorld short why is same) = ap (λ (r : Refusal). r.text) same
-
-numbered : (number : ℕ) (text : List ℕ) (refusal : Refusal) → IsRefusedBrain number text refusal → refusal.text ≡ number
-numbered number text refusal (IsRefusedBrain.TooLong more same) = ap (λ (r : Refusal). r.text) same
-numbered number text refusal (IsRefusedBrain.NoBrain short why is same) = ap (λ (r : Refusal). r.text) same
+numbered : (number : ℕ) (Wrong : List ℕ → TextFault → Type 0) (text : List ℕ) (refusal : Refusal) → IsRefusedText number Wrong text refusal → refusal.text ≡ number
+numbered number Wrong text refusal refused = ap (λ (r : Refusal). r.text) refused.is
 
 -- where the world of a game is at fault, it is refused whatever the brains are; and the red brain is, whatever the black one is
 pub world_first : (world red black : List ℕ) (why : WorldFault) (refusal : Refusal) → IsWorldFault world why → IsRefusedGame world red black refusal → refusal.text ≡ 1
-world_first world red black why refusal is (IsRefusedGame.World refused) = first-text world refusal refused
+world_first world red black why refusal is (IsRefusedGame.World refused) = numbered 1 IsNoWorld world refusal refused
 world_first world red black why refusal is (IsRefusedGame.Red grid gives refused) = absurd (one-world world grid why gives is)
 world_first world red black why refusal is (IsRefusedGame.Black grid gives reds gives_red refused) = absurd (one-world world grid why gives is)
 
 pub red_second : (world red black : List ℕ) (grid : Grid) (why : BrainFault) (refusal : Refusal) → GivesWorld world grid → IsBrainFault red why → IsRefusedGame world red black refusal → refusal.text ≡ 2
 red_second world red black grid why refusal gives is (IsRefusedGame.World refused) = absurd (not-refused world grid refusal gives refused)
-red_second world red black grid why refusal gives is (IsRefusedGame.Red other gives_other refused) = numbered 2 red refusal refused
+red_second world red black grid why refusal gives is (IsRefusedGame.Red other gives_other refused) = numbered 2 IsNoBrain red refusal refused
 red_second world red black grid why refusal gives is (IsRefusedGame.Black other gives_other reds gives_red refused) = absurd (never_both red reds why gives_red.is is)
 
 -- where the first of two brains is at fault, it is refused whatever the second is
 pub first_of_pair : (first second : List ℕ) (why : BrainFault) (refusal : Refusal) → IsBrainFault first why → IsRefusedPair first second refusal → refusal.text ≡ 1
-first_of_pair first second why refusal is (IsRefusedPair.First refused) = numbered 1 first refusal refused
+first_of_pair first second why refusal is (IsRefusedPair.First refused) = numbered 1 IsNoBrain first refusal refused
 first_of_pair first second why refusal is (IsRefusedPair.Second brain gives refused) = absurd (never_both first brain why gives.is is)
 
 -- the least and the greatest sides, with none and with the most rocks and blobs, are within the limits; and one beyond each is not

@@ -1,60 +1,34 @@
 -- Why texts are not opened, by why they are not read.
-use Rattle.std.proofs.Common.{◌≡◌, ◌<◌, ◌≤◌, inl, inr, ℕ, List, length, refl, arith}
-use Rattle.ant_base.specs.Answers.{IsFaultOr}
-use Rattle.ant_base.specs.Shelf.{longest}
-use Rattle.ant_asm.specs.Text.{IsAsmFault}
-use Rattle.ant_asm.specs.declared.fault.AsmFault.{AsmFault}
-use Rattle.ant_asm.specs.declared.fault.AsmFault.TheVariants as labelled
-use Rattle.brain_read.specs.declared.fault.BrainFault.{BrainFault}
-use Rattle.brain_read.specs.declared.fault.BrainFault.TheVariants as brain
+use Rattle.std.proofs.Common.{◌≡◌, ℕ, List, Result, Ok, Err, IfErr, IfOk, refl, arith}
 use Rattle.brain_read.specs.declared.instr.Instr.{Instr}
-use Rattle.brain_read.specs.Faulty.{IsBrainFault}
 use Rattle.cell_world.specs.Grid.{Grid}
-use Rattle.match_save.specs.declared.fault.SaveFault.{SaveFault}
-use Rattle.match_save.specs.declared.fault.SaveFault.TheVariants as save
-use Rattle.match_save.specs.Faulty.{IsSaveFault}
-use Rattle.match_save.specs.Saved.{SavedValue}
-use Rattle.world_read.specs.declared.fault.WorldFault.{WorldFault}
-use Rattle.world_read.specs.declared.fault.WorldFault.TheVariants as world
-use Rattle.world_read.specs.Faulty.{IsWorldFault}
+use Rattle.text_fault.specs.declared.fault.TextFault.{TextFault}
+use Rattle.text_fault.specs.declared.stop.TextStop.{TextStop}
+use Rattle.text_fault.specs.declared.stop.TextStop.TheVariants as text
+use Rattle.text_fault.specs.Opens.{Gives, GivesBrain, GivesWorld, Opens}
 use Rattle.ants_c.specs.declared.fault.AntsFault.{AntsFault}
 use Rattle.ants_c.specs.declared.refusal.Refusal.{Refusal}
 use Rattle.ants_c.specs.declared.refusal.Stop.{Stop}
 use Rattle.ants_c.specs.declared.refusal.Stop.TheVariants.{OutOfMemory, Refused}
-use Rattle.ants_c.specs.declared.refusal.TextFault.TheVariants as fault
-use Rattle.ants_c.specs.Readable.{GivesBrain, GivesSave, GivesWorld}
-use Rattle.ants_c.specs.Refused.{IsRefusedBrain, IsRefusedGame, IsRefusedPair, IsRefusedProgram, IsRefusedSave, IsRefusedWorld}
-use Rattle.ants_c.specs.Stops.{brain_stop, labelled_stop, refused, save_stop, world_stop}
-use Rattle.ants_c.specs.Told.{IsStopped, IsTold, StopsAt}
+use Rattle.ants_c.specs.Refused.{IsRefusedBrain, IsRefusedGame, IsRefusedPair, IsRefusedText, IsRefusedWorld}
+use Rattle.ants_c.specs.Told.{IsStopped, IsTold, StopsAt, numbered}
 
--- a fault of a world's text stops a call
-pub stops_at_world : (text : List ℕ) (fault : WorldFault) → length text ≤ longest → IsFaultOr world.OutOfMemory (IsWorldFault text) fault → StopsAt (IsRefusedWorld text) (world_stop fault)
-stops_at_world text world.OutOfMemory short is = tt
-stops_at_world text it short (inl is) = IsRefusedWorld.NoWorld short it is refl
-stops_at_world text it short (inr want) = absurd (cc)
+-- a text that is opened has its value
+pub numbered_ok : {V : Type 0} (P : V → Type 0) (number : ℕ) (opened : Result V TextStop) (result : Result V Stop) → result ≡ numbered number opened → IfOk opened P → IfOk result P
+numbered_ok P number (Ok value) result is holds = rw is holds
+numbered_ok P number (Err text.OutOfMemory) result is holds = rw is tt
+numbered_ok P number (Err (text.Refused fault)) result is holds = rw is tt
 
--- a fault of a brain's text stops a call
-pub stops_at_brain : (number : ℕ) (text : List ℕ) (fault : BrainFault) → length text ≤ longest → IsFaultOr brain.OutOfMemory (IsBrainFault text) fault → StopsAt (IsRefusedBrain number text) (brain_stop number fault)
-stops_at_brain number text brain.OutOfMemory short is = tt
-stops_at_brain number text it short (inl is) = IsRefusedBrain.NoBrain short it is refl
-stops_at_brain number text it short (inr want) = absurd (cc)
+pub gives : {V : Type 0} (Is : List ℕ → V → Type 0) (Wrong : List ℕ → TextFault → Type 0) (bytes : List ℕ) (opened : Result V TextStop) → Opens Is Wrong bytes opened → IfOk opened (Gives Is bytes)
+gives Is Wrong bytes (Ok value) opens = opens
+gives Is Wrong bytes (Err stop) opens = tt
 
--- a fault of a labelled program's text stops a call
-pub stops_at_program : (text : List ℕ) (fault : AsmFault) → length text ≤ longest → IsFaultOr labelled.OutOfMemory (IsAsmFault text) fault → StopsAt (IsRefusedProgram text) (labelled_stop fault)
-stops_at_program text labelled.OutOfMemory short is = tt
-stops_at_program text it short (inl is) = IsRefusedProgram.NoProgram short it is refl
-stops_at_program text it short (inr want) = absurd (cc)
-
--- a fault of a save's text stops a call
-pub stops_at_save : (rounds : ℕ) (text : List ℕ) (fault : SaveFault) → length text ≤ longest → IsFaultOr save.OutOfMemory (IsSaveFault text) fault → StopsAt (IsRefusedSave rounds text) (save_stop fault)
-stops_at_save rounds text save.OutOfMemory short is = tt
-stops_at_save rounds text it short (inl is) = IsRefusedSave.NoSave short it is refl
-stops_at_save rounds text it short (inr want) = absurd (cc)
-
--- a save of which too many rounds are done stops a call
-pub stops_too_far : (rounds round : ℕ) (text : List ℕ) (saved : SavedValue) (stop : Stop) → GivesSave text saved → round ≡ saved.round → rounds < round
-    → stop ≡ refused 1 (fault.AlreadyAt round) → StopsAt (IsRefusedSave rounds text) stop
-stops_too_far rounds round text saved stop is at far stopped = rw stopped (IsRefusedSave.TooFar saved is (rw (← at) far) (rw at refl))
+-- one that isn't stops a call
+pub numbered_stops : {V : Type 0} (number : ℕ) (Is : List ℕ → V → Type 0) (Wrong : List ℕ → TextFault → Type 0) (bytes : List ℕ) (opened : Result V TextStop) (result : Result V Stop)
+    → result ≡ numbered number opened → Opens Is Wrong bytes opened → IfErr result (StopsAt (IsRefusedText number Wrong bytes))
+numbered_stops number Is Wrong bytes (Ok value) result is opens = rw is tt
+numbered_stops number Is Wrong bytes (Err text.OutOfMemory) result is opens = rw is tt
+numbered_stops number Is Wrong bytes (Err (text.Refused fault)) result is opens = rw is (record { fault = fault; why = opens; is = refl })
 
 -- a call that stops at the first, the second or the third text of a game
 pub stops_at_first : (world red black : List ℕ) (stop : Stop) → StopsAt (IsRefusedWorld world) stop → StopsAt (IsRefusedGame world red black) stop

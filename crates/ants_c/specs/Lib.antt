@@ -1,12 +1,10 @@
 pub mod Looked
 pub mod Numbers
 pub mod Played
-pub mod Readable
 pub mod Refused
 pub mod RoomSinks
 pub mod Rooms
 pub mod Saves
-pub mod Stops
 pub mod Texts
 pub mod Told
 pub mod Version

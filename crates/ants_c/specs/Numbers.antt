@@ -9,8 +9,9 @@ use Rattle.match_save.specs.declared.fault.SaveFault.TheVariants as save
 use Rattle.world_read.specs.declared.fault.WorldFault.{WorldFault}
 use Rattle.world_read.specs.declared.fault.WorldFault.TheVariants as world
 use Rattle.ants_c.specs.declared.numbers.Numbers.{Numbers}
-use Rattle.ants_c.specs.declared.refusal.TextFault.{TextFault}
-use Rattle.ants_c.specs.declared.refusal.TextFault.TheVariants.{TooLong, World, Brain, Labelled, Save, AlreadyAt, NoRoom}
+use Rattle.ants_c.specs.declared.refusal.CallFault.{CallFault}
+use Rattle.ants_c.specs.declared.refusal.CallFault.TheVariants.{NoRoom, Text}
+use Rattle.text_fault.specs.declared.fault.TextFault.TheVariants.{TooLong, World, Brain, Labelled, Save, AlreadyAt}
 
 -- a kind without further numbers
 abbrev pub bare : ℕ → Numbers
@@ -70,11 +71,11 @@ save_numbers save.BadState = bare 51
 save_numbers save.OutOfMemory = bare 0
 
 -- of what is wrong with a text
-abbrev pub numbers_of : TextFault → Numbers
-numbers_of TooLong = bare 1
-numbers_of (World why) = world_numbers why
-numbers_of (Brain why) = brain_numbers why
-numbers_of (Labelled why) = labelled_numbers why
-numbers_of (Save why) = save_numbers why
-numbers_of (AlreadyAt round) = record { kind = 52; line = 0; column = 0; number = round }
+abbrev pub numbers_of : CallFault → Numbers
+numbers_of (Text TooLong) = bare 1
+numbers_of (Text (World why)) = world_numbers why
+numbers_of (Text (Brain why)) = brain_numbers why
+numbers_of (Text (Labelled why)) = labelled_numbers why
+numbers_of (Text (Save why)) = save_numbers why
+numbers_of (Text (AlreadyAt round)) = record { kind = 52; line = 0; column = 0; number = round }
 numbers_of (NoRoom element) = record { kind = 60; line = 0; column = 0; number = element }

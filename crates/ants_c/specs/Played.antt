@@ -7,9 +7,9 @@ use Rattle.cell_world.specs.Grid.{Grid, world_of}
 use Rattle.cell_world.specs.Score.{score_of}
 use Rattle.match_run.specs.Dumps.{has_round}
 use Rattle.match_run.specs.Run.{run_text, world_after}
+use Rattle.text_fault.specs.Opens.{GivesBrain, GivesWorld}
 use Rattle.world_read.specs.Opened.{IsOpeningWorld}
 use Rattle.ants_c.specs.declared.score.AntsScore.{AntsScore}
-use Rattle.ants_c.specs.Readable.{GivesBrain, GivesWorld}
 use Rattle.ants_c.specs.declared.read.Setting.{Setting}
 
 -- a status is one of these: done, a number beyond its limits, no room, refused, out of memory

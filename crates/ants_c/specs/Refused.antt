@@ -1,37 +1,34 @@
 -- Which text is refused, and for what (this project's own).
-use Rattle.std.specs.Prelude.{◌≡◌, ℕ, ◌<◌, ◌≤◌, List, length}
-use Rattle.ant_asm.specs.declared.fault.AsmFault.{AsmFault}
-use Rattle.ant_asm.specs.Text.{IsAsmFault}
-use Rattle.ant_base.specs.Shelf.{longest}
-use Rattle.brain_read.specs.declared.fault.BrainFault.{BrainFault}
+use Rattle.std.specs.Prelude.{◌≡◌, ℕ, List}
 use Rattle.brain_read.specs.declared.instr.Instr.{Instr}
-use Rattle.brain_read.specs.Faulty.{IsBrainFault}
 use Rattle.cell_world.specs.Grid.{Grid}
-use Rattle.match_save.specs.declared.fault.SaveFault.{SaveFault}
-use Rattle.match_save.specs.Faulty.{IsSaveFault}
-use Rattle.match_save.specs.Saved.{SavedValue}
+use Rattle.text_fault.specs.declared.fault.TextFault.{TextFault}
+use Rattle.text_fault.specs.Opens.{GivesBrain, GivesWorld}
+use Rattle.text_fault.specs.Refusals.{IsNoBrain, IsNoProgram, IsNoSave, IsNoWorld, IsRefusal}
 use Rattle.world_gen.specs.declared.shape.Shape.{Shape}
 use Rattle.world_gen.specs.Placing.{HasNoRoom}
-use Rattle.world_read.specs.declared.fault.WorldFault.{WorldFault}
-use Rattle.world_read.specs.Faulty.{IsWorldFault}
-use Rattle.ants_c.specs.Readable.{GivesBrain, GivesSave, GivesWorld}
+use Rattle.ants_c.specs.declared.refusal.CallFault.TheVariants.{NoRoom, Text}
 use Rattle.ants_c.specs.declared.refusal.Refusal.{Refusal}
-use Rattle.ants_c.specs.declared.refusal.TextFault.TheVariants as fault
 
--- the first text is too long to be read, or it is no world's and has this fault
-pub data IsRefusedWorld (text : List ℕ) (refusal : Refusal) : Type 0 where
-  TooLong : longest < length text → refusal ≡ record { text = 1; fault = fault.TooLong } → IsRefusedWorld text refusal
-  NoWorld : length text ≤ longest → (why : WorldFault) → IsWorldFault text why → refusal ≡ record { text = 1; fault = fault.World why } → IsRefusedWorld text refusal
+-- the text of this number is refused, since it is too long or since this is wrong with it
+pub record IsRefusedText (number : ℕ) (Wrong : List ℕ → TextFault → Type 0) (text : List ℕ) (refusal : Refusal) : Type 0 where
+  pub fault : TextFault
+  pub why : IsRefusal Wrong text fault
+  pub is : refusal ≡ record { text = number; fault = Text fault }
 
--- the text of this number is too long to be read, or it is no brain's and has this fault
-pub data IsRefusedBrain (number : ℕ) (text : List ℕ) (refusal : Refusal) : Type 0 where
-  TooLong : longest < length text → refusal ≡ record { text = number; fault = fault.TooLong } → IsRefusedBrain number text refusal
-  NoBrain : length text ≤ longest → (why : BrainFault) → IsBrainFault text why → refusal ≡ record { text = number; fault = fault.Brain why } → IsRefusedBrain number text refusal
+-- the first text is refused as a world's, the text of this number as a brain's, the first one as a labelled program's, or as that of a save
+-- of which at most so many rounds are done
+abbrev pub IsRefusedWorld : List ℕ → Refusal → Type 0
+IsRefusedWorld = IsRefusedText 1 IsNoWorld
 
--- the first text is too long to be read, or it is no labelled program's and has this fault
-pub data IsRefusedProgram (text : List ℕ) (refusal : Refusal) : Type 0 where
-  TooLong : longest < length text → refusal ≡ record { text = 1; fault = fault.TooLong } → IsRefusedProgram text refusal
-  NoProgram : length text ≤ longest → (why : AsmFault) → IsAsmFault text why → refusal ≡ record { text = 1; fault = fault.Labelled why } → IsRefusedProgram text refusal
+abbrev pub IsRefusedBrain : ℕ → List ℕ → Refusal → Type 0
+IsRefusedBrain number = IsRefusedText number IsNoBrain
+
+abbrev pub IsRefusedProgram : List ℕ → Refusal → Type 0
+IsRefusedProgram = IsRefusedText 1 IsNoProgram
+
+abbrev pub IsRefusedSave : ℕ → List ℕ → Refusal → Type 0
+IsRefusedSave rounds = IsRefusedText 1 (IsNoSave rounds)
 
 -- of the texts of a game the first that is refused: those before it are a world's and a brain's
 pub data IsRefusedGame (world red black : List ℕ) (refusal : Refusal) : Type 0 where
@@ -48,11 +45,4 @@ pub data IsRefusedPair (first second : List ℕ) (refusal : Refusal) : Type 0 wh
 pub record IsRefusedShape (seed : ℕ) (shape : Shape) (refusal : Refusal) : Type 0 where
   pub element : ℕ
   pub none : HasNoRoom seed shape element
-  pub is : refusal ≡ record { text = 0; fault = fault.NoRoom element }
-
--- the first text is too long to be read, or it is no save's and has this fault, or it is that of a save of which more rounds are done than these
-pub data IsRefusedSave (rounds : ℕ) (text : List ℕ) (refusal : Refusal) : Type 0 where
-  TooLong : longest < length text → refusal ≡ record { text = 1; fault = fault.TooLong } → IsRefusedSave rounds text refusal
-  NoSave : length text ≤ longest → (why : SaveFault) → IsSaveFault text why → refusal ≡ record { text = 1; fault = fault.Save why } → IsRefusedSave rounds text refusal
-  TooFar : (saved : SavedValue) → GivesSave text saved → rounds < saved.round → refusal ≡ record { text = 1; fault = fault.AlreadyAt saved.round }
-      → IsRefusedSave rounds text refusal
+  pub is : refusal ≡ record { text = 0; fault = NoRoom element }

@@ -1,5 +1,5 @@
 -- What is said of saves as texts (this project's own).
-use Rattle.std.specs.Prelude.{◌≡◌, ◌≤◌, ℕ, List, false}
+use Rattle.std.specs.Prelude.{◌≡◌, ℕ, List, false}
 use Rattle.ant_turn.specs.Minds.{contest_minds}
 use Rattle.brain_read.specs.declared.instr.Instr.{Instr}
 use Rattle.cell_world.specs.Grid.{Grid, world_of}
@@ -7,8 +7,8 @@ use Rattle.match_run.specs.Dumps.{has_round}
 use Rattle.match_save.specs.Resumed.{resumed_text}
 use Rattle.match_save.specs.Saved.{SavedValue, save_text}
 use Rattle.match_save.specs.Saves.{saved_after}
+use Rattle.text_fault.specs.Opens.{Gives, IsSaveWithin}
 use Rattle.ants_c.specs.Played.{IsGame}
-use Rattle.ants_c.specs.Readable.{GivesSave}
 
 -- how many turns a window of a save has
 abbrev pub save_window : ℕ
@@ -26,6 +26,5 @@ pub record IsSaveOf (world_text red_text black_text : List ℕ) (seed rounds : �
 -- are done, with the dumps of these rounds, without counts
 pub record IsResumed (before : List ℕ) (rounds : ℕ) (dumps : List ℕ) (text : List ℕ) : Type 0 where
   pub saved : SavedValue
-  pub is : GivesSave before saved
-  pub early : saved.round ≤ rounds
+  pub is : Gives (IsSaveWithin rounds) before saved
   pub is_text : text ≡ resumed_text saved rounds (has_round dumps) false

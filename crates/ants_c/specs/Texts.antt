@@ -1,6 +1,6 @@
 -- Which texts are answered (this project's own).
 use Rattle.std.specs.Prelude.{◌≡◌, ◌≤◌, ℕ, List, Option}
-use Rattle.ant_asm.specs.Places.{Address}
+use Rattle.ant_asm.specs.declared.assembly.Assembled.{Assembled}
 use Rattle.brain_minimise.specs.Minimised.{IsMinimised}
 use Rattle.brain_read.specs.declared.instr.Instr.{Instr}
 use Rattle.brain_read.specs.Canonical.{brain_text}
@@ -9,11 +9,11 @@ use Rattle.brain_same.specs.Difference.{IsComparison}
 use Rattle.brain_same.specs.Text.{comparison_text}
 use Rattle.cell_world.specs.Grid.{Grid}
 use Rattle.cell_world.specs.Limits.{least_size, most_size}
+use Rattle.text_fault.specs.Opens.{Gives, GivesBrain, IsProgramOf}
 use Rattle.world_gen.specs.declared.shape.Shape.{Shape}
 use Rattle.world_gen.specs.Generated.{IsGenerated}
 use Rattle.world_read.specs.Canonical.{canonical_text}
 use Rattle.world_read.specs.Opened.{kinds_of}
-use Rattle.ants_c.specs.Readable.{GivesBrain, GivesProgram}
 
 -- the canonical text of an opening world
 abbrev pub world_text : Grid → List ℕ
@@ -36,10 +36,9 @@ pub record IsMinimisedOf (before text : List ℕ) : Type 0 where
 
 -- a text is a labelled program's, and this is the canonical text of the brain that it becomes
 pub record IsAssembledOf (before text : List ℕ) : Type 0 where
-  pub brain : List Instr
-  pub places : List Address
-  pub is : GivesProgram before brain places
-  pub is_text : text ≡ brain_text brain
+  pub made : Assembled
+  pub is : Gives IsProgramOf before made
+  pub is_text : text ≡ brain_text made.brain
 
 -- two texts are brains', and this tells what they come to when they are compared
 pub record IsComparisonOf (first_text second_text text : List ℕ) : Type 0 where

@@ -1,9 +1,12 @@
 -- What a caller is told of a refusal (this project's own).
-use Rattle.std.specs.Prelude.{◌≡◌, ℕ, List}
+use Rattle.std.specs.Prelude.{◌≡◌, ℕ, List, Result, Ok, Err}
+use Rattle.text_fault.specs.declared.stop.TextStop.{TextStop}
+use Rattle.text_fault.specs.declared.stop.TextStop.TheVariants as text
 use Rattle.ants_c.specs.Numbers.{numbers_of}
 use Rattle.ants_c.specs.Rooms.{counted, overlaid}
 use Rattle.ants_c.specs.Words.{fault_words}
 use Rattle.ants_c.specs.declared.fault.AntsFault.{AntsFault}
+use Rattle.ants_c.specs.declared.refusal.CallFault.TheVariants.{Text}
 use Rattle.ants_c.specs.declared.refusal.Refusal.{Refusal}
 use Rattle.ants_c.specs.declared.refusal.Stop.{Stop}
 use Rattle.ants_c.specs.declared.refusal.Stop.TheVariants.{OutOfMemory, Refused}
@@ -30,6 +33,12 @@ pub record IsTold (Why : Refusal → Type 0) (fault : AntsFault) (before after :
 abbrev pub StopsAt : (Refusal → Type 0) → Stop → Type 0
 StopsAt Why OutOfMemory = Unit {0}
 StopsAt Why (Refused refusal) = Why refusal
+
+-- what the text of this number was opened as, or why a call stops at it
+abbrev pub numbered : {V : Type 0} → ℕ → Result V TextStop → Result V Stop
+numbered number (Ok value) = Ok value
+numbered number (Err text.OutOfMemory) = Err OutOfMemory
+numbered number (Err (text.Refused fault)) = Err (Refused (record { text = number; fault = Text fault }))
 
 -- what a stopped call answers, and what it does to the fault and to the room for words that the caller lent
 abbrev pub IsStopped : Stop → ℕ → AntsFault → AntsFault → List ℕ → List ℕ → Type 0

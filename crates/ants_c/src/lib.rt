@@ -23,11 +23,11 @@ mod look;
 mod numbers;
 mod read;
 mod refusal;
+mod resume;
 mod room_log;
 mod room_sink;
 mod run;
 mod save;
-mod resume;
 mod score;
 mod scores;
 mod shapes;
@@ -37,10 +37,10 @@ mod texts;
 mod version;
 
 use crate::look::{are_rising, put_looks};
-use crate::read::{Pair, Setting, open_brain, open_pair, open_program, open_texts};
+use crate::read::{Pair, Setting, open_brain, open_pair, open_program, open_save, open_texts};
+use crate::resume::put_resumed;
 use crate::run::put_run;
 use crate::save::saved_setting;
-use crate::resume::{open_save, put_resumed};
 use crate::scores::{score_of_game, scores_of_setting};
 use crate::shapes::{generated, shape_of};
 use crate::status::{DONE, MEMORY, NO_ROOM, NUMBER};
@@ -75,6 +75,7 @@ pub extern "C" fn ants_version(out: &mut [u8], used: &mut usize) -> u32
 ///
 /// The score is written at 0 alone, the fault and the words at 5 alone.
 #[unsafe(no_mangle)]
+#[tactic(auto, using(crate::proofs::Stops::stopped_tells))]
 pub extern "C" fn ants_score(
     alloc: Global,
     world: &[u8],
@@ -119,6 +120,7 @@ pub extern "C" fn ants_score(
 /// The scores are written at 0 alone, in the order of the seeds, and those behind them stay; the fault and the words at 5 alone. It takes
 /// memory for as many scores, and for a copy of the world.
 #[unsafe(no_mangle)]
+#[tactic(auto, using(crate::proofs::Stops::stopped_tells))]
 pub extern "C" fn ants_scores(
     alloc: Global,
     world: &[u8],
@@ -212,6 +214,7 @@ pub extern "C" fn ants_look(
 /// `used` is the length of the text at 0 and at 4; what it doesn't reach of `out` stays. `out` and `used` are written at 0 and 4 alone, the
 /// fault and the words at 5 alone.
 #[unsafe(no_mangle)]
+#[tactic(auto, using(crate::proofs::Stops::stopped_tells))]
 pub extern "C" fn ants_run(
     alloc: Global,
     world: &[u8],
@@ -248,6 +251,7 @@ pub extern "C" fn ants_run(
 /// Lays the canonical text of a brain over `out`, as the program's `brain` (the task's neurology). The status is 0, 4, 5 or 6, and what is
 /// written is so, as at `ants_run`.
 #[unsafe(no_mangle)]
+#[tactic(auto, using(crate::proofs::Stops::stopped_tells))]
 pub extern "C" fn ants_brain(
     alloc: Global,
     brain: &[u8],
@@ -272,6 +276,7 @@ pub extern "C" fn ants_brain(
 /// Lays the canonical text of a brain, minimised, over `out`: what the program's `minimise` writes below its first line (over the task's
 /// neurology). Returns 0, 4, 5 or 6, and writes for each what `ants_run` writes.
 #[unsafe(no_mangle)]
+#[tactic(auto, using(crate::proofs::Stops::stopped_tells))]
 pub extern "C" fn ants_minimise(
     alloc: Global,
     brain: &[u8],
@@ -300,6 +305,7 @@ pub extern "C" fn ants_minimise(
 /// Lays the canonical text of the brain that a labelled program becomes over `out`, as the program's `asm` (this project's own).
 /// Returns 0, 4, 5 or 6, and writes for each what `ants_run` writes.
 #[unsafe(no_mangle)]
+#[tactic(auto, using(crate::proofs::Stops::stopped_tells))]
 pub extern "C" fn ants_asm(
     alloc: Global,
     program: &[u8],
@@ -324,6 +330,7 @@ pub extern "C" fn ants_asm(
 /// Lays `same`, or the three lines of where two brains first differ, over `out`, as the program's `same` (over the task's neurology).
 /// Returns 0, 4, 5 or 6, and writes for each what `ants_run` writes.
 #[unsafe(no_mangle)]
+#[tactic(auto, using(crate::proofs::Stops::stopped_tells))]
 pub extern "C" fn ants_same(
     alloc: Global,
     first: &[u8],
@@ -389,6 +396,7 @@ pub extern "C" fn ants_gen(
 /// Plays a game as `ants_score` does, and lays the text of its save after so many rounds over `out`, as the program's `save` (this project's own).
 /// Returns 0, 2, 4, 5 or 6, and writes for each what `ants_run` writes. Nothing is written before the last round is played.
 #[unsafe(no_mangle)]
+#[tactic(auto, using(crate::proofs::Stops::stopped_tells))]
 pub extern "C" fn ants_save(
     alloc: Global,
     world: &[u8],
@@ -427,6 +435,7 @@ pub extern "C" fn ants_save(
 ///
 /// What is written is so as at `ants_run`.
 #[unsafe(no_mangle)]
+#[tactic(auto, using(crate::proofs::Stops::stopped_tells))]
 pub extern "C" fn ants_resume(
     alloc: Global,
     save: &[u8],

@@ -2,10 +2,11 @@
 ghost use Rattle.std.specs.Prelude.{◌≡◌};
 ghost use Rattle.ants_c.specs.Numbers.{at_line, bare, brain_numbers, labelled_numbers, numbers_of, save_numbers, world_numbers};
 
-use crate::refusal::TextFault;
+use crate::refusal::CallFault;
 use ant_asm::AsmFault;
 use brain_read::BrainFault;
 use match_save::SaveFault;
+use text_fault::TextFault;
 use world_read::WorldFault;
 
 /// What is told of a fault in numbers: its kind, a line or row, a column, and a number more.
@@ -118,20 +119,20 @@ fn save_numbers(fault: SaveFault) -> Numbers
 }
 
 /// The numbers of what is wrong with a text.
-pub fn numbers_of(fault: TextFault) -> Numbers
+pub fn numbers_of(fault: CallFault) -> Numbers
     ensures { result ≡ numbers_of fault }
 {
     match fault {
-        TextFault::TooLong => bare(1),
-        TextFault::World(why) => world_numbers(why),
-        TextFault::Brain(why) => brain_numbers(why),
-        TextFault::Labelled(why) => labelled_numbers(why),
-        TextFault::Save(why) => save_numbers(why),
-        TextFault::AlreadyAt(round) => Numbers {
+        CallFault::Text(TextFault::TooLong) => bare(1),
+        CallFault::Text(TextFault::World(why)) => world_numbers(why),
+        CallFault::Text(TextFault::Brain(why)) => brain_numbers(why),
+        CallFault::Text(TextFault::Labelled(why)) => labelled_numbers(why),
+        CallFault::Text(TextFault::Save(why)) => save_numbers(why),
+        CallFault::Text(TextFault::AlreadyAt(round)) => Numbers {
             number: u64::from(round),
             ..bare(52)
         },
-        TextFault::NoRoom(element) => Numbers {
+        CallFault::NoRoom(element) => Numbers {
             number: u64::from(element),
             ..bare(60)
         },

@@ -2,18 +2,17 @@
 ghost use Rattle.std.specs.Prelude.{◌≡◌, IfOk, IfErr};
 ghost use Rattle.world_read.specs.Opened.{IsOpeningWorld};
 ghost use Rattle.ants_c.specs.Played.{IsSetting};
-ghost use Rattle.ants_c.specs.Readable.{GivesBrain, GivesProgram, GivesWorld};
-ghost use Rattle.ants_c.specs.Refused.{IsRefusedBrain, IsRefusedGame, IsRefusedPair, IsRefusedProgram, IsRefusedWorld};
-ghost use Rattle.ants_c.specs.Stops.{brain_stop, labelled_stop, refused, world_stop};
-ghost use Rattle.ants_c.specs.Told.{StopsAt};
+ghost use Rattle.ants_c.specs.Refused.{IsRefusedBrain, IsRefusedGame, IsRefusedPair, IsRefusedProgram, IsRefusedSave, IsRefusedWorld};
+ghost use Rattle.ants_c.specs.Told.{StopsAt, numbered};
+ghost use Rattle.text_fault.specs.Opens.{Gives, GivesBrain, GivesWorld, IsProgramOf, IsSaveWithin};
 
-use crate::refusal::{Refusal, Stop, TextFault};
-use ant_asm::{AsmFault, Assembled, assemble};
-use ant_base::LONGEST;
-use brain_read::{Brain, BrainFault, read_brain};
+use crate::refusal::{CallFault, Refusal, Stop};
+use ant_asm::Assembled;
+use brain_read::Brain;
 use cell_world::World;
+use match_save::Saved;
 use std::alloc::Global;
-use world_read::{WorldFault, read_world};
+use text_fault::TextStop;
 
 /// What three texts were read as.
 #[derive(Drop)]
@@ -30,87 +29,55 @@ pub struct Pair {
     pub second: Brain,
 }
 
-/// The text of this number is refused for this fault.
-pub fn refused(text: u32, fault: TextFault) -> Stop
-    ensures { result ≡ refused text fault }
+// What the text of this number was opened as, or why a call stops at it.
+fn numbered<T>(number: u32, opened: Result<T, TextStop>) -> Result<T, Stop>
+    ensures { result ≡ numbered number opened }
 {
-    Stop::Refused(Refusal { text, fault })
-}
-
-// Why a call stops at a fault of a world.
-fn world_stop(fault: WorldFault) -> Stop
-    ensures { result ≡ world_stop fault }
-{
-    match fault {
-        WorldFault::OutOfMemory => Stop::OutOfMemory,
-        other => refused(1, TextFault::World(other)),
+    match opened {
+        Ok(value) => Ok(value),
+        Err(TextStop::OutOfMemory) => Err(Stop::OutOfMemory),
+        Err(TextStop::Refused(fault)) => Err(Stop::Refused(Refusal {
+            text: number,
+            fault: CallFault::Text(fault),
+        })),
     }
 }
 
-// Why a call stops at a fault of the brain in this text.
-fn brain_stop(text: u32, fault: BrainFault) -> Stop
-    ensures { result ≡ brain_stop text fault }
-{
-    match fault {
-        BrainFault::OutOfMemory => Stop::OutOfMemory,
-        other => refused(text, TextFault::Brain(other)),
-    }
-}
-
-// Why a call stops at a fault of a labelled program.
-fn labelled_stop(fault: AsmFault) -> Stop
-    ensures { result ≡ labelled_stop fault }
-{
-    match fault {
-        AsmFault::OutOfMemory => Stop::OutOfMemory,
-        other => refused(1, TextFault::Labelled(other)),
-    }
-}
-
-// The world of a text.
-#[tactic(auto, using(crate::proofs::Stops::stops_at_world))]
+// The world of the first text.
+#[tactic(auto, using(crate::proofs::Stops::numbered_ok, crate::proofs::Stops::gives, crate::proofs::Stops::numbered_stops))]
 fn open_world(alloc: Global, text: &[u8]) -> Result<World, Stop>
     ensures opening { IfOk result IsOpeningWorld }
-    ensures world { IfOk result (λ world. GivesWorld text.now world) }
-    ensures stop { IfErr result (λ stop. StopsAt (IsRefusedWorld text.now) stop) }
+    ensures world { IfOk result (GivesWorld text.now) }
+    ensures stop { IfErr result (StopsAt (IsRefusedWorld text.now)) }
 {
-    if text.len() > LONGEST {
-        return Err(refused(1, TextFault::TooLong));
-    }
-    match read_world(alloc, text) {
-        Ok(world) => Ok(world),
-        Err(fault) => Err(world_stop(fault)),
-    }
+    numbered(1, text_fault::open_world(alloc, text))
 }
 
 /// The brain of a text, which has this number.
-#[tactic(auto, using(crate::proofs::Stops::stops_at_brain))]
+#[tactic(auto, using(crate::proofs::Stops::numbered_ok, crate::proofs::Stops::gives, crate::proofs::Stops::numbered_stops))]
 pub fn open_brain(alloc: Global, number: u32, text: &[u8]) -> Result<Brain, Stop>
-    ensures brain { IfOk result (λ brain. GivesBrain text.now brain) }
-    ensures stop { IfErr result (λ stop. StopsAt (IsRefusedBrain number text.now) stop) }
+    ensures brain { IfOk result (GivesBrain text.now) }
+    ensures stop { IfErr result (StopsAt (IsRefusedBrain number text.now)) }
 {
-    if text.len() > LONGEST {
-        return Err(refused(number, TextFault::TooLong));
-    }
-    match read_brain(alloc, text) {
-        Ok(brain) => Ok(brain),
-        Err(fault) => Err(brain_stop(number, fault)),
-    }
+    numbered(number, text_fault::open_brain(alloc, text))
 }
 
 /// The brain that a labelled program becomes, with its places.
-#[tactic(auto, using(crate::proofs::Stops::stops_at_program))]
+#[tactic(auto, using(crate::proofs::Stops::numbered_ok, crate::proofs::Stops::gives, crate::proofs::Stops::numbered_stops))]
 pub fn open_program(alloc: Global, text: &[u8]) -> Result<Assembled, Stop>
-    ensures program { IfOk result (λ made. GivesProgram text.now made.brain made.places) }
-    ensures stop { IfErr result (λ stop. StopsAt (IsRefusedProgram text.now) stop) }
+    ensures program { IfOk result (Gives IsProgramOf text.now) }
+    ensures stop { IfErr result (StopsAt (IsRefusedProgram text.now)) }
 {
-    if text.len() > LONGEST {
-        return Err(refused(1, TextFault::TooLong));
-    }
-    match assemble(alloc, text) {
-        Ok(made) => Ok(made),
-        Err(fault) => Err(labelled_stop(fault)),
-    }
+    numbered(1, text_fault::open_program(alloc, text))
+}
+
+/// The save of a text, where at most so many rounds of it are done.
+#[tactic(auto, using(crate::proofs::Stops::numbered_ok, crate::proofs::Stops::gives, crate::proofs::Stops::numbered_stops))]
+pub fn open_save(alloc: Global, text: &[u8], rounds: u32) -> Result<Saved, Stop>
+    ensures saved { IfOk result (Gives (IsSaveWithin rounds) text.now) }
+    ensures stop { IfErr result (StopsAt (IsRefusedSave rounds text.now)) }
+{
+    numbered(1, text_fault::open_save(alloc, text, rounds))
 }
 
 /// The world and the brains of three texts, read in this order.

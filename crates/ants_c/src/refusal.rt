@@ -1,44 +1,26 @@
 // Why texts were not read.
-use ant_asm::AsmFault;
-use ant_base::{Failed, FetchFault, Layout, Sink};
-use brain_read::BrainFault;
-use match_save::{AlreadyAt, SaveFault};
+use ant_base::{Failed, Layout, Sink};
+use text_fault::TextFault;
 use world_gen::GenFault;
-use world_read::WorldFault;
 
 /// What is wrong with a text, or with a world to be generated.
 #[derive(Clone, Copy)]
-pub enum TextFault {
-    /// It has more than 4,194,304 bytes.
-    TooLong,
-    /// It is no world.
-    World(WorldFault),
-    /// It is no brain.
-    Brain(BrainFault),
-    /// It is no labelled program.
-    Labelled(AsmFault),
-    /// It is no save.
-    Save(SaveFault),
-    /// It is a save of which this many rounds are done, more than are to be played in all.
-    AlreadyAt(u32),
+pub enum CallFault {
+    /// A text is refused.
+    Text(TextFault),
     /// This element has no room.
     NoRoom(u32),
 }
 
-impl Layout for TextFault {
+impl Layout for CallFault {
     ghost use Rattle.ants_c.specs.Words.{fault_words};
 
     ghost text = { fault_words };
 
     fn push_to<K: Sink>(&self, sink: &mut K) -> Result<(), Failed> {
         match *self {
-            TextFault::TooLong => FetchFault::TooLong.push_to(sink),
-            TextFault::World(fault) => fault.push_to(sink),
-            TextFault::Brain(fault) => fault.push_to(sink),
-            TextFault::Labelled(fault) => fault.push_to(sink),
-            TextFault::Save(fault) => fault.push_to(sink),
-            TextFault::AlreadyAt(round) => AlreadyAt(round).push_to(sink),
-            TextFault::NoRoom(element) => GenFault::NoRoom { element }.push_to(sink),
+            CallFault::Text(fault) => fault.push_to(sink),
+            CallFault::NoRoom(element) => GenFault::NoRoom { element }.push_to(sink),
         }
     }
 }
@@ -47,7 +29,7 @@ impl Layout for TextFault {
 #[derive(Clone, Copy)]
 pub struct Refusal {
     pub text: u32,
-    pub fault: TextFault,
+    pub fault: CallFault,
 }
 
 /// Why texts were not read.

@@ -1,64 +1,17 @@
 // Games that are saved and go on, as texts.
-ghost use Rattle.std.specs.Prelude.{◌≡◌, ◌≤◌, IfErr, IfOk, OnErr, false, length};
-ghost use Rattle.ant_base.specs.Shelf.{longest};
+ghost use Rattle.std.specs.Prelude.{◌≡◌, ◌≤◌, IfOk, OnErr, false};
 ghost use Rattle.match_run.specs.Dumps.{chooses, has_round};
 ghost use Rattle.match_run.specs.Run.{most_rounds};
 ghost use Rattle.match_save.specs.Resumed.{resumed_text};
-ghost use Rattle.ants_c.specs.Readable.{GivesSave};
-ghost use Rattle.ants_c.specs.Refused.{IsRefusedSave};
 ghost use Rattle.ants_c.specs.Rooms.{IsPut, Writes, counted, overlaid};
-ghost use Rattle.ants_c.specs.Stops.{save_stop};
-ghost use Rattle.ants_c.specs.Told.{StopsAt};
 
-use crate::read::refused;
-use crate::refusal::{Stop, TextFault};
 use crate::room_sink::RoomSink;
 use crate::run::dumps_of;
 use crate::texts::status_of;
-use ant_base::{LONGEST, OutOfMemory};
+use ant_base::OutOfMemory;
 use match_run::Dumps;
-use match_save::{SaveFault, Saved, read_saved, resume_alone};
+use match_save::{Saved, resume_alone};
 use std::alloc::Global;
-
-// Why a call stops at a fault of a save.
-fn save_stop(fault: SaveFault) -> Stop
-    ensures { result ≡ save_stop fault }
-{
-    match fault {
-        SaveFault::OutOfMemory => Stop::OutOfMemory,
-        other => refused(1, TextFault::Save(other)),
-    }
-}
-
-// The save of a text of at most 4,194,304 bytes, where at most so many rounds of it are done.
-fn read_save(alloc: Global, text: &[u8], rounds: u32) -> Result<Saved, Stop>
-    requires { length text.now ≤ longest }
-    ensures saved { IfOk result (λ saved. GivesSave text.now saved) }
-    ensures round { IfOk result (λ saved. saved.round ≤ rounds) }
-    ensures stop { IfErr result (λ stop. StopsAt (IsRefusedSave rounds text.now) stop) }
-{
-    let saved = match read_saved(alloc, text) {
-        Ok(saved) => saved,
-        Err(fault) => return Err(save_stop(fault)),
-    };
-    let round = saved.round();
-    if round > rounds {
-        return Err(refused(1, TextFault::AlreadyAt(round)));
-    }
-    Ok(saved)
-}
-
-/// The save of a text, where at most so many rounds of it are done.
-pub fn open_save(alloc: Global, text: &[u8], rounds: u32) -> Result<Saved, Stop>
-    ensures saved { IfOk result (λ saved. GivesSave text.now saved) }
-    ensures round { IfOk result (λ saved. saved.round ≤ rounds) }
-    ensures stop { IfErr result (λ stop. StopsAt (IsRefusedSave rounds text.now) stop) }
-{
-    if text.len() > LONGEST {
-        return Err(refused(1, TextFault::TooLong));
-    }
-    read_save(alloc, text, rounds)
-}
 
 // Lays the rest of a saved game's text over the room, and says how many bytes it has. A sink over the room never fails, so that only memory
 // can be wanting, before the first byte is laid.

@@ -6,8 +6,7 @@ ghost use Rattle.ants_c.specs.Refused.{IsRefusedShape};
 ghost use Rattle.ants_c.specs.Texts.{IsWithin};
 ghost use Rattle.ants_c.specs.Told.{StopsAt};
 
-use crate::read::refused;
-use crate::refusal::{Stop, TextFault};
+use crate::refusal::{CallFault, Refusal, Stop};
 use cell_world::World;
 use std::alloc::Global;
 use world_gen::{GenFault, Shape, generate};
@@ -57,7 +56,10 @@ pub fn generated(alloc: Global, seed: u32, shape: Shape) -> Result<World, Stop>
 {
     match generate(alloc, seed, shape) {
         Ok(world) => Ok(world),
-        Err(GenFault::NoRoom { element }) => Err(refused(0, TextFault::NoRoom(element))),
+        Err(GenFault::NoRoom { element }) => Err(Stop::Refused(Refusal {
+            text: 0,
+            fault: CallFault::NoRoom(element),
+        })),
         Err(GenFault::OutOfMemory) => Err(Stop::OutOfMemory),
     }
 }

@@ -16,13 +16,26 @@ use Rattle.brain_read.specs.declared.instr.Instr.{Instr}
 use Rattle.brain_read.specs.declared.instr.Instr.TheVariants.{Sense, Mark, Unmark, PickUp, Drop, Turn, Move, Flip}
 use Rattle.brain_read.specs.Soundness.{most_states, IsSoundCondition, IsSound, IsBrain}
 use Rattle.line_tokens.specs.Tokens.{tokens_of, has_token}
-use Rattle.line_tokens.specs.Fields.{field_text}
+use Rattle.line_tokens.specs.Fields.{LineField, field_text, further_text, line_text}
 use Rattle.brain_read.specs.Forms.{word_of_sight, word_of_side, fields_of_condition, fields_of, IsInRange, HasBound, InstrLine}
 use Rattle.line_tokens.specs.Fields.LineField.{Word, Number}
 use Rattle.line_tokens.specs.TokenLines.{TokenLine, with_line, token_lines}
 use Rattle.brain_read.specs.Grammar.{AreLines, StatesBelow, IsBrainText}
-use Rattle.brain_read.specs.Canonical.{instruction_text, brain_text}
+use Rattle.brain_read.specs.Canonical.{instruction_text, instruction_words, words_text, further_words, brain_text}
 use Rattle.brain_read.proofs.SoundnessLemmas.{states_of-below}
+
+-- words and the LF are a line
+further_words-line : (fields : List LineField) → further_words fields ++ 10 ∷ [] ≡ further_text fields
+further_words-line [] = refl
+further_words-line (field ∷ fields) = ap (λ t. 32 ∷ t) (append_assoc (field_text field) (further_words fields) (10 ∷ []) ∙ ap (λ t. field_text field ++ t) (further_words-line fields))
+
+words_text-line : (fields : List LineField) → words_text fields ++ 10 ∷ [] ≡ line_text fields
+words_text-line [] = refl
+words_text-line (field ∷ fields) = append_assoc (field_text field) (further_words fields) (10 ∷ []) ∙ ap (λ t. field_text field ++ t) (further_words-line fields)
+
+pub line_of_words : (i : Instr) → instruction_words i ++ codes "\n" ≡ instruction_text i
+unfolding instruction_words instruction_text
+line_of_words i = words_text-line (fields_of i)
 
 pub sight_token : (s : Sight) → IsToken (word_of_sight s)
 sight_token Here = token (codes "Here") refl refl

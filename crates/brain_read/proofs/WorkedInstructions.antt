@@ -10,7 +10,7 @@ use Rattle.line_tokens.specs.Tokens.{tokens_of}
 use Rattle.brain_read.specs.declared.instr.Cond.TheVariants.{FoeHome, Marker}
 use Rattle.brain_read.specs.declared.instr.Instr.{Instr}
 use Rattle.brain_read.specs.declared.instr.Instr.TheVariants.{Sense, Mark, Unmark, PickUp, Drop, Turn, Move, Flip}
-use Rattle.brain_read.specs.Canonical.{instruction_text}
+use Rattle.brain_read.specs.Canonical.{instruction_text, instruction_words}
 use Rattle.brain_read.specs.Drafts.{draft_settled}
 use Rattle.brain_read.specs.Forms.{form_words, sight_words, side_words, condition_words}
 use Rattle.brain_read.specs.Reading.{read_line, read_sense, read_marked, read_branches, read_drop, read_turn, read_flip}
@@ -58,3 +58,8 @@ marker_printed = rw (decimal_digit 1 (omega arith), decimal_digit 2 (omega arith
 bound_printed : instruction_text (Flip 2 6 7) ≡ codes "Flip 2 6 7\n"
 unfolding instruction_text
 bound_printed = rw (decimal_digit 2 (omega arith), decimal_digit 6 (omega arith), decimal_digit 7 (omega arith)) refl
+
+-- the words within another line have no LF
+words_printed : instruction_words (Sense Here 1 2 (Marker 5)) ≡ codes "Sense Here 1 2 Marker 5"
+unfolding instruction_words
+words_printed = rw (decimal_digit 1 (omega arith), decimal_digit 2 (omega arith), decimal_digit 5 (omega arith)) refl

@@ -9,8 +9,7 @@ ghost use Rattle.brain_read.specs.declared.instr.Instr.TheVariants.{Sense, Drop,
 ghost use Rattle.brain_read.specs.Inner.Places.{place_of_form, place_of_sight, place_of_side, place_of_condition};
 ghost use Rattle.brain_read.specs.Drafts.{drafted};
 ghost use Rattle.brain_read.specs.Grammar.{IsBrainText};
-ghost use Rattle.line_tokens.specs.Fields.{line_text, further_text};
-ghost use Rattle.brain_read.specs.Canonical.{instruction_text, brain_text};
+ghost use Rattle.brain_read.specs.Canonical.{instruction_text, instruction_words, words_text, further_words, brain_text};
 
 use crate::brain::Brain;
 use crate::draft::Draft;
@@ -61,9 +60,23 @@ impl Layout for Instr {
 impl Layout for Draft {
     ghost text = { λ draft. instruction_text (drafted draft) };
 
-    #[tactic(auto, unfolding(crate::specs::Canonical::instruction_text))]
+    #[tactic(auto, using(crate::proofs::CanonicalLemmas::line_of_words))]
     fn push_to<K: Sink>(&self, sink: &mut K) -> Result<(), Failed> {
-        match *self {
+        layout!(Words(*self), "\n").push_to(sink)
+    }
+}
+
+/// The words of an instruction with states of any size: its canonical line without the LF at its end, as `Turn Left 5`. So another text can
+/// have them within a line.
+#[derive(Clone, Copy, Debug, PartialEq, Eq)]
+pub struct Words(pub Draft);
+
+impl Layout for Words {
+    ghost text = { λ words. instruction_words (drafted words.0) };
+
+    #[tactic(auto, unfolding(crate::specs::Canonical::instruction_words))]
+    fn push_to<K: Sink>(&self, sink: &mut K) -> Result<(), Failed> {
+        match self.0 {
             Draft::Sense {
                 sight,
                 yes,
@@ -81,7 +94,7 @@ impl Layout for Draft {
     }
 }
 
-#[tactic(auto, unfolding(crate::specs::Canonical::instruction_text))]
+#[tactic(auto, unfolding(crate::specs::Canonical::instruction_words))]
 fn push_sense<K: Sink>(
     sight: Sight,
     yes: u64,
@@ -90,41 +103,41 @@ fn push_sense<K: Sink>(
     sink: &mut K,
 ) -> Result<(), Failed>
     ensures { Pushed (K.state sink.old) (K.state sink.new)
-        (instruction_text (Sense sight yes no cond)) result }
+        (instruction_words (Sense sight yes no cond)) result }
 {
     let word = FormText(Form::Sense);
     let sight = SightText(sight);
     layout!(word, " ", sight, " ", yes, " ", no, ConditionEnd(cond)).push_to(sink)
 }
 
-// A line of a word and two numbers.
+// A word and two numbers.
 fn push_numbers<K: Sink>(form: Form, first: u64, second: u64, sink: &mut K) -> Result<(), Failed>
     ensures { Pushed (K.state sink.old) (K.state sink.new)
-        (line_text (Word (word_of_form form) ∷ Number first ∷ Number second ∷ [])) result }
+        (words_text (Word (word_of_form form) ∷ Number first ∷ Number second ∷ [])) result }
 {
-    layout!(FormText(form), " ", first, " ", second, "\n").push_to(sink)
+    layout!(FormText(form), " ", first, " ", second).push_to(sink)
 }
 
-#[tactic(auto, unfolding(crate::specs::Canonical::instruction_text))]
+#[tactic(auto, unfolding(crate::specs::Canonical::instruction_words))]
 fn push_drop<K: Sink>(next: u64, sink: &mut K) -> Result<(), Failed>
-    ensures { Pushed (K.state sink.old) (K.state sink.new) (instruction_text (Drop next)) result }
+    ensures { Pushed (K.state sink.old) (K.state sink.new) (instruction_words (Drop next)) result }
 {
-    layout!(FormText(Form::Drop), " ", next, "\n").push_to(sink)
+    layout!(FormText(Form::Drop), " ", next).push_to(sink)
 }
 
-#[tactic(auto, unfolding(crate::specs::Canonical::instruction_text))]
+#[tactic(auto, unfolding(crate::specs::Canonical::instruction_words))]
 fn push_turn<K: Sink>(side: Side, next: u64, sink: &mut K) -> Result<(), Failed>
-    ensures { Pushed (K.state sink.old) (K.state sink.new) (instruction_text (Turn side next)) result }
+    ensures { Pushed (K.state sink.old) (K.state sink.new) (instruction_words (Turn side next)) result }
 {
-    layout!(FormText(Form::Turn), " ", SideText(side), " ", next, "\n").push_to(sink)
+    layout!(FormText(Form::Turn), " ", SideText(side), " ", next).push_to(sink)
 }
 
-#[tactic(auto, unfolding(crate::specs::Canonical::instruction_text))]
+#[tactic(auto, unfolding(crate::specs::Canonical::instruction_words))]
 fn push_flip<K: Sink>(bound: u32, yes: u64, no: u64, sink: &mut K) -> Result<(), Failed>
-    ensures { Pushed (K.state sink.old) (K.state sink.new) (instruction_text (Flip bound yes no)) result }
+    ensures { Pushed (K.state sink.old) (K.state sink.new) (instruction_words (Flip bound yes no)) result }
 {
     let word = FormText(Form::Flip);
-    layout!(word, " ", bound, " ", yes, " ", no, "\n").push_to(sink)
+    layout!(word, " ", bound, " ", yes, " ", no).push_to(sink)
 }
 
 // The condition at the end of a line.
@@ -132,7 +145,7 @@ fn push_flip<K: Sink>(bound: u32, yes: u64, no: u64, sink: &mut K) -> Result<(),
 struct ConditionEnd(Cond);
 
 impl Layout for ConditionEnd {
-    ghost text = { λ end. further_text (fields_of_condition end.0) };
+    ghost text = { λ end. further_words (fields_of_condition end.0) };
 
     fn push_to<K: Sink>(&self, sink: &mut K) -> Result<(), Failed> {
         match self.0 {
@@ -150,20 +163,20 @@ impl Layout for ConditionEnd {
     }
 }
 
-// A condition of one word, and the line's end.
+// A condition of one word.
 fn push_condition<K: Sink>(word: ConditionWord, sink: &mut K) -> Result<(), Failed>
     ensures { Pushed (K.state sink.old) (K.state sink.new)
-        (further_text (Word (word_of_condition word) ∷ [])) result }
+        (further_words (Word (word_of_condition word) ∷ [])) result }
 {
-    layout!(" ", ConditionText(word), "\n").push_to(sink)
+    layout!(" ", ConditionText(word)).push_to(sink)
 }
 
-// The condition of a marker, and the line's end.
+// The condition of a marker.
 fn push_marker<K: Sink>(mark: u8, sink: &mut K) -> Result<(), Failed>
     ensures { Pushed (K.state sink.old) (K.state sink.new)
-        (further_text (fields_of_condition (Marker mark))) result }
+        (further_words (fields_of_condition (Marker mark))) result }
 {
-    layout!(" ", ConditionText(ConditionWord::Marker), " ", mark, "\n").push_to(sink)
+    layout!(" ", ConditionText(ConditionWord::Marker), " ", mark).push_to(sink)
 }
 
 #[derive(Clone, Copy)]

@@ -12,7 +12,7 @@ use Rattle.brain_minimise.specs.Equivalence.{IsBisimulation, shape_of}
 use Rattle.brain_minimise.proofs.Equivalences.{names-related, same_name, same_name-says, same_name-true}
 use Rattle.brain_minimise.proofs.RedirectedLemmas.{shape-from, states-from, successors-below}
 use Rattle.brain_same.specs.declared.search.Pair.{Pair}
-use Rattle.brain_same.specs.Answers.{next_by}
+use Rattle.brain_same.specs.Answers.{IsNoLater, next_by}
 use Rattle.brain_same.specs.Difference.{AreSame, IsFirstDifference, TellsApart}
 use Rattle.brain_same.proofs.AnswersLemmas.{IsNoLater-number, alike-next, last-shape, led-more, number, number_from, number_from-append, number_from-least, number_from-lower, redirected-alike, shapes_along}
 use Rattle.brain_same.proofs.SearchLemmas.{Front, Lead, Searches, Searching, entry, of_both, of_both-first, of_both-second, one-inside, one_after, other_after}
@@ -108,6 +108,15 @@ least-first w ways rising v known =
     ]
 
 module _ (first second : List Instr) (sound : IsBrain first) (too : IsBrain second) where
+  -- no list that tells the brains apart comes before that of the first pair
+  pub least-front : (classes : List ℕ) (pair : Pair) (rest : List Pair) (front : Front first second classes pair rest) (others : List Bool) (c d : ℕ) → TellsApart first second others c d → IsNoLater front.w others
+  least-front classes pair rest front others c d apart =
+      elim (cases_lt (number others) (number front.w)) [
+        | inl less ↦ absurd
+            (none-apart first second sound too classes front.done (front.w ∷ front.ways) front.searches (number front.w) (least-first front.w front.ways front.searches.rising.0) others c d less apart)
+        | inr more ↦ IsNoLater-number front.w others more
+      ]
+
   -- the first pair whose instructions differ
   pub IsFirstDifference-front : (classes : List ℕ) (pair : Pair) (rest : List Pair) → Front first second classes pair rest → (shape_of (instruction_at first pair.first) ≡ shape_of (instruction_at second pair.second) → ⊥) →
       IsFirstDifference first second pair.answers pair.first pair.second
@@ -119,11 +128,7 @@ module _ (first second : List Instr) (sound : IsBrain first) (too : IsBrain seco
         answers = front.w;
         count = refl;
         apart = record { one = lead.one; other = lead.other; differ = differ };
-        least = λ others c d apart. elim (cases_lt (number others) (number front.w)) [
-          | inl less ↦ absurd
-              (none-apart first second sound too classes front.done (front.w ∷ front.ways) front.searches (number front.w) (least-first front.w front.ways front.searches.rising.0) others c d less apart)
-          | inr more ↦ IsNoLater-number front.w others more
-        ];
+        least = least-front classes pair rest front;
       })
 
 -- where none waits the classes are a bisimulation

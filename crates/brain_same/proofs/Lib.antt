@@ -9,5 +9,9 @@ pub mod HasComparison
 pub mod SameLaws
 pub mod PairedBrains
 pub mod SameGames
+-- The way to a difference.
+pub mod WayLemmas
+pub mod ReachedLemmas
 -- Worked values.
 pub mod Worked
+pub mod WorkedWays

@@ -209,7 +209,7 @@ met_first-both (false ∷ answers) (true ∷ others) long one other = absurd one
 met_first-both (false ∷ answers) (false ∷ others) long one other = ap (λ rest. false ∷ rest) (met_first-both answers others (omega arith) one other)
 met_first-both it that long one other = absurd (omega arith)
 
-no_later-both : (answers others : List Bool) → IsNoLater answers others → IsNoLater others answers → answers ≡ others
+pub no_later-both : (answers others : List Bool) → IsNoLater answers others → IsNoLater others answers → answers ≡ others
 no_later-both answers others (IsShorter less) (IsShorter more) = absurd (omega arith)
 no_later-both answers others (IsShorter less) (IsAsLong long _) = absurd (omega arith)
 no_later-both answers others (IsAsLong long _) (IsShorter more) = absurd (omega arith)
@@ -217,7 +217,7 @@ no_later-both answers others (IsAsLong long one) (IsAsLong _ other) = met_first-
 
 -- brains first differ at one place
 module _ (first second : List Instr) (many a b count c d : ℕ) (one : IsFirstDifference first second many a b) (other : IsFirstDifference first second count c d) where
-  same_answers : one.answers ≡ other.answers
+  pub same_answers : one.answers ≡ other.answers
   same_answers = no_later-both one.answers other.answers (one.least other.answers c d other.apart) (other.least one.answers a b one.apart)
 
   same_first : a ≡ c

@@ -75,7 +75,7 @@ paired-parts : (n : ℕ) (o p : Option ℕ) (pair : Pair) → paired n o p ≡ S
 paired-parts n (Some a) (Some b) pair is = record { a = a; b = b; one = refl; other = refl; is = same_Some (next_pair n a b) pair is }
 paired-parts n it p pair is = absurd (none-some pair is)
 
-same_pair : (a b c d n m : ℕ) → a ≡ b → c ≡ d → n ≡ m → ◌≡◌ {A = Pair} (record { first = a; second = c; answers = n }) (record { first = b; second = d; answers = m })
+pub same_pair : (a b c d n m : ℕ) → a ≡ b → c ≡ d → n ≡ m → ◌≡◌ {A = Pair} (record { first = a; second = c; answers = n }) (record { first = b; second = d; answers = m })
 same_pair a b c d n m one other count =
     ap (λ (k : ℕ). let pair : Pair = record { first = k; second = c; answers = n } in pair) one
     ∙ ap (λ (k : ℕ). let pair : Pair = record { first = b; second = k; answers = n } in pair) other
@@ -152,7 +152,7 @@ module _ (first second : List Instr) where
       }
 
   -- to that pair
-  entry-after : (w : List Bool) (met : Bool) (pair : Pair) → Lead w → pair_after first second (entry w) met ≡ Some pair → entry (w ++ met ∷ []) ≡ pair
+  pub entry-after : (w : List Bool) (met : Bool) (pair : Pair) → Lead w → pair_after first second (entry w) met ≡ Some pair → entry (w ++ met ∷ []) ≡ pair
   entry-after w met pair lead is =
       let it = paired-parts (length w) (next_by (instruction_at first (one_after w)) met) (next_by (instruction_at second (other_after w)) met) pair is in
       same_pair (one_after (w ++ met ∷ [])) it.a (other_after (w ++ met ∷ [])) it.b (length (w ++ met ∷ [])) (length w + 1)
@@ -450,9 +450,9 @@ module _ (first second : List Instr) where
     Searching-on new after = subst (λ p. AlikeAt p → IsFollowed first second p classes new rest after → Searching new after) front.first_pair (go_on new after)
 
 -- there is less to do after each step
-short : (o : Option Pair) → length (option_to_list o) ≤ 1
+pub short : {A : Type 0} (o : Option A) → length (option_to_list o) ≤ 1
 short None = omega arith
-short (Some pair) = omega arith
+short (Some one) = omega arith
 
 pub step-work : (first second : List Instr) (pair : Pair) (classes new : List ℕ) (rest after : List Pair) → IsFollowed first second pair classes new rest after →
     2 * total new + length after < 2 * total classes + length (pair ∷ rest)

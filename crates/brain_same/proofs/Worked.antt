@@ -53,10 +53,10 @@ at_once = record { answers = []; count = refl; apart = record { one = refl; othe
   none_before (met ∷ others) c d apart = IsShorter (omega arith)
 
 -- two brains of which both answers of the Moves lead to a difference: after the met one
-abbrev straight : List Instr
+abbrev pub straight : List Instr
 straight = Move 1 2 ∷ Turn Left 0 ∷ Drop 0 ∷ []
 
-abbrev crossed : List Instr
+abbrev pub crossed : List Instr
 crossed = Move 2 1 ∷ Turn Left 0 ∷ Drop 0 ∷ []
 
 alike_at_first : (c d : ℕ) → TellsApart straight crossed [] c d → ⊥
@@ -64,17 +64,21 @@ alike_at_first c d apart =
     apart.differ
     (ap (λ s. shape_of (instruction_at straight s)) (sym (same_Some 0 c apart.one)) ∙ ap (λ s. shape_of (instruction_at crossed s)) (same_Some 0 d apart.other))
 
+pub met_apart : TellsApart straight crossed (true ∷ []) 1 2
+met_apart = record { one = refl; other = refl; differ = λ same. cc }
+
+pub none_before_met : (others : List Bool) (c d : ℕ) → TellsApart straight crossed others c d → IsNoLater (true ∷ []) others
+none_before_met [] c d apart = absurd (alike_at_first c d apart)
+none_before_met (true ∷ []) c d apart = IsAsLong refl tt
+none_before_met (false ∷ []) c d apart = IsAsLong refl tt
+none_before_met (met ∷ more ∷ others) c d apart = IsShorter (omega arith)
+
 met_differs : IsFirstDifference straight crossed 1 1 2
-met_differs = record { answers = true ∷ []; count = refl; apart = record { one = refl; other = refl; differ = λ same. cc }; least = none_before } where
-  none_before : (others : List Bool) (c d : ℕ) → TellsApart straight crossed others c d → IsNoLater (true ∷ []) others
-  none_before [] c d apart = absurd (alike_at_first c d apart)
-  none_before (true ∷ []) c d apart = IsAsLong refl tt
-  none_before (false ∷ []) c d apart = IsAsLong refl tt
-  none_before (met ∷ more ∷ others) c d apart = IsShorter (omega arith)
+met_differs = record { answers = true ∷ []; count = refl; apart = met_apart; least = none_before_met }
 
 -- and not after the unmet one
 unmet_differs_later : IsFirstDifference straight crossed 1 2 1 → ⊥
-unmet_differs_later difference = go difference.answers difference.count difference.apart (difference.least (true ∷ []) 1 2 (record { one = refl; other = refl; differ = λ same. cc })) where
+unmet_differs_later difference = go difference.answers difference.count difference.apart (difference.least (true ∷ []) 1 2 met_apart) where
   go : (answers : List Bool) → length answers ≡ 1 → TellsApart straight crossed answers 2 1 → IsNoLater answers (true ∷ []) → ⊥
   go [] count apart no_later = omega arith
   go (true ∷ []) count apart no_later = let other : ◌≡◌ {A = ℕ} 1 2 = same_Some 1 2 apart.one in omega arith

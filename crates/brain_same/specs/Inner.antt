@@ -1,2 +1,4 @@
+pub mod Blank
 pub mod Classes
 pub mod Pairs
+pub mod Reached

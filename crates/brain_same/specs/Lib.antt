@@ -4,5 +4,6 @@ pub mod Games
 pub mod Inner
 pub mod Laws
 pub mod Text
+pub mod Way
 pub use Rattle.ant_base.specs.Sink
 pub use Rattle.brain_read.specs.Soundness

@@ -1,6 +1,6 @@
 // Laws of brains that are the same.
 ghost use Rattle.brain_same.specs.Games.{BothPlaySame, PlaysSame};
-ghost use Rattle.brain_same.specs.Laws.{HasComparison, MinimisedIsSame, OneComparison, SameIsEquivalence, SameIsNotApart};
+ghost use Rattle.brain_same.specs.Laws.{HasComparison, HasWay, MinimisedIsSame, OneComparison, OneWay, SameIsEquivalence, SameIsNotApart, WayIsComparison, WayLeads};
 
 /// A law: to be the same is an equivalence: each brain is the same as itself, and what is the same as another is so the other way round
 /// and through a third.
@@ -26,6 +26,27 @@ pub fn one_comparison()
 /// A law: two brains come to some comparison.
 pub fn has_comparison()
     ensures { HasComparison }
+{}
+
+/// A law: with the way two brains come to the same comparison as without it.
+pub fn way_is_comparison()
+    ensures { WayIsComparison }
+{}
+
+/// A law: two brains come to one comparison by one way: what `compare_way` promises leaves nothing open.
+pub fn one_way()
+    ensures { OneWay }
+{}
+
+/// A law: two brains come to some comparison by some way.
+pub fn has_way()
+    ensures { HasWay }
+{}
+
+/// A law: the way to a difference has a step for each answer. The first is at the states 0, each follows from the one before by its answer in
+/// both brains, and the last leads to the two states that are told.
+pub fn way_leads()
+    ensures { WayLeads }
 {}
 
 /// A law: by any opening world, other brain, numbers of the rules, seed, side and number of rounds, the game with a brain that is the same

@@ -2,7 +2,7 @@
 //!
 //! Two brains are the same where a bisimulation relates state 0 of the one to state 0 of the other: then no ant can tell them apart, and
 //! each game is the same but for states; that is a law of this crate. Where they aren't, [`compare`] says by how few answers that shows,
-//! and at which two states. What names no section of the contest's task is this project's own. It stands on `brain_read`, and on the
+//! and at which two states, and [`compare_way`] the way there too. What names no section of the contest's task is this project's own. It stands on `brain_read`, and on the
 //! definitions of `brain_minimise` and of `ant_turn`.
 #![tactic(auto)]
 
@@ -11,11 +11,15 @@ mod comparison;
 mod instruction;
 mod laws;
 mod search;
+mod way;
+mod way_search;
 
 pub use comparison::{Comparison, Found};
 pub use hex_geometry::OutOfMemory;
 pub use laws::{
-    both_play_same, has_comparison, minimised_is_same, one_comparison, plays_same,
-    same_is_equivalence, same_is_not_apart,
+    both_play_same, has_comparison, has_way, minimised_is_same, one_comparison, one_way,
+    plays_same, same_is_equivalence, same_is_not_apart, way_is_comparison, way_leads,
 };
 pub use search::compare;
+pub use way::{Step, Way};
+pub use way_search::compare_way;

@@ -62,7 +62,7 @@ fn search(
 }
 
 // The states 0, to which no answers lead.
-fn start() -> Pair
+pub(crate) fn start() -> Pair
     ensures { result ≡ record { first = 0; second = 0; answers = 0 } }
 {
     Pair {
@@ -73,7 +73,7 @@ fn start() -> Pair
 }
 
 // Whether the instructions of a pair are the same but for the states that they name.
-fn are_alike(first: &Brain, second: &Brain, pair: Pair) -> bool
+pub(crate) fn are_alike(first: &Brain, second: &Brain, pair: Pair) -> bool
     requires { IsInside first.now second.now pair }
     ensures { IsTrue result ↔ (shape_of (instruction_at first.now pair.first) ≡ shape_of (instruction_at second.now pair.second)) }
 {
@@ -84,7 +84,7 @@ fn are_alike(first: &Brain, second: &Brain, pair: Pair) -> bool
 }
 
 // What is told of a pair.
-fn difference(first: &Brain, second: &Brain, pair: Pair) -> Comparison
+pub(crate) fn difference(first: &Brain, second: &Brain, pair: Pair) -> Comparison
     requires { IsInside first.now second.now pair }
     ensures { result ≡ Comparison.Different pair.answers (found_of first.now pair.first) (found_of second.now pair.second) }
 {
@@ -95,7 +95,7 @@ fn difference(first: &Brain, second: &Brain, pair: Pair) -> Comparison
     }
 }
 
-fn found(brain: &Brain, state: u16) -> Found
+pub(crate) fn found(brain: &Brain, state: u16) -> Found
     requires { state < length brain.now }
     ensures { result ≡ found_of brain.now state }
 {
@@ -148,7 +148,7 @@ fn push_after(
 }
 
 // The pair to which an answer leads, if there is one.
-fn next_pair(first: &Brain, second: &Brain, pair: Pair, met: bool) -> Option<Pair>
+pub(crate) fn next_pair(first: &Brain, second: &Brain, pair: Pair, met: bool) -> Option<Pair>
     requires inside { IsInside first.now second.now pair }
     requires few { pair.answers ≤ 400000000 }
     ensures { result ≡ pair_after first.now second.now pair met }

@@ -11,7 +11,7 @@ use Rattle.command_words.specs.declared.slot.Place.TheVariants.{Word, Names}
 use Rattle.command_words.specs.declared.table.Choice.{Choice}
 use Rattle.command_words.specs.declared.table.Choice.TheVariants.{Dump, From, Seed, Stats, Surround}
 use Rattle.command_words.specs.declared.table.CommandKind.{CommandKind}
-use Rattle.command_words.specs.declared.table.CommandKind.TheVariants.{Cup, Help, Run, Trace}
+use Rattle.command_words.specs.declared.table.CommandKind.TheVariants.{Cup, Events, Help, Profile, Run, Trace}
 use Rattle.command_words.specs.Help.{command_text, free_texts, has_free, more_text, needed_texts, option_line, place_lines, takes_line}
 use Rattle.command_words.specs.Limits.{name_of}
 use Rattle.command_words.specs.Table.{help_row, keyword_of, list_name, options, places_of}
@@ -52,6 +52,16 @@ pub trace_help : command_text Trace ≡ codes
     "  trace WORLD RED BLACK ID --seed N --rounds N [OPTION]..\n      plays a game, and prints where one ant is after each round\n      ID, 0 to 16383\n      takes --from --surround --corpse --rest\n"
 unfolding command_text needed_texts more_text place_lines has_free takes_line free_texts numbered digits
 trace_help = refl
+
+pub events_help : command_text Events ≡ codes
+    "  events WORLD RED BLACK --seed N --rounds N [OPTION]..\n      plays a game, and prints who died, and how the score went\n      takes --surround --corpse --rest\n"
+unfolding command_text needed_texts more_text place_lines has_free takes_line free_texts numbered digits
+events_help = refl
+
+pub profile_help : command_text Profile ≡ codes
+    "  profile WORLD RED BLACK --seed N --rounds N [OPTION]..\n      plays a game, and prints how often each state was executed\n      takes --surround --corpse --rest\n"
+unfolding command_text needed_texts more_text place_lines has_free takes_line free_texts numbered digits
+profile_help = refl
 
 pub cup_help : command_text Cup ≡ codes
     "  cup --worlds WORLD.. --brains BRAIN.. --seed N --rounds N [OPTION]..\n      plays all games between brains on worlds, and prints their standing\n      WORLD.., 1 to 16 names\n      BRAIN.., 2 to 16 names\n      takes --workers --games\n"

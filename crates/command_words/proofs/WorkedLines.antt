@@ -3,7 +3,7 @@ use Rattle.std.proofs.Common.{◌≡◌, ℕ, Bool, true, false, List, [], ◌�
 use Rattle.std.specs.List.{slice_split}
 use Rattle.ant_base.specs.Number.{decimal_value}
 use Rattle.command_words.specs.declared.table.CommandKind.{CommandKind}
-use Rattle.command_words.specs.declared.table.CommandKind.TheVariants.{Show, Brain, Minimise, Run, Gen, Cup, View, Workload, Help, HelpWord, Version, Asm, Save, Resume, Trace, Same}
+use Rattle.command_words.specs.declared.table.CommandKind.TheVariants.{Show, Brain, Minimise, Run, Gen, Cup, View, Workload, Help, HelpWord, Version, Asm, Save, Resume, Trace, Same, Events, Profile}
 use Rattle.command_words.specs.declared.table.Choice.{Choice}
 use Rattle.command_words.specs.declared.table.Choice.TheVariants.{Seed, Rounds, Workers, Window, Surround, Corpse, Rest, Stats, Far, Width, Height, Rocks, Blobs, From, Labels, States, Games}
 use Rattle.command_words.specs.declared.table.NameList.{NameList}
@@ -307,6 +307,45 @@ trace_from_too_late = read-refuses (words_of (codes "trace w r b 1 --from 100000
 pub trace_rounds_missing : IsRefusedAt (words_of (codes "trace w r b 1 --seed 1")) 8
 unfolding command_kind_of choice_of is_among rest_after is_file_name is_dumps dumps_of decimal_value
 trace_rounds_missing = read-refuses (words_of (codes "trace w r b 1 --seed 1")) 8 refl
+
+-- events and a profile are of a game by the contest's rules, where no option says otherwise
+pub events_defaults : Says Events (codes "events w r b --seed 1 --rounds 2")
+    (AtFile 0 (codes "w") ∷ AtFile 1 (codes "r") ∷ AtFile 2 (codes "b") ∷ OptionIs Seed 1 ∷ OptionIs Rounds 2 ∷ OptionIs Surround 5 ∷ OptionIs Corpse 3 ∷ OptionIs Rest 14 ∷ [])
+unfolding command_kind_of choice_of is_among rest_after is_file_name is_dumps dumps_of decimal_value
+events_defaults = says _ _ _ refl (refl, (refl, (refl, (refl, (refl, (refl, (refl, (refl, tt))))))))
+
+pub profile_defaults : Says Profile (codes "profile w r b --rounds 2 --seed 1")
+    (AtFile 0 (codes "w") ∷ AtFile 1 (codes "r") ∷ AtFile 2 (codes "b") ∷ OptionIs Seed 1 ∷ OptionIs Rounds 2 ∷ OptionIs Surround 5 ∷ OptionIs Corpse 3 ∷ OptionIs Rest 14 ∷ [])
+unfolding command_kind_of choice_of is_among rest_after is_file_name is_dumps dumps_of decimal_value
+profile_defaults = says _ _ _ refl (refl, (refl, (refl, (refl, (refl, (refl, (refl, (refl, tt))))))))
+
+-- each number of theirs at its greatest, and at its least
+pub events_greatest : Says Events (codes "events w r b --rest 255 --corpse 9 --surround 6 --rounds 1000000 --seed 4294967295")
+    (AtFile 0 (codes "w") ∷ AtFile 1 (codes "r") ∷ AtFile 2 (codes "b") ∷ OptionIs Seed 4294967295 ∷ OptionIs Rounds 1000000 ∷ OptionIs Surround 6 ∷ OptionIs Corpse 9 ∷ OptionIs Rest 255 ∷ [])
+unfolding command_kind_of choice_of is_among rest_after is_file_name is_dumps dumps_of decimal_value
+events_greatest = says _ _ _ refl (refl, (refl, (refl, (refl, (refl, (refl, (refl, (refl, tt))))))))
+
+pub profile_least : Says Profile (codes "profile - r b --surround 4 --seed 0 --rest 0 --rounds 0 --corpse 0")
+    (AtFile 0 (codes "-") ∷ AtFile 1 (codes "r") ∷ AtFile 2 (codes "b") ∷ OptionIs Seed 0 ∷ OptionIs Rounds 0 ∷ OptionIs Surround 4 ∷ OptionIs Corpse 0 ∷ OptionIs Rest 0 ∷ [])
+unfolding command_kind_of choice_of is_among rest_after is_file_name is_dumps dumps_of decimal_value
+profile_least = says _ _ _ refl (refl, (refl, (refl, (refl, (refl, (refl, (refl, (refl, tt))))))))
+
+-- both take three files, and need a seed and rounds
+pub events_two_files : IsRefusedAt (words_of (codes "events w r --seed 1 --rounds 2")) 4
+unfolding command_kind_of choice_of is_among rest_after is_file_name is_dumps dumps_of decimal_value
+events_two_files = read-refuses (words_of (codes "events w r --seed 1 --rounds 2")) 4 refl
+
+pub events_four_files : IsRefusedAt (words_of (codes "events w r b 1 --seed 1 --rounds 2")) 5
+unfolding command_kind_of choice_of is_among rest_after is_file_name is_dumps dumps_of decimal_value
+events_four_files = read-refuses (words_of (codes "events w r b 1 --seed 1 --rounds 2")) 5 refl
+
+pub profile_without_rounds : IsRefusedAt (words_of (codes "profile w r b --seed 1 --rest 3")) 9
+unfolding command_kind_of choice_of is_among rest_after is_file_name is_dumps dumps_of decimal_value
+profile_without_rounds = read-refuses (words_of (codes "profile w r b --seed 1 --rest 3")) 9 refl
+
+pub profile_surround_too_great : IsRefusedAt (words_of (codes "profile w r b --surround 7")) 6
+unfolding command_kind_of choice_of is_among rest_after is_file_name is_dumps dumps_of decimal_value
+profile_surround_too_great = read-refuses (words_of (codes "profile w r b --surround 7")) 6 refl
 
 -- two brains
 pub same_command : Says Same (codes "same a -")

@@ -125,6 +125,17 @@ unfolding command_kind_of choice_of is_among rest_after is_file_name is_dumps du
 trace_takes_few = refused_after (codes "trace w r b 1") 6 ((codes "--dump") ∷ (codes "--workers") ∷ (codes "--window") ∷ (codes "--stats") ∷ (codes "--far") ∷ shape_options)
     (refl, (refl, (refl, (refl, (refl, (refl, (refl, (refl, (refl, tt)))))))))
 
+-- `events` and `profile` take what `trace` does, but for the first round that is told
+pub events_takes_few : AreRefusedAfter (codes "events w r b") 5 ((codes "--dump") ∷ (codes "--workers") ∷ (codes "--window") ∷ (codes "--stats") ∷ (codes "--far") ∷ (shape_options ++ own_options))
+unfolding command_kind_of choice_of is_among rest_after is_file_name is_dumps dumps_of decimal_value
+events_takes_few = refused_after (codes "events w r b") 5 ((codes "--dump") ∷ (codes "--workers") ∷ (codes "--window") ∷ (codes "--stats") ∷ (codes "--far") ∷ (shape_options ++ own_options))
+    (refl, (refl, (refl, (refl, (refl, (refl, (refl, (refl, (refl, (refl, (refl, (refl, (refl, tt)))))))))))))
+
+pub profile_takes_few : AreRefusedAfter (codes "profile w r b") 5 ((codes "--dump") ∷ (codes "--workers") ∷ (codes "--window") ∷ (codes "--stats") ∷ (codes "--far") ∷ (shape_options ++ own_options))
+unfolding command_kind_of choice_of is_among rest_after is_file_name is_dumps dumps_of decimal_value
+profile_takes_few = refused_after (codes "profile w r b") 5 ((codes "--dump") ∷ (codes "--workers") ∷ (codes "--window") ∷ (codes "--stats") ∷ (codes "--far") ∷ (shape_options ++ own_options))
+    (refl, (refl, (refl, (refl, (refl, (refl, (refl, (refl, (refl, (refl, (refl, (refl, (refl, tt)))))))))))))
+
 -- `same` takes no option
 pub same_takes_none : AreRefusedAfter (codes "same a b") 4 all_options
 unfolding command_kind_of choice_of is_among rest_after is_file_name is_dumps dumps_of decimal_value

@@ -10,7 +10,7 @@ use Rattle.command_words.specs.declared.slot.Slot.TheVariants.{FileName, Number,
 use Rattle.command_words.specs.declared.slot.Place.{Place}
 use Rattle.command_words.specs.declared.slot.Place.TheVariants.{Word, Names}
 use Rattle.command_words.specs.declared.table.CommandKind.{CommandKind}
-use Rattle.command_words.specs.declared.table.CommandKind.TheVariants.{Show, Brain, Minimise, Run, Gen, Cup, View, Workload, Help, HelpWord, Version, Asm, Save, Resume, Trace, Same}
+use Rattle.command_words.specs.declared.table.CommandKind.TheVariants.{Show, Brain, Minimise, Run, Gen, Cup, View, Workload, Help, HelpWord, Version, Asm, Save, Resume, Trace, Same, Events, Profile}
 use Rattle.command_words.specs.declared.table.Choice.{Choice}
 use Rattle.command_words.specs.declared.table.Choice.TheVariants.{Seed, Rounds, Dump, Workers, Window, Surround, Corpse, Rest, Stats, Far, Width, Height, Rocks, Blobs, From, Labels, States, Games}
 
@@ -41,7 +41,7 @@ cup_places = Word (Keyword Worlds) ∷ Names Worlds ∷ Word (Keyword Brains) �
 
 -- all commands that are known, in the order of the page of `--help`
 abbrev pub kinds : List CommandKind
-kinds = Run ∷ Save ∷ Resume ∷ View ∷ Trace ∷ Cup ∷ Workload ∷ Show ∷ Gen ∷ Brain ∷ Minimise ∷ Same ∷ Asm ∷ HelpWord ∷ Help ∷ Version ∷ []
+kinds = Run ∷ Save ∷ Resume ∷ View ∷ Trace ∷ Events ∷ Profile ∷ Cup ∷ Workload ∷ Show ∷ Gen ∷ Brain ∷ Minimise ∷ Same ∷ Asm ∷ HelpWord ∷ Help ∷ Version ∷ []
 
 abbrev pub row_of : CommandKind → CommandRow
 row_of Show = command_row (codes "show") (Word FileName ∷ number_place SeedNumber ∷ []) []
@@ -60,6 +60,8 @@ row_of Save = command_row (codes "save") game_places (Seed ∷ Rounds ∷ Worker
 row_of Resume = command_row (codes "resume") one_file (Rounds ∷ Dump ∷ Workers ∷ Stats ∷ [])
 row_of Trace = command_row (codes "trace") trace_places (Seed ∷ Rounds ∷ From ∷ Surround ∷ Corpse ∷ Rest ∷ [])
 row_of Same = command_row (codes "same") (Word FileName ∷ one_file) []
+row_of Events = command_row (codes "events") game_places (Seed ∷ Rounds ∷ Surround ∷ Corpse ∷ Rest ∷ [])
+row_of Profile = command_row (codes "profile") game_places (Seed ∷ Rounds ∷ Surround ∷ Corpse ∷ Rest ∷ [])
 
 -- what the page of `--help` has of a command: its places by name, each behind a space, and a sentence
 pub record CommandHelp : Type 0 where
@@ -75,6 +77,8 @@ help_row Save = command_help (codes " WORLD RED BLACK") (codes "plays a game up 
 help_row Resume = command_help (codes " SAVE") (codes "goes on with a saved game, and prints the rest of what run prints")
 help_row View = command_help (codes " WORLD RED BLACK BREAKS") (codes "plays a game up to the first of its breaks, and prints the world there")
 help_row Trace = command_help (codes " WORLD RED BLACK ID") (codes "plays a game, and prints where one ant is after each round")
+help_row Events = command_help (codes " WORLD RED BLACK") (codes "plays a game, and prints who died, and how the score went")
+help_row Profile = command_help (codes " WORLD RED BLACK") (codes "plays a game, and prints how often each state was executed")
 help_row Cup = command_help (codes " --worlds WORLD.. --brains BRAIN..") (codes "plays all games between brains on worlds, and prints their standing")
 help_row Workload = command_help (codes " SEED ROUNDS WORKERS") (codes "plays the sample brain against itself on a world that gen makes")
 help_row Show = command_help (codes " WORLD SEED") (codes "prints a world as it is at the start of a game")

@@ -39,6 +39,10 @@ pub enum CommandKind {
     Trace,
     /// `same FILE FILE`: whether two brains are the same, or where they first differ
     Same,
+    /// `events WORLD RED BLACK`, and its options: who dies in a game, and how the score goes, turn by turn
+    Events,
+    /// `profile WORLD RED BLACK`, and its options: how often each state of both brains is executed in a game
+    Profile,
 }
 
 /// An option that may follow the words of a command's places, in any order and at most once.
@@ -105,6 +109,8 @@ pub(crate) fn kinds() -> &'static [CommandKind]
         CommandKind::Resume,
         CommandKind::View,
         CommandKind::Trace,
+        CommandKind::Events,
+        CommandKind::Profile,
         CommandKind::Cup,
         CommandKind::Workload,
         CommandKind::Show,
@@ -294,6 +300,32 @@ impl CommandKind {
                 choices: &[],
                 names: " FILE FILE",
                 says: "says whether two brains are the same but for the numbers of their states",
+            },
+            CommandKind::Events => CommandRow {
+                word: "events",
+                places: &[FILE, FILE, FILE],
+                choices: &[
+                    Choice::Seed,
+                    Choice::Rounds,
+                    Choice::Surround,
+                    Choice::Corpse,
+                    Choice::Rest,
+                ],
+                names: " WORLD RED BLACK",
+                says: "plays a game, and prints who died, and how the score went",
+            },
+            CommandKind::Profile => CommandRow {
+                word: "profile",
+                places: &[FILE, FILE, FILE],
+                choices: &[
+                    Choice::Seed,
+                    Choice::Rounds,
+                    Choice::Surround,
+                    Choice::Corpse,
+                    Choice::Rest,
+                ],
+                names: " WORLD RED BLACK",
+                says: "plays a game, and prints how often each state was executed",
             },
         }
     }

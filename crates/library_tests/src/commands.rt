@@ -15,6 +15,7 @@ mod runs;
 mod saves;
 mod settle;
 mod shown;
+mod told;
 mod viewed;
 mod ways;
 mod words;

@@ -70,6 +70,10 @@ hill_count-cells : (cells : List Cell) → AllByRecursion IsPlain cells → hill
 hill_count-cells [] plain = refl
 hill_count-cells (cell ∷ cells) plain = ap₂ ◌+◌ (hill-cell cell plain.0) (hill_count-cells cells plain.1)
 
+-- and in a world
+pub hill_count-world : (g : Grid) → IsWorld g → hill_count (map soil_of_cell g.cells) ≡ hill_cells g.cells
+hill_count-world g world = hill_count-cells g.cells (all_at IsPlain g.cells (plain_at g world))
+
 -- no cell has more food than the world weighs
 foods-light : (most : ℕ) (cells : List Cell) → sum_by cell_weight cells ≤ most → AllByRecursion (λ (cell : Cell). cell.food ≤ most) cells
 unfolding cell_weight
@@ -178,7 +182,7 @@ module _ (s : SavedValue) (is : IsKnown s) where
   }
 
   ids-same : hill_count (map soil_of_cell s.world.cells) ≡ s.world.ids
-  ids-same = hill_count-cells s.world.cells (all_at IsPlain s.world.cells (plain_at s.world is.world)) ∙ is.hills
+  ids-same = hill_count-world s.world is.world ∙ is.hills
 
   same : grid_of_draft (draft_of s) ≡ s.world
   unfolding draft_of grid_of_draft

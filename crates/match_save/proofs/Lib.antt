@@ -40,7 +40,9 @@ pub mod RestBounds
 pub mod AfterRounds
 pub mod GameSaves
 pub mod PlayedSaves
+mod AdvancedTexts
 pub mod TextLength
 -- Worked values.
 pub mod SaveWorked
+pub mod AdvancedWorked
 pub mod LinesWorked

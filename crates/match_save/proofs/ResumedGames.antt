@@ -1,5 +1,5 @@
 -- Saves as games that go on.
-use Rattle.std.proofs.Common.{◌≡◌, ◌⊎◌, ℕ, ◌*◌, ◌<◌, ◌≤◌, Bool, true, false, cond, ltb, List, [], ◌∷◌, length, get_or, Some, None, refl, sym, ◌∙◌, ap, subst, inl, inr, arith}
+use Rattle.std.proofs.Common.{◌≡◌, ◌⊎◌, ℕ, ◌+◌, ◌*◌, ◌<◌, ◌≤◌, Bool, true, false, cond, ltb, List, [], ◌∷◌, length, get_or, Some, None, refl, sym, ◌∙◌, ap, subst, inl, inr, arith}
 use Rattle.std.specs.List.{AllByRecursion}
 use Rattle.std.proofs.lemmas.Nat.{mul-le}
 use Rattle.cell_world.specs.Limits.{most_ants}
@@ -12,37 +12,39 @@ use Rattle.cell_world.specs.Grid.{Grid, cell_in, world_of}
 use Rattle.ant_turn.specs.Minds.{Fits, Minds, mind_of}
 use Rattle.dump_print.specs.declared.totals.Totals.{Totals}
 use Rattle.match_run.proofs.LaterLaws.{later_text-plain, later_text-some, runs_go_on}
-use Rattle.match_run.specs.Game.{CanGoOn, GameValue, game_at_round, now_of}
+use Rattle.match_run.proofs.CountLemmas.{sum_windows-turns}
+use Rattle.match_run.specs.Game.{CanGoOn, GameValue, IsRoundRefused, game_at_round, now_of, totals_ahead}
 use Rattle.match_run.specs.Later.{plain_later_text, later_text}
 use Rattle.match_run.specs.Sequential.{SequentialValue, standing}
 use Rattle.match_save.specs.Inner.Alone.{sequential_of}
 use Rattle.match_run.specs.Run.{most_rounds}
 use Rattle.round_book.specs.Book.{FieldValue}
-use Rattle.match_save.specs.Draft.{Draft, IsInForm}
+use Rattle.match_save.specs.Draft.{Draft, IsAnt, IsInForm}
 use Rattle.match_save.specs.Resumed.{SavesGoOn, field_of, moment_of, resumed_text}
-use Rattle.match_save.specs.Saved.{IsSaved, SavedValue, draft_of}
-use Rattle.match_save.specs.State.{IsState, grid_of_draft, hill_count, program_of, turns_of}
+use Rattle.match_save.specs.Saved.{IsSaved, SavedValue, draft_of, living}
+use Rattle.match_save.specs.State.{grid_of_draft, hill_count, program_of, turns_of}
 use Rattle.match_save.specs.Inner.Floor.{floor_of}
 use Rattle.match_save.proofs.BrainForms.{program-length}
 use Rattle.match_save.proofs.Floors.{on}
+use Rattle.match_save.proofs.RestBounds.{AllRest}
 use Rattle.match_save.proofs.RoundTrip.{In, Stands, back, bare-none}
 
--- each ant of a state's world fits its brain
-pub fits-of : (d : Draft) (ok : IsInForm d) → IsState d → (p : Pos) (ant : Ant) → (cell_in (grid_of_draft d) p).ant ≡ Some ant → ant.state < length (program_of d ant.colour)
+-- what holds of each ant of a save's lines holds of the ant of each cell of its world
+pub each-ant : (d : Draft) (ok : IsInForm d) (P : Ant → Type 0) → AllByRecursion (λ (it : PlacedAnt). P it.ant) d.ants → (p : Pos) (ant : Ant) → (cell_in (grid_of_draft d) p).ant ≡ Some ant → P ant
 unfolding grid_of_draft cell_in rock
-fits-of d ok state p ant is = go (ltb p.x d.head.width) is where
-  fit : (ants : List PlacedAnt) → AllByRecursion (λ (it : PlacedAnt). it.ant.state < length (program_of d it.ant.colour)) ants → (it : PlacedAnt) → In it ants → it.ant.state < length (program_of d it.ant.colour)
-  fit [] all it is_in = absurd is_in
-  fit (first ∷ ants) all it (inl same) = subst (λ (v : PlacedAnt). v.ant.state < length (program_of d v.ant.colour)) same all.0
-  fit (first ∷ ants) all it (inr is_in) = fit ants all.1 it is_in
+each-ant d ok P all p ant is = go (ltb p.x d.head.width) is where
+  of-all : (ants : List PlacedAnt) → AllByRecursion (λ (it : PlacedAnt). P it.ant) ants → (it : PlacedAnt) → In it ants → P it.ant
+  of-all [] all it is_in = absurd is_in
+  of-all (first ∷ ants) all it (inl same) = subst (λ (v : PlacedAnt). P v.ant) same all.0
+  of-all (first ∷ ants) all it (inr is_in) = of-all ants all.1 it is_in
 
-  found : ((get_or (floor_of d).cells (index_of d.head.width p) rock).ant ≡ Some ant) ⊎ Stands d.head.width d.ants (index_of d.head.width p) ant → ant.state < length (program_of d ant.colour)
+  found : ((get_or (floor_of d).cells (index_of d.head.width p) rock).ant ≡ Some ant) ⊎ Stands d.head.width d.ants (index_of d.head.width p) ant → P ant
   found (inl e) =
       let wrong : None ≡ Some ant = sym (bare-none d.soils d.red_marks d.black_marks d.foods (index_of d.head.width p)) ∙ e in
       absurd (cc)
-  found (inr one) = subst (λ (a : Ant). a.state < length (program_of d a.colour)) one.is_ant (fit d.ants state.fits one.it one.is_in)
+  found (inr one) = subst P one.is_ant (of-all d.ants all one.it one.is_in)
 
-  go : (b : Bool) → (cond b (get_or (grid_of_draft d).cells (index_of d.head.width p) rock) rock).ant ≡ Some ant → ant.state < length (program_of d ant.colour)
+  go : (b : Bool) → (cond b (get_or (grid_of_draft d).cells (index_of d.head.width p) rock) rock).ant ≡ Some ant → P ant
   go true told = found (back d.head.width d.ants (floor_of d).cells (length (floor_of d).cells) (index_of d.head.width p) ant refl (on d ok) told)
   go false told = absurd (cc)
 
@@ -58,9 +60,19 @@ unfolding draft_of
 Fits-saved s is = record { below = below } where
   below : (p : Pos) (ant : Ant) → (cell_in s.world p).ant ≡ Some ant → ant.state < length (mind_of s.minds ant.colour)
   below p ant there =
-      let fit = fits-of (draft_of s) is.in_form is.state p ant (ap (λ (g : Grid). (cell_in g p).ant) is.same ∙ there) in
+      let fit = each-ant (draft_of s) is.in_form (λ (a : Ant). a.state < length (program_of (draft_of s) a.colour)) is.state.fits p ant (ap (λ (g : Grid). (cell_in g p).ant) is.same ∙ there) in
       let long = program-length s ant.colour in
       omega (arith, fit, long)
+
+-- and none rests for longer than its line may say
+pub AllRest-saved : (s : SavedValue) → IsSaved s → AllRest 255 (cell_in s.world)
+unfolding draft_of
+AllRest-saved s is = record {
+  each = λ p ant there. each-ant (draft_of s) is.in_form (λ (a : Ant). a.resting ≤ 255) (resting (living s.world s.world.ids) is.in_form.ants) p ant (ap (λ (g : Grid). (cell_in g p).ant) is.same ∙ there);
+} where
+  resting : (ants : List PlacedAnt) → AllByRecursion (IsAnt s.world.width s.world.height) ants → AllByRecursion (λ (it : PlacedAnt). it.ant.resting ≤ 255) ants
+  resting [] all = tt
+  resting (it ∷ ants) all = (all.0.resting, resting ants all.1)
 
 -- and it can go on
 pub CanGoOn-saved : (s : SavedValue) → IsSaved s → CanGoOn (field_of s) s.window s.round s.totals
@@ -135,3 +147,10 @@ pub alone-is : (s : SavedValue) (game : SequentialValue) (rounds : ℕ) (chosen 
 unfolding resumed_text
 alone-is s game rounds chosen e =
     let plain = later_text-plain s.minds s.seed s.window (moment_of s) s.round s.totals rounds chosen in cc
+
+-- the windows of a round that was refused have a turn of each id at most
+pub refused-turns : (old new : GameValue) → old.next ≡ 0 → IsRoundRefused old new → (old.totals.turns ≤ new.totals.turns) × (new.totals.turns ≤ old.totals.turns + old.field.world.ids)
+refused-turns old new ends refused =
+    let sum : new.totals.turns ≡ old.totals.turns + (totals_ahead old refused.windows).turns = ap (λ (t : Totals). t.turns) refused.totals in
+    let turns = sum_windows-turns old.field.minds old.field.seed old.window (now_of old) old.next refused.windows (omega (arith, ends)) in
+    (omega (arith, sum), omega (arith, sum, turns))

@@ -23,13 +23,13 @@ use Rattle.brain_read.specs.Steps.{take_side, take_state}
 use Rattle.brain_read.specs.Reading.{read_line, read_sense, read_marked, read_branches, read_drop, read_turn, read_flip}
 
 -- the hill cell, with its ant, which turned once
-abbrev hill : Cell
+abbrev pub hill : Cell
 hill = record floor { hill = Some Red; ant = Some (record { id = 0; colour = Red; state = 0; resting = 0; facing = NorthEast; laden = false }) }
 
-abbrev turning : List Instr
+abbrev pub turning : List Instr
 turning = Turn Left 0 ∷ []
 
-abbrev saved : SavedValue
+abbrev pub saved : SavedValue
 saved = record {
   seed = 12345;
   window = 16384;

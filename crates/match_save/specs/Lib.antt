@@ -1,3 +1,4 @@
+pub mod Advanced
 pub mod Draft
 pub mod Faulty
 pub mod Inner

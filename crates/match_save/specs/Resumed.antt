@@ -18,9 +18,13 @@ use Rattle.match_save.specs.Saved.{SavedValue}
 abbrev pub moment_of : SavedValue → Moment
 moment_of s = record { world = world_of s.world; place = s.place }
 
--- the world after so many more rounds of it
+-- where it stands after so many more rounds
+abbrev pub later_moment : SavedValue → ℕ → Moment
+later_moment s rounds = after_rounds s.minds s.seed (moment_of s) rounds
+
+-- the world then
 abbrev pub later_world : SavedValue → ℕ → World
-later_world s rounds = (after_rounds s.minds s.seed (moment_of s) rounds).world
+later_world s rounds = (later_moment s rounds).world
 
 -- the text of its rest up to so many rounds in all: the dumps of the later rounds that are chosen, the score of the end, and the counts of all
 -- rounds where they are asked for

@@ -1,19 +1,21 @@
 // A saved game that goes on.
-ghost use Rattle.std.specs.Prelude.{◌≡◌, ◌-◌, ◌*◌, ◌≤◌, IfOk, OnOk, false};
+ghost use Rattle.std.specs.Prelude.{◌≡◌, ◌+◌, ◌-◌, ◌*◌, ◌≤◌, IfOk, OnOk, false};
 ghost use Rattle.cell_world.specs.Score.{score_of};
 ghost use Rattle.match_run.specs.Dumps.{chooses};
-ghost use Rattle.match_run.specs.Game.{RisesUpTo, counted_on, game_at_round};
+ghost use Rattle.match_run.specs.Game.{GoesOnFor, RisesUpTo, counted_on, game_at_round};
 ghost use Rattle.match_run.specs.Play.{PushedBy};
 ghost use Rattle.match_run.specs.Run.{most_rounds};
+ghost use Rattle.match_save.specs.Advanced.{advanced};
 ghost use Rattle.match_save.specs.Resumed.{UnwrittenByMemory, field_of, later_world, resumed_text};
 ghost use Rattle.match_save.specs.Inner.Alone.{sequential_of};
 
 use crate::saved::Saved;
+use crate::saves::save_of;
 use ant_base::Sink;
 use cell_world::Score;
 use hex_geometry::OutOfMemory;
 use match_run::{Dumps, Game, PlayFault, SequentialGame, play_on, play_on_alone};
-use round_book::{Crew, Field};
+use round_book::{Crew, Field, recall_validity};
 use std::alloc::Global;
 
 /// Goes on with a saved game by any crew until so many rounds are done in all, and pushes the rest of its text: the dump after each later round
@@ -56,6 +58,59 @@ fn game_of<'s>(alloc: Global, saved: &'s Saved) -> Result<Game<'s>, OutOfMemory>
     let world = saved.world().copy(alloc)?;
     let field = Field::new(alloc, world, saved.brains(), saved.seed(), saved.place())?;
     Ok(Game::at_round(field, saved.window(), saved.round(), saved.totals()))
+}
+
+/// Goes on with a saved game by any crew until so many rounds are done in all, and gives the save of it there (this project's own). However many
+/// saves are made on the way, the last is the same: the laws `games_are_advanced` and `saves_are_advanced`.
+///
+/// The rounds are at most 1,000,000, and at least those that are done. The seed, the window and both brains are those of the save, whatever game made
+/// it. The crew's count of turns has risen by that of the ids times the later rounds then, or stands at its last value. It is refused only when out
+/// of memory; the crew's count has risen by no more than that then. The save stays as it is.
+///
+/// Given the save of `examples/one_ant.save`, which is at round 1, and rounds 3 it gives one at round 3, with `taken 3 redone 0`, whose ant faces
+/// direction 3.
+pub fn advance<C: Crew>(
+    alloc: Global,
+    crew: &mut C,
+    saved: &Saved,
+    rounds: u32,
+) -> Result<Saved, OutOfMemory>
+    requires ready { C.ready crew.old }
+    requires left { saved.now.round ≤ rounds }
+    requires few_rounds { rounds ≤ most_rounds }
+    ensures ready { C.ready crew.new }
+    ensures saved { IfOk result (λ later. later ≡ advanced saved.now rounds) }
+    ensures turns { OnOk result (C.played crew.new ≡ counted_on (C.played crew.old) (saved.now.world.ids * (rounds - saved.now.round))) }
+    ensures rises { RisesUpTo (C.played crew.old) (C.played crew.new) (saved.now.world.ids * (rounds - saved.now.round)) }
+{
+    let mut game = game_of(alloc, saved)?;
+    play_rounds(alloc, crew, &mut game, rounds - saved.round())?;
+    recall_validity(game.field().brains(), game.world());
+    save_of(alloc, &game)
+}
+
+// Plays so many more rounds of a game that is at the end of a round.
+fn play_rounds<C: Crew>(
+    alloc: Global,
+    crew: &mut C,
+    game: &mut Game<'_>,
+    rounds: u32,
+) -> Result<(), OutOfMemory>
+    requires ready { C.ready crew.old }
+    requires ends { game.old.next ≡ 0 }
+    requires few_rounds { game.old.done + rounds ≤ most_rounds }
+    ensures ready { C.ready crew.new }
+    ensures played { OnOk result (GoesOnFor game.old game.new rounds) }
+    ensures turns { OnOk result (C.played crew.new ≡ counted_on (C.played crew.old) (game.old.field.world.ids * rounds)) }
+    ensures rises { RisesUpTo (C.played crew.old) (C.played crew.new) (game.old.field.world.ids * rounds) }
+{
+    // A crew's count is a u64, so it doesn't change where there is no round.
+    let _count = crew.turns();
+    let _window = game.window();
+    for _ in 0..rounds {
+        game.round(alloc, crew)?;
+    }
+    Ok(())
 }
 
 /// Goes on with a saved game, as `resume` does where no counts are asked for: it is just played, turn after turn, without looks (this project's

@@ -1,4 +1,5 @@
 // Laws on the definitions of saves.
+ghost use Rattle.match_save.specs.Advanced.{AdvancedSavesGoOn, GamesAreAdvanced, SavesAreAdvanced};
 ghost use Rattle.match_save.specs.Resumed.{SavesGoOn};
 ghost use Rattle.match_save.specs.Saves.{GamesAreSaved, SavesAreShort};
 ghost use Rattle.match_save.specs.Laws.{EveryTextHasOneVerdict};
@@ -26,4 +27,24 @@ pub fn games_are_saved()
 /// be fetched. The call does nothing: its clause is the law.
 pub fn saves_are_short()
     ensures { SavesAreShort }
+{}
+
+/// A law: advanced to a later round, the save of a game is the save of the same game after so many rounds, and so is each save that stands where a
+/// game led (this project's own). So however many saves are made on the way, the last of them is the same. The call does nothing: its clause is
+/// the law.
+pub fn games_are_advanced()
+    ensures { GamesAreAdvanced }
+{}
+
+/// A law: what a save is advanced to is a save, also where no game made the one or the other. Advanced to its own round it is as it was; and
+/// advanced to one round and then to another, it is what it is at once (this project's own). The call does nothing: its clause is the law.
+pub fn saves_are_advanced()
+    ensures { SavesAreAdvanced }
+{}
+
+/// A law: what `resume` pushes of a save is the dumps up to a later round that are chosen, and then what it pushes of the save that is advanced to
+/// this round; and one that stands where a game led does so there too, so that `saves_go_on` holds of it (this project's own). The call does nothing:
+/// its clause is the law.
+pub fn advanced_saves_go_on()
+    ensures { AdvancedSavesGoOn }
 {}

@@ -24,8 +24,11 @@ mod soil;
 mod write;
 
 pub use fault::{AlreadyAt, SaveFault};
-pub use going_on::{resume, resume_alone};
-pub use laws::{every_text_has_one_verdict, games_are_saved, saves_are_short, saves_go_on};
+pub use going_on::{advance, resume, resume_alone};
+pub use laws::{
+    advanced_saves_go_on, every_text_has_one_verdict, games_are_advanced, games_are_saved,
+    saves_are_advanced, saves_are_short, saves_go_on,
+};
 pub use read::read_saved;
 pub use saved::Saved;
 pub use saves::save_of;

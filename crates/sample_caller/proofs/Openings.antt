@@ -1,5 +1,5 @@
 -- Brains fit the world with which a game begins, and a minimised brain has the scores of the brain.
-use Rattle.std.proofs.Common.{◌≡◌, ℕ, ◌≤◌, List, length, Option, Ok, sym, ◌∙◌, subst, arith}
+use Rattle.std.proofs.Common.{◌≡◌, ℕ, ◌≤◌, List, length, Option, Ok, Err, sym, ◌∙◌, subst, arith}
 use Rattle.ant_base.specs.Fetched.{Fetched}
 use Rattle.ant_turn.specs.Minds.{Fits, Minds, contest_minds}
 use Rattle.ant_turn.proofs.FitLemmas.{Fits-opening}
@@ -13,8 +13,7 @@ use Rattle.cell_world.specs.Score.{score_of}
 use Rattle.match_run.specs.Run.{world_after}
 use Rattle.world_read.specs.Opened.{IsOpeningWorld}
 use Rattle.sample_caller.specs.Files.{ReadsBrain, ReadsWorld}
-use Rattle.sample_caller.specs.Files.ReadsBrain.{Opened as OpenedBrain}
-use Rattle.sample_caller.specs.Files.ReadsWorld.{Opened as OpenedWorld}
+use Rattle.sample_caller.specs.Files.ReadsFile.{Opened}
 
 -- brains of at least one state fit it
 pub Fits-opened : (grid : Grid) (minds : Minds) → IsOpeningWorld grid → 1 ≤ length minds.red → 1 ≤ length minds.black → Fits (world_of grid) minds
@@ -23,11 +22,13 @@ Fits-opened grid minds opening red black =
 
 -- the world of a file is one with which a game begins
 pub opening-read : {log new_log : List Fetched} {name : List ℕ} {grid : Grid} → ReadsWorld log new_log name (Ok grid) → IsOpeningWorld grid
-opening-read (OpenedWorld bytes _ fetched opens) = record { kinds = opens.kinds; plan = opens.is.plan; is = opens.opened }
+opening-read (Opened bytes (Ok world) _ fetched opens named) = record { kinds = opens.is.kinds; plan = rw named opens.is.is.plan; is = rw named opens.is.opened }
+opening-read (Opened bytes (Err stop) _ fetched opens named) = absurd named
 
 -- the brain of a file has a state
 pub some-read : {log new_log : List Fetched} {name : List ℕ} {list : List Instr} → ReadsBrain log new_log name (Ok list) → 1 ≤ length list
-some-read (OpenedBrain bytes _ fetched opens) = opens.some
+some-read (Opened bytes (Ok brain) _ fetched opens named) = rw named opens.is.some
+some-read (Opened bytes (Err stop) _ fetched opens named) = absurd named
 
 -- a minimised brain has a state
 pub some-minimised : (old new : List Instr) (numbers : List (Option ℕ)) → IsMinimised old new numbers → 1 ≤ length new

@@ -1,14 +1,12 @@
 // Files, each fetched and read, or refused by its name.
-ghost use Rattle.std.specs.Prelude.{◌≤◌, length};
-ghost use Rattle.ant_base.specs.Shelf.{longest};
-ghost use Rattle.sample_caller.specs.Files.{FetchesFile, OpensBrain, OpensWorld, ReadsBrain, ReadsWorld};
+ghost use Rattle.sample_caller.specs.Files.{FetchesFile, IsNamed, ReadsBrain, ReadsWorld};
 
 use crate::refusal::{FileFault, Refusal};
 use ant_base::Shelf;
-use brain_read::{Brain, read_brain};
+use brain_read::Brain;
 use cell_world::World;
 use std::alloc::Global;
-use world_read::read_world;
+use text_fault::{TextStop, open_brain, open_world};
 
 // The bytes of a file.
 fn fetch<'n, S: Shelf>(alloc: Global, shelf: &mut S, name: &'n str) -> Result<Vec<u8>, Refusal<'n>>
@@ -23,25 +21,13 @@ fn fetch<'n, S: Shelf>(alloc: Global, shelf: &mut S, name: &'n str) -> Result<Ve
     }
 }
 
-// The world of the bytes of a file.
-fn open_world<'n>(alloc: Global, name: &'n str, bytes: &[u8]) -> Result<World, Refusal<'n>>
-    requires { length bytes.now ≤ longest }
-    ensures { OpensWorld name.now bytes.now result }
+// What was opened of the bytes of a file, or what is wrong with the file.
+fn named<'n, T>(name: &'n str, opened: Result<T, TextStop>) -> Result<T, Refusal<'n>>
+    ensures { IsNamed name.now opened result }
 {
-    read_world(alloc, bytes).map_err(|fault| Refusal {
+    opened.map_err(|stop| Refusal {
         name,
-        fault: FileFault::World(fault),
-    })
-}
-
-// The brain of the bytes of a file.
-fn open_brain<'n>(alloc: Global, name: &'n str, bytes: &[u8]) -> Result<Brain, Refusal<'n>>
-    requires { length bytes.now ≤ longest }
-    ensures { OpensBrain name.now bytes.now result }
-{
-    read_brain(alloc, bytes).map_err(|fault| Refusal {
-        name,
-        fault: FileFault::Brain(fault),
+        fault: FileFault::Text(stop),
     })
 }
 
@@ -54,7 +40,7 @@ pub fn world_in<'n, S: Shelf>(
     ensures { ReadsWorld (S.state shelf.old).log (S.state shelf.new).log name.now result }
 {
     let bytes = fetch(alloc, shelf, name)?;
-    open_world(alloc, name, &bytes)
+    named(name, open_world(alloc, &bytes))
 }
 
 /// The brain of a file, which is fetched once. It is refused where the file wasn't fetched, and where its bytes are those of no brain.
@@ -66,5 +52,5 @@ pub fn brain_in<'n, S: Shelf>(
     ensures { ReadsBrain (S.state shelf.old).log (S.state shelf.new).log name.now result }
 {
     let bytes = fetch(alloc, shelf, name)?;
-    open_brain(alloc, name, &bytes)
+    named(name, open_brain(alloc, &bytes))
 }

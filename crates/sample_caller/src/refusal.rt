@@ -1,17 +1,14 @@
 // Files that are refused, and what is said of them.
 use ant_base::{Failed, FetchFault, Layout, Sink, layout};
-use brain_read::BrainFault;
-use world_read::WorldFault;
+use text_fault::TextStop;
 
 /// What is wrong with a file.
 #[derive(Clone, Copy, Debug, PartialEq, Eq)]
 pub enum FileFault {
     /// It was not fetched.
     Fetch(FetchFault),
-    /// Its bytes are no world's.
-    World(WorldFault),
-    /// Its bytes are no brain's.
-    Brain(BrainFault),
+    /// Its bytes were not opened.
+    Text(TextStop),
 }
 
 /// A file that was refused: its name, and what is wrong with it. Its text is the name, a colon, and the fault's own words.
@@ -31,8 +28,7 @@ impl Layout for FileFault {
     fn push_to<K: Sink>(&self, sink: &mut K) -> Result<(), Failed> {
         match *self {
             FileFault::Fetch(fault) => fault.push_to(sink),
-            FileFault::World(fault) => fault.push_to(sink),
-            FileFault::Brain(fault) => fault.push_to(sink),
+            FileFault::Text(stop) => stop.push_to(sink),
         }
     }
 }

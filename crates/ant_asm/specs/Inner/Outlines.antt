@@ -12,6 +12,7 @@ use Rattle.ant_asm.specs.Standing.{with_name}
 use Rattle.ant_asm.specs.Labels.{LabelState, NumberedLine, Outline, WayStep, block_outline, main_outline, outline_of}
 use Rattle.ant_asm.specs.Labels.NumberedLine.{At}
 use Rattle.ant_asm.specs.Labels.Outline.{Closed, Labelled, Instructed, Used}
+use Rattle.ant_asm.specs.StateLines.{StateLine}
 use Rattle.ant_asm.specs.Inner.Flat.{most}
 use Rattle.ant_asm.specs.Inner.Reading.{Read, read_line}
 use Rattle.ant_asm.specs.Inner.Scopes.{known_as}
@@ -20,7 +21,7 @@ use Rattle.ant_asm.specs.Inner.Scopes.{known_as}
 abbrev pub outline_size : Outline → ℕ
 outline_size Closed = 0
 outline_size (Labelled name others) = outline_size others
-outline_size (Instructed others) = suc (outline_size others)
+outline_size (Instructed line others) = suc (outline_size others)
 outline_size (Used line name block others) = outline_size block + outline_size others
 
 -- the most of them that the code tells
@@ -30,7 +31,7 @@ most_size = 65535
 -- a line before others, where the blocks have these outlines
 abbrev pub line_before : List Outline → NamedLine → Outline → Outline
 line_before blocks (NamedLine.Label name) others = Labelled name.items others
-line_before blocks NamedLine.Instruction others = Instructed others
+line_before blocks (NamedLine.Instruction line) others = Instructed line others
 line_before blocks (NamedLine.Use line name block) others = Used line name.items (slice_index_or blocks block Closed) others
 
 -- lines before others
@@ -58,7 +59,7 @@ outline_at bodies number = slice_index_or (outlines_of bodies) number Closed
 -- a use is of one of so many blocks
 abbrev pub IsUseBelow : ℕ → NamedLine → Type 0
 IsUseBelow count (NamedLine.Label name) = Unit {0}
-IsUseBelow count NamedLine.Instruction = Unit {0}
+IsUseBelow count (NamedLine.Instruction line) = Unit {0}
 IsUseBelow count (NamedLine.Use line name block) = block < count
 
 -- a body behind blocks of these outlines uses these alone, and tells its size, where that is at most so much
@@ -78,7 +79,7 @@ size_in (Some body) = body.size
 
 abbrev pub line_size : List NamedBody → NamedLine → ℕ
 line_size bodies (NamedLine.Label name) = 0
-line_size bodies NamedLine.Instruction = 1
+line_size bodies (NamedLine.Instruction line) = 1
 line_size bodies (NamedLine.Use line name block) = size_in (slice_get bodies block)
 
 -- the block of each name
@@ -145,7 +146,7 @@ state_at left at after = if left == 0 then after else at
 abbrev pub own_states : Outline → ℕ → ℕ → List WayStep → List LabelState
 own_states Closed at after way = []
 own_states (Labelled name others) at after way = (record { way = way; name = name; state = state_at (outline_size others) at after }) ∷ own_states others at after way
-own_states (Instructed others) at after way = own_states others (at + 1) after way
+own_states (Instructed line others) at after way = own_states others (at + 1) after way
 own_states (Used line name block others) at after way = own_states others (at + outline_size block) after way
 
 -- the way through a use
@@ -156,7 +157,7 @@ further way name line = way ++ (record { name = name; line = line }) ∷ []
 abbrev pub inner_states : Outline → ℕ → ℕ → List WayStep → List LabelState
 inner_states Closed at after way = []
 inner_states (Labelled name others) at after way = inner_states others at after way
-inner_states (Instructed others) at after way = inner_states others (at + 1) after way
+inner_states (Instructed line others) at after way = inner_states others (at + 1) after way
 inner_states (Used line name block others) at after way =
     (own_states block at (state_at (outline_size others) (at + outline_size block) after) (further way name line)
     ++ inner_states block at (state_at (outline_size others) (at + outline_size block) after) (further way name line))
@@ -170,10 +171,21 @@ all_states outline at after way = own_states outline at after way ++ inner_state
 abbrev pub listed : List NamedBody → List LabelState
 listed bodies = all_states (outline_at bodies (main_of bodies)) 0 0 []
 
+-- where its instructions stand, one after another, from this number on
+abbrev pub told_lines : Outline → ℕ → List WayStep → List StateLine
+told_lines Closed at way = []
+told_lines (Labelled name others) at way = told_lines others at way
+told_lines (Instructed line others) at way = (record { state = at; line = line; way = way }) ∷ told_lines others (at + 1) way
+told_lines (Used line name block others) at way = told_lines block at (further way name line) ++ told_lines others (at + outline_size block) way
+
+-- where those of main stand, and of all that it puts in place
+abbrev pub listed_lines : List NamedBody → List StateLine
+listed_lines bodies = told_lines (outline_at bodies (main_of bodies)) 0 []
+
 -- the label of a line, if it is one
 abbrev pub label_of : NamedLine → ℕ → List WayStep → List LabelState
 label_of (NamedLine.Label name) state way = (record { way = way; name = name.items; state = state }) ∷ []
-label_of NamedLine.Instruction state way = []
+label_of (NamedLine.Instruction line) state way = []
 label_of (NamedLine.Use line name block) state way = []
 
 -- the bodies are good, and main is one of them and comes to no more instructions than a brain has

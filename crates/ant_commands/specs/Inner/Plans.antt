@@ -1,5 +1,5 @@
 -- What the private functions that plan a game ensure.
-use Rattle.std.specs.Prelude.{◌≡◌, ℕ, ◌<◌, ◌≤◌, List, Option, Some, None, Result, Ok, Err}
+use Rattle.std.specs.Prelude.{◌≡◌, ℕ, ◌≤◌, List, Option, Some, None, Result, Ok, Err}
 use Rattle.ant_turn.specs.Minds.{Minds}
 use Rattle.ant_turn.specs.Sheet.{sheet_of}
 use Rattle.ant_turn.specs.declared.sheet.Sheet.{Sheet as SheetNumbers}
@@ -11,20 +11,17 @@ use Rattle.match_run.specs.declared.plan.Plan.{Plan}
 use Rattle.match_run.specs.Counts.{whole_text}
 use Rattle.match_run.specs.Dumps.{chooses}
 use Rattle.match_run.specs.Run.{most_rounds}
-use Rattle.match_save.specs.Saved.{SavedValue}
 use Rattle.world_gen.specs.declared.shape.Shape.{Shape}
 use Rattle.world_gen.specs.Generated.{IsGenerated}
 use Rattle.world_gen.specs.Placing.{HasNoRoom}
 use Rattle.ant_commands.specs.declared.commands.run.PlannedGame.{PlannedGame}
 use Rattle.ant_commands.specs.declared.commands.run.Setting.{Setting}
 use Rattle.ant_commands.specs.declared.commands.same.Pair.{Pair}
-use Rattle.ant_commands.specs.declared.stop.FileFault.TheVariants.{AlreadyAt}
 use Rattle.ant_commands.specs.declared.stop.CommandStop.{CommandStop}
 use Rattle.ant_commands.specs.declared.stop.CommandStop.TheVariants as stop
 use Rattle.ant_commands.specs.Files.{FileContent}
 use Rattle.ant_commands.specs.Outputs.{ReadGame, ReadPair, chosen_rounds, game_contents, sheet_named}
 use Rattle.ant_commands.specs.FaultLines.{Reason, reason_of}
-use Rattle.ant_commands.specs.FaultLines.Reason.{AtInput}
 
 -- the sheet and the plan are what the words say
 pub record Plans (setup : RunSetup) (game : PlannedGame) : Type 0 where
@@ -54,11 +51,6 @@ play_ending (Err fault) = Some (reason_of (stop_of fault))
 abbrev pub IsPlanned : RunSetup → Result PlannedGame CommandStop → Type 0
 IsPlanned setup (Ok game) = Plans setup game
 IsPlanned setup (Err reason) = reason ≡ stop.Memory
-
--- the save, of which at most so many rounds are done; or that more are
-abbrev pub IsUpTo : ℕ → List ℕ → SavedValue → Result SavedValue CommandStop → Type 0
-IsUpTo rounds name saved (Ok value) = (value ≡ saved) × (saved.round ≤ rounds)
-IsUpTo rounds name saved (Err stop) = (reason_of stop ≡ AtInput name (AlreadyAt saved.round)) × (rounds < saved.round)
 
 -- a world was generated, or why not
 abbrev pub IsGenerating : ℕ → Shape → Result Grid CommandStop → Type 0

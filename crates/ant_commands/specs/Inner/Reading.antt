@@ -1,7 +1,5 @@
 -- What the private functions that fetch, read and carry out ensure.
 use Rattle.std.specs.Prelude.{◌≡◌, ℕ, List, [], ◌∷◌, Option, Some, None, Result, Ok, Err, Vec}
-use Rattle.ant_asm.specs.declared.fault.AsmFault.{AsmFault}
-use Rattle.ant_asm.specs.declared.fault.AsmFault.TheVariants as labelled
 use Rattle.ant_base.specs.Faults.{Rose}
 use Rattle.ant_base.specs.Fetched.{Fetched}
 use Rattle.ant_base.specs.Shelf.{Fetches, FetchesEach, ShelfState}
@@ -9,16 +7,13 @@ use Rattle.ant_base.specs.Sink.{SinkState}
 use Rattle.ant_base.specs.declared.shelf.FetchFault.{FetchFault}
 use Rattle.ant_base.specs.declared.shelf.FetchFault.TheVariants as answer
 use Rattle.ant_base.specs.declared.sink.Failed.{Failed}
-use Rattle.brain_read.specs.declared.fault.BrainFault.{BrainFault}
-use Rattle.brain_read.specs.declared.fault.BrainFault.TheVariants as brain
 use Rattle.break_view.specs.declared.fault.BreakFault.{BreakFault}
 use Rattle.break_view.specs.declared.fault.BreakFault.TheVariants as breaks
 use Rattle.ant_commands.specs.Job.{Job}
-use Rattle.match_save.specs.declared.fault.SaveFault.{SaveFault}
-use Rattle.match_save.specs.declared.fault.SaveFault.TheVariants as save
-use Rattle.world_read.specs.declared.fault.WorldFault.{WorldFault}
-use Rattle.world_read.specs.declared.fault.WorldFault.TheVariants as world
-use Rattle.ant_commands.specs.declared.stop.FileFault.TheVariants.{TooLong, World, Brain, Breaks, Labelled, Save}
+use Rattle.text_fault.specs.declared.fault.TextFault.TheVariants.{TooLong}
+use Rattle.text_fault.specs.declared.stop.TextStop.{TextStop}
+use Rattle.text_fault.specs.declared.stop.TextStop.TheVariants as text
+use Rattle.ant_commands.specs.declared.stop.FileFault.TheVariants.{Breaks, Text}
 use Rattle.ant_commands.specs.declared.stop.CommandStop.{CommandStop}
 use Rattle.ant_commands.specs.Files.{File, FileKind, FileContent, AreAccepted, AreBegun, Reads, Refuses, StopsAt}
 use Rattle.ant_commands.specs.Verdict.{IsRefusedAs}
@@ -70,33 +65,24 @@ FetchesFile shelf new_shelf name (Err stop) = (kind : FileKind) → ReadsFiles s
 -- why a command stops at a fetch
 abbrev pub fetch_reason : List ℕ → FetchFault → Reason
 fetch_reason name answer.Failed = AtFile name
-fetch_reason name answer.TooLong = AtInput name TooLong
+fetch_reason name answer.TooLong = AtInput name (Text TooLong)
 fetch_reason name answer.OutOfMemory = AtMemory
 
--- why a command stops at the text of a world
-abbrev pub world_reason : List ℕ → WorldFault → Reason
-world_reason name world.OutOfMemory = AtMemory
-world_reason name fault = AtInput name (World fault)
+-- why a command stops at a text that isn't opened
+abbrev pub text_reason : List ℕ → TextStop → Reason
+text_reason name text.OutOfMemory = AtMemory
+text_reason name (text.Refused fault) = AtInput name (Text fault)
 
--- why a command stops at the text of a brain
-abbrev pub brain_reason : List ℕ → BrainFault → Reason
-brain_reason name brain.OutOfMemory = AtMemory
-brain_reason name fault = AtInput name (Brain fault)
+-- what a text was opened as, or why a command stops at the file of this name
+abbrev pub IsNamed : {V : Type 0} → List ℕ → Result V TextStop → Result V CommandStop → Type 0
+IsNamed name (Ok value) (Ok named) = named ≡ value
+IsNamed name (Err stop) (Err why) = reason_of why ≡ text_reason name stop
+IsNamed name opened result = ⊥
 
 -- why a command stops at the text of breaks
 abbrev pub break_reason : List ℕ → BreakFault → Reason
 break_reason name breaks.OutOfMemory = AtMemory
 break_reason name fault = AtInput name (Breaks fault)
-
--- why a command stops at the text of a labelled program
-abbrev pub labelled_reason : List ℕ → AsmFault → Reason
-labelled_reason name labelled.OutOfMemory = AtMemory
-labelled_reason name fault = AtInput name (Labelled fault)
-
--- why a command stops at the text of a save
-abbrev pub save_reason : List ℕ → SaveFault → Reason
-save_reason name save.OutOfMemory = AtMemory
-save_reason name fault = AtInput name (Save fault)
 
 -- why the reading of the bytes of a file of this kind and name stopped
 abbrev pub TextStops : FileKind → List ℕ → List ℕ → Reason → Type 0

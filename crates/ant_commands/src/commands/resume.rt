@@ -1,44 +1,22 @@
 // The command `resume`.
-ghost use Rattle.std.specs.Prelude.{◌≡◌, ◌≤◌, ◌∷◌, [], length};
+ghost use Rattle.std.specs.Prelude.{◌≤◌, ◌∷◌, [], length};
 ghost use Rattle.ant_base.specs.Shelf.{longest};
 ghost use Rattle.ant_commands.specs.Jobs.{resume_job};
 ghost use Rattle.ant_commands.specs.Setups.{ResumeWithin, plain_resume};
 ghost use Rattle.ant_commands.specs.Files.FileContent.{SaveContent};
 ghost use Rattle.ant_commands.specs.Files.FileKind.{SaveFile};
-ghost use Rattle.ant_commands.specs.Inner.Reading.{CarriesOut, ReadsFiles, ReadsText, ending_of, outcome_of, save_reason};
-ghost use Rattle.ant_commands.specs.Inner.Plans.{IsUpTo};
+ghost use Rattle.ant_commands.specs.Inner.Reading.{CarriesOut, ReadsFiles, ReadsText, ending_of, outcome_of};
 ghost use Rattle.ant_commands.specs.Outputs.{save_file};
-ghost use Rattle.ant_commands.specs.FaultLines.{reason_of};
 
 use crate::commands::run::dumps_of;
 use crate::commands::setups::ResumeOptions;
-use crate::files::fetch_file;
-use crate::stop::{CommandStop, FileFault, after_play};
+use crate::files::{fetch_file, named};
+use crate::stop::{CommandStop, after_play};
 use ant_base::{Shelf, Sink};
-use match_save::{SaveFault, Saved, read_saved, resume as go_on, resume_alone};
+use match_save::{Saved, resume as go_on, resume_alone};
 use round_book::Crew;
 use std::alloc::Global;
-
-// Why a command stops at the text of a save.
-fn save_stop<'w>(name: &'w str, fault: SaveFault) -> CommandStop<'w>
-    ensures { reason_of result ≡ save_reason name.now fault }
-{
-    match fault {
-        SaveFault::OutOfMemory => CommandStop::Memory,
-        other => CommandStop::Input(name, FileFault::Save(other)),
-    }
-}
-
-// The save, if at most so many rounds of it are done.
-fn up_to<'w>(name: &'w str, rounds: u32, saved: Saved) -> Result<Saved, CommandStop<'w>>
-    ensures { IsUpTo rounds name.now saved result }
-{
-    let round = saved.round();
-    if round > rounds {
-        return Err(CommandStop::Input(name, FileFault::AlreadyAt(round)));
-    }
-    Ok(saved)
-}
+use text_fault::open_save;
 
 // Reads the bytes of the file of this name as a save of which at most so many rounds are done.
 fn read_save<'w>(
@@ -50,10 +28,7 @@ fn read_save<'w>(
     requires { length bytes.now ≤ longest }
     ensures { ReadsText SaveContent (SaveFile rounds) bytes.now name.now result }
 {
-    match read_saved(alloc, bytes) {
-        Ok(saved) => up_to(name, rounds, saved),
-        Err(fault) => Err(save_stop(name, fault)),
-    }
+    named(name, open_save(alloc, bytes, rounds))
 }
 
 // The save of a file, of which at most so many rounds are done.

@@ -2,11 +2,11 @@
 ghost use Rattle.std.specs.Prelude.{◌≡◌};
 ghost use Rattle.command_words.specs.Command.{AskedWithin, plain};
 ghost use Rattle.command_words.specs.Table.{HasFile};
-ghost use Rattle.command_words.specs.declared.table.CommandKind.TheVariants.{Cup, Gen, Resume, Run, Save, Trace, View};
+ghost use Rattle.command_words.specs.declared.table.CommandKind.TheVariants.{Cup, Events, Gen, Profile, Resume, Run, Save, Trace, View};
 ghost use Rattle.command_words.specs.Words.{texts};
 ghost use Rattle.command_words.specs.declared.table.Choice.TheVariants.{Seed, Rounds, Workers, Games};
 ghost use Rattle.command_words.specs.declared.table.NameList.TheVariants.{Worlds, Brains};
-ghost use Rattle.ant_commands.specs.Setups.{CupWithin, SetupWithin, plain_resume, plain_setup, plain_trace, resume_of, save_setup_of, setup_of, shape_of, trace_of};
+ghost use Rattle.ant_commands.specs.Setups.{CupWithin, SetupWithin, plain_resume, plain_setup, plain_told, plain_trace, resume_of, save_setup_of, setup_of, shape_of, told_of, trace_of};
 
 use command_words::{Asked, Choice, DumpWord, NameList};
 
@@ -56,6 +56,23 @@ pub struct TracedGame<'w> {
     pub rounds: u32,
     /// the first round that is told, from 0 to 1,000,000; it may be above `rounds`
     pub from: u32,
+    /// how many foes surround an ant, from 4 to 6
+    pub surround: u8,
+    /// how many food particles a killed ant leaves, from 0 to 9
+    pub corpse: u8,
+    /// how many rounds an ant rests after a step, from 0 to 255
+    pub rest: u8,
+}
+
+/// A game of which its events or its profile are told.
+#[derive(Clone, Copy)]
+pub struct ToldGame<'w> {
+    /// the names of its files
+    pub names: FileNames<'w>,
+    /// the seed of the random numbers, from 0 to 4,294,967,295
+    pub seed: u32,
+    /// how many rounds are played, from 0 to 1,000,000
+    pub rounds: u32,
     /// how many foes surround an ant, from 4 to 6
     pub surround: u8,
     /// how many food particles a killed ant leaves, from 0 to 9
@@ -260,6 +277,44 @@ impl<'w> TracedGame<'w> {
             seed: asked.option(Choice::Seed),
             rounds: asked.option(Choice::Rounds),
             from: asked.option(Choice::From),
+            surround: asked.option(Choice::Surround) as u8,
+            corpse: asked.option(Choice::Corpse) as u8,
+            rest: asked.option(Choice::Rest) as u8,
+        }
+    }
+}
+
+impl<'w> ToldGame<'w> {
+    /// The game that `events` asks for.
+    pub fn of_events(asked: Asked<'w>) -> Self
+        requires { asked.kind ≡ Events }
+        ensures world { result.names.world.now ≡ (plain asked.entry).file 0 }
+        ensures red { result.names.red.now ≡ (plain asked.entry).file 1 }
+        ensures black { result.names.black.now ≡ (plain asked.entry).file 2 }
+        ensures options { plain_told result ≡ told_of (plain asked.entry) }
+    {
+        ToldGame {
+            names: FileNames::of(asked),
+            seed: asked.option(Choice::Seed),
+            rounds: asked.option(Choice::Rounds),
+            surround: asked.option(Choice::Surround) as u8,
+            corpse: asked.option(Choice::Corpse) as u8,
+            rest: asked.option(Choice::Rest) as u8,
+        }
+    }
+
+    /// The game that `profile` asks for.
+    pub fn of_profile(asked: Asked<'w>) -> Self
+        requires { asked.kind ≡ Profile }
+        ensures world { result.names.world.now ≡ (plain asked.entry).file 0 }
+        ensures red { result.names.red.now ≡ (plain asked.entry).file 1 }
+        ensures black { result.names.black.now ≡ (plain asked.entry).file 2 }
+        ensures options { plain_told result ≡ told_of (plain asked.entry) }
+    {
+        ToldGame {
+            names: FileNames::of(asked),
+            seed: asked.option(Choice::Seed),
+            rounds: asked.option(Choice::Rounds),
             surround: asked.option(Choice::Surround) as u8,
             corpse: asked.option(Choice::Corpse) as u8,
             rest: asked.option(Choice::Rest) as u8,

@@ -66,7 +66,7 @@ fn brain_of<R: Abort>(rt: &R, alloc: Global, text: &str) -> Result<Brain, Fail> 
 }
 
 // The brains of the game in which a surrounded ant dies.
-pub fn killing_players<R: Abort>(rt: &R, alloc: Global) -> Result<Players, Fail> {
+pub(super) fn killing_players<R: Abort>(rt: &R, alloc: Global) -> Result<Players, Fail> {
     let red = brain_of(rt, alloc, KILLING_ROUND.red)?;
     let black = brain_of(rt, alloc, KILLING_ROUND.black)?;
     Ok(Players { red, black })
@@ -89,7 +89,7 @@ fn field_on<'b>(
 }
 
 // A whole field at the start of the game in which a surrounded ant dies, with these brains.
-pub fn killing_field<'b, R: Abort>(
+pub(super) fn killing_field<'b, R: Abort>(
     rt: &R,
     alloc: Global,
     players: &'b Players,

@@ -1,5 +1,5 @@
-// The labels of programs with the states that they became, written out.
-use ant_asm::read_labels;
+// The labels of programs with the states that they became, and the lines of their states, written out.
+use ant_asm::{read_labels, read_state_lines};
 use ant_base::{Calls, LONGEST, Layout, MemSink};
 use std::alloc::Global;
 use std::process::Abort;
@@ -38,13 +38,40 @@ const LABELS: [(&str, &str); 9] = [
     ),
 ];
 
-// What is told of a program's labels.
-fn told<R: Abort>(rt: &R, alloc: Global, text: &str) -> Result<String, Fail> {
-    let bytes = text.as_bytes();
-    assert!(rt; bytes.len() <= LONGEST);
-    let labels = read_labels(alloc, bytes).expect(rt, "it is a program");
+/// A text, and the lines of its states.
+const LINES: [(&str, &str); 6] = [
+    ("Drop next", "0 1\n"),
+    // Labels and a block that is never used have no line, but count as lines.
+    (
+        "block idle\nDrop next\nend\n\nx:\ny:\nDrop x\nz:\n",
+        "0 7\n",
+    ),
+    // So do blank lines and comments. A line ends at LF, with or without CR; CR alone stands between tokens.
+    (
+        "; note\r\n\r\nBLOCK Up\r\n\n ; in\r\nDrop\rnext\r\nEND\n\t\r\nuse Up\nMove next next\r\nUSE Up",
+        "0 6 Up@9\n1 10\n2 6 Up@11\n",
+    ),
+    // Three blocks deep, and a block that is used in two others.
+    (
+        "block a\nDrop next\nend\nblock b\nTurn Left next\nuse a\nend\nblock c\nuse b\nDrop next\nuse a\nend\nDrop next\nuse c\non:\nDrop on\n",
+        "0 13\n1 5 c@14/b@9\n2 2 c@14/b@9/a@6\n3 10 c@14\n4 2 c@14/a@11\n5 16\n",
+    ),
+    // A block that is used four times by two uses of another.
+    (
+        "block left on\nturn:\nTurn Left on\nend\nblock half on\nuse left next\nmid:\nuse left on\nlast:\nend\nstart:\nuse half next\nuse half start\nstop:\n",
+        "0 3 half@12/left@6\n1 3 half@12/left@8\n2 3 half@13/left@6\n3 3 half@13/left@8\n",
+    ),
+    // Ten states and more.
+    (
+        "block go\nDrop next\nDrop next\nDrop next\nDrop next\nend\nuse go\nuse go\n; twice\nuse go\n",
+        "0 2 go@7\n1 3 go@7\n2 4 go@7\n3 5 go@7\n4 2 go@8\n5 3 go@8\n6 4 go@8\n7 5 go@8\n8 2 go@10\n9 3 go@10\n10 4 go@10\n11 5 go@10\n",
+    ),
+];
+
+// What is told of what was read.
+fn told<L: Layout, R: Abort>(rt: &R, alloc: Global, layout: &L) -> Result<String, Fail> {
     let mut sink = MemSink::with_room(alloc, ROOM, Calls::new(alloc))?;
-    assert!(rt; labels.push_to(&mut sink).is_ok());
+    assert!(rt; layout.push_to(&mut sink).is_ok());
     let lines = str::from_utf8(sink.held())?;
     Ok(format!(in alloc; "{lines}")?)
 }
@@ -52,7 +79,19 @@ fn told<R: Abort>(rt: &R, alloc: Global, text: &str) -> Result<String, Fail> {
 #[test]
 fn each_program_has_its_labels(rt: HostRuntime) -> Result<(), Fail> {
     for (text, lines) in LABELS {
-        assert_eq!(rt; told(&rt, rt.alloc(), text)?.as_str(), lines);
+        assert!(rt; text.len() <= LONGEST);
+        let labels = read_labels(rt.alloc(), text.as_bytes()).expect(&rt, "it is a program");
+        assert_eq!(rt; told(&rt, rt.alloc(), &labels)?.as_str(), lines);
+    }
+    Ok(())
+}
+
+#[test]
+fn each_program_has_its_lines(rt: HostRuntime) -> Result<(), Fail> {
+    for (text, lines) in LINES {
+        assert!(rt; text.len() <= LONGEST);
+        let states = read_state_lines(rt.alloc(), text.as_bytes()).expect(&rt, "it is a program");
+        assert_eq!(rt; told(&rt, rt.alloc(), &states)?.as_str(), lines);
     }
     Ok(())
 }

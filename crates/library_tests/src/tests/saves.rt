@@ -1,7 +1,7 @@
 // Texts of saves with what they are read as, written out.
 use ant_base::{Calls, LONGEST, MemSink};
 use match_run::{Dumps, MOST_ROUNDS, Rounds};
-use match_save::{SaveFault, Saved, read_saved, resume, write_saved};
+use match_save::{SaveFault, Saved, advance, read_saved, resume, write_saved};
 use round_book::SoloCrew;
 use std::alloc::Global;
 use std::process::Abort;
@@ -10,6 +10,10 @@ use std::test::Fail;
 // A game of one red ant after one round, in a world of 3 by 3 cells.
 const ROW: &str =
     "ants save 1\nseed 12345\nsheet 5 3 14\nwindow 16384\nround 1\nplace 0\ntaken 1 redone 0\nsize 3 3\nred 1\nTurn Left 0\nblack 1\nTurn Left 0\n###\n#+#\n###\n000\n000\n000\n000\n000\n000\n000\n000\n000\nant 0 red 1 1 5 0 0 0\nend\n";
+
+// The save of this game after round 3: the ant turned left twice more.
+const LATER_ROW: &str =
+    "ants save 1\nseed 12345\nsheet 5 3 14\nwindow 16384\nround 3\nplace 0\ntaken 3 redone 0\nsize 3 3\nred 1\nTurn Left 0\nblack 1\nTurn Left 0\n###\n#+#\n###\n000\n000\n000\n000\n000\n000\n000\n000\n000\nant 0 red 1 1 3 0 0 0\nend\n";
 
 // What is pushed of the row's game up to round 2, with the dumps of rounds 1 and 2 and with the counts.
 const REST: &str =
@@ -652,4 +656,32 @@ fn check_rest<R: Abort>(rt: &R, alloc: Global, rounds: u32, wanted: &str) -> Res
 fn a_save_goes_on_with_its_later_rounds(rt: HostRuntime) -> Result<(), Fail> {
     check_rest(&rt, rt.alloc(), 1, NO_REST)?;
     check_rest(&rt, rt.alloc(), 2, REST)
+}
+
+// A save that is advanced to so many rounds.
+fn advanced<R: Abort>(rt: &R, alloc: Global, saved: &Saved, rounds: u32) -> Saved {
+    assert!(rt; saved.round() <= rounds && rounds <= MOST_ROUNDS);
+    let later = advance(alloc, &mut SoloCrew::new(), saved, rounds);
+    later.expect(rt, "there is memory")
+}
+
+#[test]
+fn a_save_is_advanced_at_once_and_by_steps(rt: HostRuntime) -> Result<(), Fail> {
+    let text = ROW.as_bytes();
+    assert!(rt; text.len() <= LONGEST);
+    let first = read_saved(rt.alloc(), text).expect(&rt, "it is a save");
+    let second = advanced(&rt, rt.alloc(), &first, 2);
+    check_written(
+        &rt,
+        rt.alloc(),
+        &advanced(&rt, rt.alloc(), &second, 3),
+        LATER_ROW,
+    )?;
+    check_written(
+        &rt,
+        rt.alloc(),
+        &advanced(&rt, rt.alloc(), &first, 3),
+        LATER_ROW,
+    )?;
+    check_written(&rt, rt.alloc(), &advanced(&rt, rt.alloc(), &first, 1), ROW)
 }

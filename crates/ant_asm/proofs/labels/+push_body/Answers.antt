@@ -4,6 +4,7 @@ use Rattle.std.proofs.lemmas.Result.{err_from_is_err_and}
 use Rattle.std.proofs.Math.ListN.{drop_of_length-le}
 use Rattle.ant_base.proofs.Pushes.{all_of_nothing, all_then, front_more, front_then}
 use Rattle.ant_asm.specs.declared.named.NamedLine.{NamedLine}
+use Rattle.ant_asm.specs.Labels.{labels_text}
 use Rattle.ant_asm.specs.Labels.Outline.{Closed}
 use Rattle.ant_asm.specs.Inner.Outlines.{IsUseBelow, all_states, further, inner_states, line_before, outline_at, outline_size, outlines_of, own_states}
 use Rattle.ant_asm.specs.Inner.Ways.{steps_of}
@@ -62,7 +63,7 @@ returns-in_err-push_body-in-Use g t c =
     let p = err_from_is_err_and c.from_residual-in_err-push_body-in-Use.result c.from_residual-in_err-push_body-in-Use.ensures.1 in
     rw (p.1, labels_text-append (own_states (outline_at c.args.bodies.now c.args.number) c.args.base c.args.after way) (inner_states (outline_at c.args.bodies.now c.args.number) c.args.base c.args.after way))
     (front_then _ _ _ _ _ c.in_ok-push_own.ensures
-    (told-front _ _ (all_states (outline_at c.args.bodies.now c.in-Use.block) c.loop-line.next c.state_from.result (further way c.deref.result.now c.in-Use.line)) _ _ _ _ _ _ _ c.loop-line.invariant
+    (told-front _ _ (labels_text (all_states (outline_at c.args.bodies.now c.in-Use.block) c.loop-line.next c.state_from.result (further way c.deref.result.now c.in-Use.line))) _ _ _ _ _ _ _ c.loop-line.invariant
     c.in_err-push_body-in-Use.ensures
     (use-step a c.deref-line-items.result.now c.deref-line-items.ensures.value c.loop-line.line-index c.line-item.result c.loop-line-test.true c.line-item.is
     c.loop-line.next _ c.loop-line.invariant.ends c.requires.fits c.size_of.result c.size_of.ensures c.args.after way c.state_from.result
@@ -83,7 +84,7 @@ loop-line-preserved g t c =
       | in-Instruction w ↦ told-more _ _ [] _ _ _ _ _ _ _ _ c.loop-line.invariant (rw w.sink-is (all_of_nothing _))
           (plain-step a list c.deref-line-items.ensures.value c.loop-line.line-index c.line-item.result c.loop-line-test.true c.line-item.is at _ c.loop-line.invariant.ends c.requires.fits c.size_of.result c.size_of.ensures c.args.after way
           (λ follows. ap (λ (l : NamedLine). used_states (outlines_of c.args.bodies.now) l at follows way) w.in-Instruction.is)) ends
-      | in-Use+in_ok-push_body-in-Use w ↦ told-more _ _ (all_states (outline_at c.args.bodies.now w.in-Use.block) at w.state_from.result (further way w.deref.result.now w.in-Use.line)) _ _ _ _ _ _ _ _ c.loop-line.invariant
+      | in-Use+in_ok-push_body-in-Use w ↦ told-more _ _ (labels_text (all_states (outline_at c.args.bodies.now w.in-Use.block) at w.state_from.result (further way w.deref.result.now w.in-Use.line))) _ _ _ _ _ _ _ _ c.loop-line.invariant
           (rw w.sink-is w.in_ok-push_body-in-Use.ensures)
           (use-step a list c.deref-line-items.ensures.value c.loop-line.line-index c.line-item.result c.loop-line-test.true c.line-item.is at _ c.loop-line.invariant.ends c.requires.fits c.size_of.result c.size_of.ensures c.args.after way
           w.state_from.result

@@ -1,4 +1,5 @@
 use Rattle.std.proofs.Common.{◌+◌, drop}
+use Rattle.ant_asm.specs.Labels.{labels_text}
 use Rattle.ant_asm.specs.Labels.Outline.{Closed}
 use Rattle.ant_asm.specs.Inner.Outlines.{inner_states, lines_before, outline_at, outline_size, outlines_of}
 use Rattle.ant_asm.specs.Inner.Ways.{steps_of}
@@ -12,5 +13,5 @@ decreases-push_body g l = l.number
 -- the labels so far were told
 abbrev pub invariant-loop-line : goal.invariant-loop-line
 invariant-loop-line g l =
-    AreTold (λ outline at. inner_states outline at l.after (steps_of l.way)) (inner_states (outline_at l.bodies l.number) l.base l.after (steps_of l.way)) (l.base + outline_size (outline_at l.bodies l.number))
+    AreTold (λ outline at. labels_text (inner_states outline at l.after (steps_of l.way))) (labels_text (inner_states (outline_at l.bodies l.number) l.base l.after (steps_of l.way))) (l.base + outline_size (outline_at l.bodies l.number))
     (lines_before (outlines_of l.bodies) (drop l.line-index l.line-items) Closed) l.next (g.K.Sink.state l.initial.sink) (g.K.Sink.state l.sink)

@@ -1,6 +1,7 @@
 use Rattle.std.proofs.Common.{ℕ, ◌+◌, refl, ap, ◌∙◌, arith}
 use Rattle.std.specs.Prelude.{◌==◌, if◌then◌else◌}
 use Rattle.std.proofs.lemmas.Result.{err_from_is_err_and}
+use Rattle.ant_asm.specs.Labels.{labels_text}
 use Rattle.ant_asm.specs.Inner.Outlines.{label_of, line_size}
 use Rattle.ant_asm.specs.Inner.Ways.{steps_of}
 use Rattle.ant_asm.proofs.LabelSteps.{AtBody, body-size, next-ends, next-few, own-step, told-start, use-below}
@@ -33,7 +34,7 @@ returns-in_err-push_label g c =
     let a : AtBody c.args.bodies.now c.args.number c.index-bodies-number.result = record { good = c.requires.good; known = c.requires.known; is = c.index-bodies-number.is } in
     let p = err_from_is_err_and c.from_residual.result c.from_residual.ensures.1 in
     rw p.1
-    (told-front _ _ (label_of c.line-item.result c.state_from.result (steps_of c.args.way.now)) _ _ _ _ _ _ _ c.loop-line.invariant c.in_err-push_label.ensures
+    (told-front _ _ (labels_text (label_of c.line-item.result c.state_from.result (steps_of c.args.way.now))) _ _ _ _ _ _ _ c.loop-line.invariant c.in_err-push_label.ensures
     (own-step a c.deref-line-items.result.now c.deref-line-items.ensures.value c.loop-line.line-index c.line-item.result c.loop-line-test.true c.line-item.is
     c.loop-line.at _ c.loop-line.invariant.ends c.requires.fits (line_size c.args.bodies.now c.line-item.result) refl c.args.after (steps_of c.args.way.now) c.state_from.result
     (c.state_from.ensures ∙ ap (λ (n : ℕ). if c.loop-line.at == c.args.base + n then c.args.after else c.loop-line.at) (body-size a c.args.base c.requires.fits))))
@@ -41,7 +42,7 @@ returns-in_err-push_label g c =
 pub loop-line-preserved : goal.loop-line-preserved
 loop-line-preserved g c =
     let a : AtBody c.args.bodies.now c.args.number c.index-bodies-number.result = record { good = c.requires.good; known = c.requires.known; is = c.index-bodies-number.is } in
-    told-more _ _ (label_of c.line-item.result c.state_from.result (steps_of c.args.way.now)) _ _ _ _ _ _ _ _ c.loop-line.invariant c.in_ok-push_label.ensures
+    told-more _ _ (labels_text (label_of c.line-item.result c.state_from.result (steps_of c.args.way.now))) _ _ _ _ _ _ _ _ c.loop-line.invariant c.in_ok-push_label.ensures
     (own-step a c.deref-line-items.result.now c.deref-line-items.ensures.value c.loop-line.line-index c.line-item.result c.loop-line-test.true c.line-item.is
     c.loop-line.at _ c.loop-line.invariant.ends c.requires.fits c.size_of-at.result c.size_of-at.ensures c.args.after (steps_of c.args.way.now) c.state_from.result
     (c.state_from.ensures ∙ ap (λ (n : ℕ). if c.loop-line.at == c.args.base + n then c.args.after else c.loop-line.at) (body-size a c.args.base c.requires.fits)))

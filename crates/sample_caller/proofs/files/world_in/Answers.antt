@@ -1,8 +1,6 @@
--- the file was fetched, and what came was read; or it wasn't
-use Rattle.std.proofs.Common.{ℕ, List, subst}
+-- the file was fetched, and what came was opened; or it wasn't
 use Rattle.std.proofs.lemmas.Result.{err_from_is_err_and}
-use Rattle.sample_caller.specs.Files.{OpensWorld}
-use Rattle.sample_caller.specs.Files.ReadsWorld.{Opened, Unfetched}
+use Rattle.sample_caller.specs.Files.ReadsFile.{Opened, Unfetched}
 use Rattle.sample_caller.proofs.files.world_in.Goals as goal
 
 pub returns-in_err-bytes : goal.returns-in_err-bytes
@@ -11,6 +9,4 @@ returns-in_err-bytes g c =
     rw (p.1, p.2) (Unfetched c.in_err-bytes.field-0.0 c.in_err-bytes.ensures)
 
 pub returns : goal.returns
-returns g c =
-    Opened c.in_ok-bytes.bytes.items c.open_world.result c.in_ok-bytes.ensures.0
-    (subst (λ (bytes : List ℕ). OpensWorld c.args.name.now bytes c.open_world.result) c.deref.ensures.value c.open_world.ensures)
+returns g c = Opened c.in_ok-bytes.bytes.items c.open_world.result c.named.result c.in_ok-bytes.ensures.0 (rw (← c.deref.ensures.value) c.open_world.ensures.opens) c.named.ensures

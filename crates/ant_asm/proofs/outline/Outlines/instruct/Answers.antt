@@ -12,10 +12,10 @@ pub returns-clause-good : goal.returns-clause-good
 returns-clause-good c =
     let o = c.args.self.now in
     on_both c.add.result c.add.ensures.lines c.add.ensures.size (λ lines size.
-    current-good o c.add.new.self c.requires.good (good-push (outlines_of o.bodies.items) o.current c.add.new.self NamedLine.Instruction 1 c.requires.good.current lines size tt (λ few. refl)))
+    current-good o c.add.new.self c.requires.good (good-push (outlines_of o.bodies.items) o.current c.add.new.self (NamedLine.Instruction c.args.line) 1 c.requires.good.current lines size tt (λ few. refl)))
 
 pub returns-clause-on : goal.returns-clause-on
-returns-clause-on c = λ number action lines.
+returns-clause-on c = λ action lines.
     let o = c.args.self.now in
     on_ok c.add.result c.add.ensures.lines (λ is.
-    add-on o.bodies.items o.current c.add.new.self (blocks_named o.bodies.items o.blocks.entries) NamedLine.Instruction (At number (Instructs action)) lines o.around is refl (λ named. refl) refl)
+    add-on o.bodies.items o.current c.add.new.self (blocks_named o.bodies.items o.blocks.entries) (NamedLine.Instruction c.args.line) (At c.args.line (Instructs action)) lines o.around is refl (λ named. refl) refl)

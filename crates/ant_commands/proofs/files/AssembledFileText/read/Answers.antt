@@ -1,12 +1,10 @@
 -- the bytes are those of such a file, or have a fault
-use Rattle.std.proofs.Common.{false, sym, subst}
+use Rattle.std.proofs.Common.{false}
+use Rattle.ant_asm.specs.declared.assembly.Assembled.{Assembled}
+use Rattle.ant_commands.specs.Files.FileContent.{LabelledContent}
 use Rattle.ant_commands.specs.Files.FileKind.{LabelledFile}
-use Rattle.ant_commands.specs.Inner.Reading.{TextStops}
-use Rattle.ant_commands.proofs.Texts.{labelled_stops}
+use Rattle.ant_commands.proofs.Texts.{text_read}
 use Rattle.ant_commands.proofs.files.AssembledFileText.read.Goals as goal
 
-pub returns-in-Ok : goal.returns-in-Ok
-returns-in-Ok c = c.in-Ok.ensures.program
-
-pub returns-in-Err : goal.returns-in-Err
-returns-in-Err c = subst (TextStops (LabelledFile false) c.args.bytes.now c.args.name.now) (sym c.labelled_stop.ensures) (labelled_stops false c.args.name.now c.args.bytes.now c.in-Err.fault c.in-Err.ensures.fault)
+pub returns : goal.returns
+returns c = text_read (LabelledFile false) (λ (made : Assembled). LabelledContent made.brain made.places) _ _ _ _ _ _ c.requires c.open_program.ensures c.named.ensures (λ value is. is) (λ fault wrong. wrong)

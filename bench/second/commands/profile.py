@@ -1,0 +1,12 @@
+"""Random cases of `profile`."""
+from cases import SEED_AND_ROUNDS, SHEET
+from fights import case_of_game
+from kinds import command, kind
+
+command('profile', heads=[['profile', 'w', 'r', 'b']], limits={**SEED_AND_ROUNDS, **SHEET})
+
+
+@kind('profile')
+def case_of_profile(r):
+    """`profile`, now and then of a crowded game."""
+    return case_of_game(r, 'profile', .4)

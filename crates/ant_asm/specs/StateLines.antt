@@ -1,0 +1,92 @@
+-- In which line of its text the instruction of each state stands (this project's own).
+use Rattle.std.specs.Prelude.{◌≡◌, ℕ, zero, suc, List, [], ◌∷◌, ◌++◌, length, slice_get, Some, codes, decimal}
+use Rattle.ant_base.specs.Layout.{◌+++◌}
+use Rattle.line_tokens.specs.TokenLines.{TokenLine, lines_with_tokens}
+use Rattle.brain_read.specs.declared.instr.Instr.{Instr}
+use Rattle.ant_asm.specs.declared.action.Action.{Action}
+use Rattle.ant_asm.specs.Program.{Items}
+use Rattle.ant_asm.specs.Places.{Address, places}
+use Rattle.ant_asm.specs.LabelGame.{instruction_by}
+use Rattle.ant_asm.specs.Names.{Named}
+use Rattle.ant_asm.specs.Lines.{Says}
+use Rattle.ant_asm.specs.Lines.Line.{Instructs}
+use Rattle.ant_asm.specs.Labels.{AreSaid, NumberedLine, Outline, WayStep, outline_of}
+use Rattle.ant_asm.specs.Labels.Outline.{Closed, Labelled, Instructed, Used}
+use Rattle.ant_asm.specs.Text.{IsAsmText}
+use Rattle.ant_asm.specs.Answers.{IsAssembledText}
+
+-- where the instruction of a state stands: its line, and the uses on the way to its body
+pub record StateLine : Type 0 where
+  pub state : ℕ
+  pub line : ℕ
+  pub way : List WayStep
+
+-- the lines of a body from its k-th item on, without the labels before that item
+abbrev pub from_item : ℕ → Outline → Outline
+from_item k Closed = Closed
+from_item k (Labelled name others) = from_item k others
+from_item zero (Instructed line others) = Instructed line others
+from_item zero (Used line name block others) = Used line name block others
+from_item (suc k) (Instructed line others) = from_item k others
+from_item (suc k) (Used line name block others) = from_item k others
+
+-- Where the instruction stands to which the rest of an address leads, by the lines of a body from the item on to which the address has led, and
+-- the uses on the way. An item's next place is one in the block that it puts in place. No instruction is on line 0, since lines are counted from 1.
+abbrev pub line_from : ℕ → Address → Outline → List WayStep → StateLine
+line_from state [] (Instructed line others) way = record { state = state; line = line; way = way }
+line_from state (k ∷ address) (Used line name block others) way = line_from state address (from_item k block) (way ++ (record { name = name; line = line }) ∷ [])
+line_from state address others way = record { state = state; line = 0; way = way }
+
+-- where the instruction of a state stands, by its address and main's lines
+abbrev pub line_at : Outline → ℕ → Address → StateLine
+line_at main state [] = record { state = state; line = 0; way = [] }
+line_at main state (k ∷ address) = line_from state address (from_item k main) []
+
+-- where those of these addresses stand, the first of which is that of this state
+abbrev pub lines_at : Outline → ℕ → List Address → List StateLine
+lines_at main state [] = []
+lines_at main state (address ∷ addresses) = line_at main state address ∷ lines_at main (suc state) addresses
+
+-- where the instructions of a program stand whose lines say this: a brain's state is the number of its instruction's address among all, in order
+abbrev pub state_lines_of : Items → List NumberedLine → List StateLine
+state_lines_of main lines = lines_at (outline_of lines) 0 (places main)
+
+-- so stand those of the text's program
+pub record AreStateLinesOf (text : List ℕ) (list : List StateLine) : Type 0 where
+  pub main : Items
+  pub is : IsAsmText text main
+  pub lines : List NumberedLine
+  pub said : AreSaid (lines_with_tokens text) lines
+  pub are : list ≡ state_lines_of main lines
+
+-- the uses on the way: this stands before the first, and `/` before every other
+abbrev pub uses_text : List ℕ → List WayStep → List ℕ
+uses_text before [] = []
+uses_text before (step ∷ steps) = (before +++ step.name +++ codes "@" +++ decimal step.line) ++ uses_text (codes "/") steps
+
+-- the line of a state: its number, the line of its instruction, and the uses on the way
+abbrev pub state_line_text : StateLine → List ℕ
+state_line_text it = decimal it.state +++ codes " " +++ decimal it.line +++ uses_text (codes " ") it.way +++ codes "\n"
+
+-- a line for each state, in order
+abbrev pub state_lines_text : List StateLine → List ℕ
+state_lines_text [] = []
+state_lines_text (it ∷ others) = state_line_text it ++ state_lines_text others
+
+-- the line of this number in the text says this instruction, with a state for each of its labels
+pub record SaysInstruction (text : List ℕ) (number : ℕ) (instruction : Instr) : Type 0 where
+  pub place : ℕ
+  pub line : TokenLine
+  pub stands : slice_get (lines_with_tokens text) place ≡ Some line
+  pub numbered : line.number ≡ number
+  pub action : Action Named
+  pub says : Says line.tokens (Instructs action)
+  pub state : Named → ℕ
+  pub is : instruction ≡ instruction_by state action
+
+-- there is a line for each state of the brain to which the text is assembled, in order from 0, and it says the state's instruction
+pub record LineForEachState : Type 0 where
+  pub as_many : (text : List ℕ) (brain : List Instr) (list : List Address) (lines : List StateLine) → IsAssembledText text brain list → AreStateLinesOf text lines → length lines ≡ length brain
+  pub in_order : (text : List ℕ) (lines : List StateLine) (i : ℕ) (it : StateLine) → AreStateLinesOf text lines → slice_get lines i ≡ Some it → it.state ≡ i
+  pub says : (text : List ℕ) (brain : List Instr) (list : List Address) (lines : List StateLine) (i : ℕ) (it : StateLine) (instruction : Instr) → IsAssembledText text brain list → AreStateLinesOf text lines →
+      slice_get lines i ≡ Some it → slice_get brain i ≡ Some instruction → SaysInstruction text it.line instruction

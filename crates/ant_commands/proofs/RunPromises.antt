@@ -1,0 +1,393 @@
+-- Each `run` keeps its promise: what its status says follows from the law `headline`, and its words from the table.
+use Rattle.std.proofs.Common.{◌≡◌, ◌≢◌, ◌⊎◌, inl, inr, ℕ, Bool, true, false, List, [], ◌∷◌, ◌++◌, Option, Some, Result, Ok, Err, codes, refl, sym, ap, ◌∙◌, subst, lit<}
+use Rattle.std.specs.List.{Contains, flat_map}
+use Rattle.std.proofs.lemmas.Bool.{false≢true}
+use Rattle.std.proofs.lemmas.List.{append-nil, append_assoc}
+use Rattle.ant_base.specs.Fetched.{Fetched}
+use Rattle.ant_base.specs.Layout.{◌+++◌}
+use Rattle.ant_base.specs.Shelf.{FetchesEach, ShelfState}
+use Rattle.ant_base.specs.Sink.{Pushed, PushedAll, PushedFront, SinkState}
+use Rattle.ant_base.specs.declared.sink.Failed.{Failed}
+use Rattle.ant_base.specs.declared.shelf.FetchFault.{FetchFault}
+use Rattle.ant_base.specs.declared.shelf.FetchFault.TheVariants as why
+use Rattle.ant_turn.specs.Rounds.{start_of}
+use Rattle.cell_world.specs.Grid.{Grid, world_of}
+use Rattle.command_words.proofs.SaidLemmas as said_laws
+use Rattle.command_words.proofs.TableLemmas.{command_kind_of-word}
+use Rattle.command_words.proofs.WordLaws as words_laws
+use Rattle.command_words.specs.Command.{IsCommand, IsCommandOf, IsGiven, PlainAsked, asked_in, given_words, joined}
+use Rattle.command_words.specs.Inner.Walk.{command_kind_of}
+use Rattle.command_words.specs.Table.{option_of, word_of}
+use Rattle.command_words.specs.declared.table.CommandKind.{CommandKind}
+use Rattle.command_words.specs.declared.table.CommandKind.TheVariants.{Run}
+use Rattle.command_words.specs.declared.table.Choice.TheVariants as choice
+use Rattle.match_run.specs.Counts.{counts_text, totals_of, whole_text}
+use Rattle.match_run.specs.Play.{PushedProperPrefix}
+use Rattle.match_run.specs.Run.{run_text}
+use Rattle.ant_commands.specs.declared.stop.FileFault.{FileFault}
+use Rattle.ant_commands.specs.declared.stop.FileFault.TheVariants.{TooLong, World, Brain, Breaks, Labelled, Save, AlreadyAt}
+use Rattle.ant_commands.specs.Endings.{IsUnsure, StopsFor}
+use Rattle.ant_commands.specs.FaultLines.{Reason, fault_line, file_fault_text}
+use Rattle.ant_commands.specs.FaultLines.Reason.{AtFile, AtInput, AtMemory, AtOutput, AtRoom}
+use Rattle.ant_commands.specs.Files.{AreAccepted, AreBegun, File, FileContent, FileKind, IsAccepted, IsFetched, IsNoText, IsRefused, Reads}
+use Rattle.ant_commands.specs.Files.FileContent.{WorldContent, BrainContent, BreakContent, LabelledContent, LabelsContent, SaveContent}
+use Rattle.ant_commands.specs.Files.FileKind.{WorldFile, BrainFile}
+use Rattle.ant_commands.specs.Files as files
+use Rattle.ant_commands.specs.Headline.{KeepsPromise, NamesTheReason, PrintsTheGame}
+use Rattle.ant_commands.specs.Job.{IsJobText}
+use Rattle.ant_commands.specs.Jobs.{job_of, run_job}
+use Rattle.ant_commands.specs.Outputs.{ReadGame, brain_file, chosen_rounds, game_contents, game_files, match_output, minds_named, sheet_named, world_file}
+use Rattle.ant_commands.specs.Outside.{Outside}
+use Rattle.ant_commands.specs.Run.{GotLine, IsNoCommand, IsRunTo}
+use Rattle.ant_commands.specs.RunPromise.{GameSetup, HasLine, IsBrain, IsCutOff, IsNotAccepted, IsPrinted, IsRunOf, IsSomeRun, IsUnfit, IsUnread, IsWorld, Plays, RefusedWords, RunEnds, RunPromise, StopsAt, WantsMemory, fetch, game_text}
+use Rattle.ant_commands.specs.Setups.{RunSetup, setup_of}
+use Rattle.ant_commands.specs.Verdict.{IsRefusedAs}
+use Rattle.ant_commands.proofs.Headlines.{headline}
+use Rattle.ant_commands.proofs.RunWords.{IsTableRun, among_words, game_said, run_of_form, table_run}
+use Rattle.ant_commands.proofs.Texts.{never_both}
+
+-- what the options of a run say of its game
+abbrev game_of : RunSetup → GameSetup
+game_of setup = record { seed = setup.seed; rounds = setup.rounds; dumps = setup.dumps; sheet = sheet_named setup }
+
+-- without counts the output is the text of the game
+text_of_game : (setup : RunSetup) (read : ReadGame) → setup.stats ≡ false → match_output setup read ≡ game_text (game_of setup) read
+unfolding match_output whole_text
+text_of_game setup read off =
+    let text : List ℕ = run_text (minds_named setup read.red read.black) setup.seed setup.rounds (chosen_rounds setup.dumps) (world_of read.world) in
+    ap (λ (stats : Bool). text +++ counts_text stats (totals_of (minds_named setup read.red read.black) setup.seed setup.window (start_of (world_of read.world)) setup.rounds)) off
+    ∙ append-nil text
+
+-- the line of a fault, or a prefix of it
+has_line : (err new_err : SinkState) (line : List ℕ) → GotLine err new_err line → HasLine err new_err line
+has_line err new_err line got = go got.0 got.1 where
+  go : (result : Result (Unit {0}) Failed) → Pushed err new_err line result → HasLine err new_err line
+  go (Ok _) pushed = inl pushed
+  go (Err _) pushed = inr pushed
+
+-- three files that are accepted, and what was written of the text of their game
+plays_read : (IsWritten : SinkState → SinkState → List ℕ → Type 0) (world red black : List ℕ) (setup : RunSetup) (before after : Outside) (fetches : List Fetched) (read : ReadGame) (text : List ℕ)
+    → FetchesEach before.shelf after.shelf fetches → AreAccepted (game_files world red black) fetches (game_contents read) → text ≡ match_output setup read → setup.stats ≡ false
+    → IsWritten before.out after.out text → Plays IsWritten world red black (game_of setup) before after
+plays_read IsWritten world red black setup before after [] read text fetched are is off written = absurd are
+plays_read IsWritten world red black setup before after (a ∷ []) read text fetched are is off written = absurd are.1
+plays_read IsWritten world red black setup before after (a ∷ b ∷ []) read text fetched are is off written = absurd are.1.1
+plays_read IsWritten world red black setup before after (a ∷ b ∷ c ∷ fetches) read text fetched are is off written =
+    let x = are.0 in
+    let y = are.1.0 in
+    let z = are.1.1.0 in
+    let same : a ∷ b ∷ c ∷ fetches ≡ fetch world (Ok x.bytes) ∷ fetch red (Ok y.bytes) ∷ fetch black (Ok z.bytes) ∷ [] =
+    ap (λ (f : Fetched). f ∷ b ∷ c ∷ fetches) x.got ∙ ap (λ (f : Fetched). fetch world (Ok x.bytes) ∷ f ∷ c ∷ fetches) y.got
+    ∙ ap (λ (f : Fetched). fetch world (Ok x.bytes) ∷ fetch red (Ok y.bytes) ∷ f ∷ fetches) z.got
+    ∙ ap (λ (more : List Fetched). fetch world (Ok x.bytes) ∷ fetch red (Ok y.bytes) ∷ fetch black (Ok z.bytes) ∷ more) are.1.1.1.0 in
+    record {
+      first = x.bytes;
+      second = y.bytes;
+      third = z.bytes;
+      fetched = subst (FetchesEach before.shelf after.shelf) same fetched;
+      game = read;
+      is_world = x.reads;
+      is_red = y.reads;
+      is_black = z.reads;
+      written = subst (IsWritten before.out after.out) (is ∙ text_of_game setup read off) written;
+    }
+
+plays : (IsWritten : SinkState → SinkState → List ℕ → Type 0) (world red black : List ℕ) (setup : RunSetup) (before after : Outside) (fetches : List Fetched) (contents : List FileContent) (text : List ℕ)
+    → FetchesEach before.shelf after.shelf fetches → AreAccepted (game_files world red black) fetches contents → IsJobText (run_job world red black setup) contents text → setup.stats ≡ false
+    → IsWritten before.out after.out text → Plays IsWritten world red black (game_of setup) before after
+plays IsWritten world red black setup before after fetches contents text fetched are is off written =
+    plays_read IsWritten world red black setup before after fetches is.value text fetched (subst (AreAccepted (game_files world red black) fetches) is.read are) is.told off written
+
+-- status 0
+printed : (world red black : List ℕ) (setup : RunSetup) (before after : Outside) → setup.stats ≡ false → PrintsTheGame world red black setup before after
+    → IsPrinted world red black (game_of setup) before after
+unfolding run_text
+printed world red black setup before after off it =
+    let read : ReadGame = record { world = it.start; red = it.red_brain; black = it.black_brain } in
+    let whole : game_text (game_of setup) read +++ it.counts ≡ game_text (game_of setup) read =
+    ap (λ (counts : List ℕ). game_text (game_of setup) read +++ counts) (it.uncounted off) ∙ append-nil (game_text (game_of setup) read) in
+    record {
+      plays = record {
+        first = it.world_bytes;
+        second = it.red_bytes;
+        third = it.black_bytes;
+        fetched = it.fetched;
+        game = read;
+        is_world = it.is_world;
+        is_red = it.is_red;
+        is_black = it.is_black;
+        written = subst (PushedAll before.out after.out) whole it.written;
+      };
+      flushed = it.flushed;
+      silent = it.silent;
+    }
+
+-- what is read of a world's file is a world, and of a brain's a brain
+a_world : (bytes : List ℕ) (content : FileContent) → Reads WorldFile bytes content → IsWorld bytes
+a_world bytes (WorldContent grid) reads = (grid, reads)
+a_world bytes (BrainContent list) reads = absurd reads
+a_world bytes (BreakContent items) reads = absurd reads
+a_world bytes (LabelledContent brain places) reads = absurd reads
+a_world bytes (LabelsContent labels) reads = absurd reads
+a_world bytes (SaveContent saved) reads = absurd reads
+
+a_brain : (bytes : List ℕ) (content : FileContent) → Reads BrainFile bytes content → IsBrain bytes
+a_brain bytes (WorldContent grid) reads = absurd reads
+a_brain bytes (BrainContent list) reads = (list, reads)
+a_brain bytes (BreakContent items) reads = absurd reads
+a_brain bytes (LabelledContent brain places) reads = absurd reads
+a_brain bytes (LabelsContent labels) reads = absurd reads
+a_brain bytes (SaveContent saved) reads = absurd reads
+
+-- the last fetch of a run
+abbrev Answer : Type 0
+Answer = Result (List ℕ) FetchFault
+
+record IsLast (IsSuch : (List ℕ → Type 0) → List ℕ → Answer → Type 0) (IsText : List ℕ → Type 0) (name : List ℕ) (last : Fetched) : Type 0 where
+  answer : Answer
+  got : last ≡ fetch name answer
+  such : IsSuch IsText name answer
+
+-- a run that stopped at one of its files
+module _ (IsOld : File → Fetched → Type 0) (IsSuch : (List ℕ → Type 0) → List ℕ → Answer → Type 0)
+    (last_world : (name : List ℕ) (last : Fetched) → IsOld (world_file name) last → IsLast IsSuch IsWorld name last)
+    (last_brain : (name : List ℕ) (last : Fetched) → IsOld (brain_file name) last → IsLast IsSuch IsBrain name last)
+    (world red black : List ℕ) (before after : Outside) where
+  at_black : (first second : List ℕ) (fetches : List Fetched) → IsWorld first → IsBrain second
+      → FetchesEach before.shelf after.shelf (fetch world (Ok first) ∷ fetch red (Ok second) ∷ fetches)
+      → files.StopsAt IsOld (brain_file black ∷ []) fetches → StopsAt IsSuch world red black before after
+  at_black first second [] is_world is_brain fetched at = absurd at
+  at_black first second (c ∷ fetches) is_world is_brain fetched (inr later) = absurd later.2
+  at_black first second (c ∷ fetches) is_world is_brain fetched (inl here) =
+      let last : IsLast IsSuch IsBrain black c = last_brain black c here.0 in
+      let same : c ∷ fetches ≡ fetch black last.answer ∷ [] = ap (λ (f : Fetched). f ∷ fetches) last.got ∙ ap (λ (more : List Fetched). fetch black last.answer ∷ more) here.1 in
+      inr (inr (first, second, last.answer, subst (λ (fs : List Fetched). FetchesEach before.shelf after.shelf (fetch world (Ok first) ∷ fetch red (Ok second) ∷ fs)) same fetched, is_world, is_brain, last.such))
+
+  at_red : (first : List ℕ) (fetches : List Fetched) → IsWorld first → FetchesEach before.shelf after.shelf (fetch world (Ok first) ∷ fetches)
+      → files.StopsAt IsOld (brain_file red ∷ brain_file black ∷ []) fetches → StopsAt IsSuch world red black before after
+  at_red first [] is_world fetched at = absurd at
+  at_red first (b ∷ fetches) is_world fetched (inl here) =
+      let last : IsLast IsSuch IsBrain red b = last_brain red b here.0 in
+      let same : b ∷ fetches ≡ fetch red last.answer ∷ [] = ap (λ (f : Fetched). f ∷ fetches) last.got ∙ ap (λ (more : List Fetched). fetch red last.answer ∷ more) here.1 in
+      inr (inl (first, last.answer, subst (λ (fs : List Fetched). FetchesEach before.shelf after.shelf (fetch world (Ok first) ∷ fs)) same fetched, is_world, last.such))
+  at_red first (b ∷ fetches) is_world fetched (inr later) =
+      at_black first later.1.bytes fetches is_world (a_brain later.1.bytes later.0 later.1.reads)
+      (subst (λ (f : Fetched). FetchesEach before.shelf after.shelf (fetch world (Ok first) ∷ f ∷ fetches)) later.1.got fetched) later.2
+
+  stops : (fetches : List Fetched) → FetchesEach before.shelf after.shelf fetches → files.StopsAt IsOld (game_files world red black) fetches → StopsAt IsSuch world red black before after
+  stops [] fetched at = absurd at
+  stops (a ∷ fetches) fetched (inl here) =
+      let last : IsLast IsSuch IsWorld world a = last_world world a here.0 in
+      let same : a ∷ fetches ≡ fetch world last.answer ∷ [] = ap (λ (f : Fetched). f ∷ fetches) last.got ∙ ap (λ (more : List Fetched). fetch world last.answer ∷ more) here.1 in
+      inl (last.answer, subst (FetchesEach before.shelf after.shelf) same fetched, last.such)
+  stops (a ∷ fetches) fetched (inr later) =
+      at_red later.1.bytes fetches (a_world later.1.bytes later.0 later.1.reads)
+      (subst (λ (f : Fetched). FetchesEach before.shelf after.shelf (f ∷ fetches)) later.1.got fetched) later.2
+
+-- status 3
+last_unsure : (shelf : ShelfState) (name : List ℕ) (kind : FileKind) (IsText : List ℕ → Type 0) (other : List ℕ) (last : Fetched) → IsUnsure shelf name (record { name = other; kind = kind }) last
+    → IsLast (λ IsText last answer. (last ≡ name) × (answer ≡ Err why.Failed)) IsText other last
+last_unsure shelf name kind IsText other last is = record { answer = Err why.Failed; got = is.failed; such = (is.named, refl) }
+
+never_sure : (shelf : ShelfState) (name : List ℕ) (list : List File) (fetches : List Fetched) → files.StopsAt (IsUnsure shelf name) list fetches → shelf.sure name ≡ false
+never_sure shelf name [] fetches at = absurd at
+never_sure shelf name (file ∷ list) [] at = absurd at
+never_sure shelf name (file ∷ list) (fetch ∷ fetches) (inl here) = here.0.unsure
+never_sure shelf name (file ∷ list) (fetch ∷ fetches) (inr later) = never_sure shelf name list fetches later.2
+
+-- status 5
+last_unfit : (kind : FileKind) (IsText : List ℕ → Type 0) → ((bytes : List ℕ) → IsText bytes → (content : FileContent) × Reads kind bytes content)
+    → (other : List ℕ) (fault : FileFault) (last : Fetched) → IsRefused (record { name = other; kind = kind }) last fault
+    → IsLast (λ IsText last answer. IsUnfit IsText answer (file_fault_text fault)) IsText other last
+last_unfit kind IsText reads other fault last is = go fault is where
+  no_text : (fault : FileFault) → IsNoText (record { name = other; kind = kind }) last fault → IsLast (λ IsText last answer. IsUnfit IsText answer (file_fault_text fault)) IsText other last
+  no_text fault it = record { answer = Ok it.bytes; got = it.got; such = λ text. (let read = reads it.bytes text in never_both kind it.bytes read.0 fault read.1 it.refuses) }
+
+  go : (fault : FileFault) → IsRefused (record { name = other; kind = kind }) last fault → IsLast (λ IsText last answer. IsUnfit IsText answer (file_fault_text fault)) IsText other last
+  go TooLong is = record { answer = Err why.TooLong; got = is; such = (refl, refl) }
+  go (World fault) is = no_text (World fault) is
+  go (Brain fault) is = no_text (Brain fault) is
+  go (Breaks fault) is = no_text (Breaks fault) is
+  go (Labelled fault) is = no_text (Labelled fault) is
+  go (Save fault) is = no_text (Save fault) is
+  go (AlreadyAt round) is = no_text (AlreadyAt round) is
+
+last_refused : (kind : FileKind) (IsText : List ℕ → Type 0) → ((bytes : List ℕ) → IsText bytes → (content : FileContent) × Reads kind bytes content)
+    → (name other : List ℕ) (fault : FileFault) (last : Fetched) → IsRefusedAs name fault (record { name = other; kind = kind }) last
+    → IsLast (λ IsText last answer. (last ≡ name) × IsUnfit IsText answer (file_fault_text fault)) IsText other last
+last_refused kind IsText reads name other fault last is =
+    let unfit = last_unfit kind IsText reads other fault last is.refused in
+    record { answer = unfit.answer; got = unfit.got; such = (is.named, unfit.such) }
+
+read_world : (bytes : List ℕ) → IsWorld bytes → (content : FileContent) × Reads WorldFile bytes content
+read_world bytes is = (WorldContent is.0, is.1)
+
+read_brain : (bytes : List ℕ) → IsBrain bytes → (content : FileContent) × Reads BrainFile bytes content
+read_brain bytes is = (BrainContent is.0, is.1)
+
+-- status 6
+last_got : (kind : FileKind) (IsText : List ℕ → Type 0) (other : List ℕ) (last : Fetched) → IsFetched (record { name = other; kind = kind }) last → IsLast (λ IsText last answer. (answer ≢ Err why.Failed) × (answer ≢ Err why.TooLong)) IsText other last
+last_got kind IsText other last (inl got) = record { answer = Ok got.0; got = got.1; such = (λ e. cc, λ e. cc) }
+last_got kind IsText other last (inr want) = record { answer = Err why.OutOfMemory; got = want; such = (λ e. cc, λ e. cc) }
+
+begun_stops : (list : List File) (fetches : List Fetched) → AreBegun list fetches → (fetches ≡ []) ⊎ files.StopsAt IsFetched list fetches
+begun_stops [] fetches e = inl e
+begun_stops (file ∷ list) [] begun = inl refl
+begun_stops (file ∷ list) (fetch ∷ fetches) (inl here) = inr (inl here)
+begun_stops (file ∷ list) (fetch ∷ fetches) (inr later) = elim (begun_stops list fetches later.2) [
+  | inl none ↦ inr (inl (inl (later.1.bytes, later.1.got), none))
+  | inr rest ↦ inr (inr (later.0, later.1, rest))
+]
+
+-- a run that stopped for a reason
+record HasStopped (world red black : List ℕ) (setup : RunSetup) (before after : Outside) (reason : Reason) : Type 0 where
+  fetches : List Fetched
+  fetched : FetchesEach before.shelf after.shelf fetches
+  stopped : StopsFor (run_job world red black setup) before after fetches reason
+  line : GotLine before.err after.err (fault_line reason)
+
+unread : (world red black : List ℕ) (setup : RunSetup) (before after : Outside) (name : List ℕ) → HasStopped world red black setup before after (AtFile name) → IsUnread world red black before after
+unfolding fault_line
+unread world red black setup before after name it = record {
+  name = name;
+  stopped = stops (IsUnsure before.shelf name) (λ IsText last answer. (last ≡ name) × (answer ≡ Err why.Failed)) (last_unsure before.shelf name WorldFile IsWorld) (last_unsure before.shelf name BrainFile IsBrain)
+      world red black before after it.fetches it.fetched it.stopped.stopped;
+  unsure = never_sure before.shelf name (game_files world red black) it.fetches it.stopped.stopped;
+  rose = it.stopped.rose;
+  unwritten = it.stopped.unwritten;
+  line = subst (HasLine before.err after.err) (ap (λ (says : List ℕ). codes "ants: " +++ says) (append_assoc name (codes ": not read") (codes "\n"))) (has_line before.err after.err (fault_line (AtFile name)) it.line);
+}
+
+cut_off : (world red black : List ℕ) (setup : RunSetup) (before after : Outside) → setup.stats ≡ false → HasStopped world red black setup before after AtOutput
+    → IsCutOff world red black (game_of setup) before after
+unfolding fault_line
+cut_off world red black setup before after off it = record {
+  plays = plays PushedFront world red black setup before after it.fetches it.stopped.contents it.stopped.text it.fetched it.stopped.accepted it.stopped.is_text off it.stopped.cut;
+  line = has_line before.err after.err (fault_line AtOutput) it.line;
+}
+
+not_accepted : (world red black : List ℕ) (setup : RunSetup) (before after : Outside) (name : List ℕ) (fault : FileFault) → HasStopped world red black setup before after (AtInput name fault)
+    → IsNotAccepted world red black before after
+unfolding fault_line
+not_accepted world red black setup before after name fault it = record {
+  name = name;
+  says = file_fault_text fault;
+  stopped = stops (IsRefusedAs name fault) (λ IsText last answer. (last ≡ name) × IsUnfit IsText answer (file_fault_text fault))
+      (λ other last. last_refused WorldFile IsWorld read_world name other fault last) (λ other last. last_refused BrainFile IsBrain read_brain name other fault last)
+      world red black before after it.fetches it.fetched it.stopped.stopped;
+  unwritten = it.stopped.unwritten;
+  line = subst (HasLine before.err after.err) (ap (λ (says : List ℕ). codes "ants: " +++ says) (append_assoc name (codes ": " +++ file_fault_text fault) (codes "\n")))
+      (has_line before.err after.err (fault_line (AtInput name fault)) it.line);
+}
+
+-- memory was wanting before the text was begun, or after a proper prefix of it
+wants_memory : (world red black : List ℕ) (setup : RunSetup) (before after : Outside) → setup.stats ≡ false → HasStopped world red black setup before after AtMemory
+    → WantsMemory world red black (game_of setup) before after
+unfolding fault_line
+wants_memory world red black setup before after off it = record {
+  stopped = elim it.stopped [
+    | inl unbegun ↦ inl (
+      unbegun.unwritten,
+      elim (begun_stops (game_files world red black) it.fetches unbegun.begun) [
+        | inl none ↦ inl (subst (FetchesEach before.shelf after.shelf) none it.fetched)
+        | inr at ↦ inr (stops IsFetched (λ IsText last answer. (answer ≢ Err why.Failed) × (answer ≢ Err why.TooLong)) (last_got WorldFile IsWorld) (last_got BrainFile IsBrain)
+            world red black before after it.fetches it.fetched at)
+      ],
+    )
+    | inr broken ↦ inr (plays PushedProperPrefix world red black setup before after it.fetches broken.contents broken.text it.fetched broken.accepted broken.is_text off broken.broken)
+  ];
+  line = has_line before.err after.err (fault_line AtMemory) it.line;
+}
+
+-- what a command stopped for is what this run stopped for
+has_stopped : (words : List (List ℕ)) (before after : Outside) (reason : Reason) → IsCommand words (asked_in Run words) → NamesTheReason words before after reason
+    → HasStopped ((asked_in Run words).file 0) ((asked_in Run words).file 1) ((asked_in Run words).file 2) (setup_of (asked_in Run words)) before after reason
+has_stopped words before after reason is it = record {
+  fetches = it.fetches;
+  fetched = it.fetched;
+  stopped = subst (λ (command : PlainAsked). StopsFor (job_of command) before after it.fetches reason) (words_laws.one_command words it.command (asked_in Run words) it.is_command is) it.stopped;
+  line = it.line;
+}
+
+ends : (words : List (List ℕ)) (before after : Outside) (number : ℕ) → KeepsPromise words before after number → IsCommand words (asked_in Run words) → (asked_in Run words).has choice.Stats ≡ false
+    → RunEnds ((asked_in Run words).file 0) ((asked_in Run words).file 1) ((asked_in Run words).file 2) (game_said (asked_in Run words)) before after number
+ends words before after number keeps is off =
+    let asked : PlainAsked = asked_in Run words in
+    let world = asked.file 0 in
+    let red = asked.file 1 in
+    let black = asked.file 2 in
+    let setup : RunSetup = setup_of asked in
+    elim keeps.no_other [
+      | inl zero ↦ inl (zero, printed world red black setup before after off (keeps.game zero asked is refl).0)
+      | inr (inl two) ↦ absurd ((keeps.no_command two).none asked is)
+      | inr (inr (inl three)) ↦ (let it = keeps.not_read three in
+          inr (inl (three, unread world red black setup before after it.0 (has_stopped words before after (AtFile it.0) is it.1))))
+      | inr (inr (inr (inl four))) ↦ inr (inr (inl (four, cut_off world red black setup before after off (has_stopped words before after AtOutput is (keeps.output_failed four)))))
+      | inr (inr (inr (inr (inl five)))) ↦ elim (keeps.refused five) [
+        | inl it ↦ inr (inr (inr (inl (five, not_accepted world red black setup before after it.0 it.1 (has_stopped words before after (AtInput it.0 it.1) is it.2)))))
+        | inr it ↦ absurd ((has_stopped words before after (AtRoom it.0) is it.1).stopped.lacks)
+      ]
+      | inr (inr (inr (inr (inr six)))) ↦ inr (inr (inr (inr (six, wants_memory world red black setup before after off (has_stopped words before after AtMemory is (keeps.out_of_memory six))))))
+    ]
+
+kept : (words : List (List ℕ)) (world red black : List ℕ) (setup : GameSetup) → IsRunOf words world red black setup
+    → (before after : Outside) (number : ℕ) → IsRunTo words before after number → RunEnds world red black setup before after number
+kept words world red black setup is before after number run =
+    let it : IsTableRun words world red black setup = table_run words world red black setup is in
+    let asked : PlainAsked = asked_in Run words in
+    subst (λ (s : GameSetup). RunEnds world red black s before after number) it.said
+    (subst (λ (b : List ℕ). RunEnds world red b (game_said asked) before after number) it.black_is
+    (subst (λ (r : List ℕ). RunEnds world r (asked.file 2) (game_said asked) before after number) it.red_is
+    (subst (λ (w : List ℕ). RunEnds w (asked.file 1) (asked.file 2) (game_said asked) before after number) it.world_is
+    (ends words before after number (headline words before after number run) it.is it.uncounted))))
+
+-- words that weren't refused are a command
+commanded : (words : List (List ℕ)) (before after : Outside) (number : ℕ) → KeepsPromise words before after number → number ≢ 2 → (command : PlainAsked) × IsCommand words command
+commanded words before after number keeps other = elim keeps.no_other [
+  | inl zero ↦ (let it = keeps.printed zero in (it.command, it.is_command))
+  | inr (inl two) ↦ absurd (other two)
+  | inr (inr (inl three)) ↦ (let it = (keeps.not_read three).1 in (it.command, it.is_command))
+  | inr (inr (inr (inl four))) ↦ (let it = keeps.output_failed four in (it.command, it.is_command))
+  | inr (inr (inr (inr (inl five)))) ↦ elim (keeps.refused five) [ inl it ↦ (it.2.command, it.2.is_command) | inr it ↦ (it.1.command, it.1.is_command) ]
+  | inr (inr (inr (inr (inr six)))) ↦ (let it = keeps.out_of_memory six in (it.command, it.is_command))
+]
+
+-- a command that begins with `run` is one
+run_begins : (kind : CommandKind) → command_kind_of (word_of kind) ≡ Some kind → codes "run" ≡ word_of kind → kind ≡ Run
+unfolding command_kind_of
+run_begins kind known begins =
+    let one : Some Run ≡ Some kind = ap command_kind_of begins ∙ known in
+    cc
+
+every : (words : List (List ℕ)) (before after : Outside) (number : ℕ) → IsRunTo (codes "run" ∷ words) before after number → number ≢ 2 → ¬ Contains words (codes "--stats") → IsSomeRun (codes "run" ∷ words)
+every words before after number run other uncounted =
+    let is = (commanded (codes "run" ∷ words) before after number (headline (codes "run" ∷ words) before after number run) other).1 in
+    let begins : codes "run" ≡ word_of is.kind = (let whole = is.form.whole in cc) in
+    let rest : words ≡ joined is.front ++ flat_map given_words is.given = (let whole = is.form.whole in cc) in
+    let kind : is.kind ≡ Run = run_begins is.kind (command_kind_of-word is.kind is.form.known) begins in
+    run_of_form is.front is.given (codes "run" ∷ words) (subst (λ (k : CommandKind). IsCommandOf k is.front is.given (codes "run" ∷ words)) kind is.form)
+    (λ has. uncounted (subst (λ (ws : List (List ℕ)). Contains ws (option_of choice.Stats)) (sym rest) (among_words (joined is.front) is.given choice.Stats has)))
+
+pub run_promise : RunPromise
+run_promise = record { kept = kept; every = every }
+
+accepted : (words : List (List ℕ)) (asked : PlainAsked) → IsCommand words asked → asked.kind ≡ Run → asked.has choice.Stats ≡ false → IsSomeRun words
+accepted words asked is run off =
+    let kind : is.kind ≡ Run = ap (λ (a : PlainAsked). a.kind) is.says ∙ run in
+    run_of_form is.front is.given words (subst (λ (k : CommandKind). IsCommandOf k is.front is.given words) kind is.form)
+    (λ has. false≢true (sym off ∙ said_laws.says_its_words.given words asked is choice.Stats has))
+
+pub refused_words : RefusedWords
+refused_words = record {
+  refused = λ words before after number run none.
+      let keeps = headline words before after number run in
+      elim keeps.no_other [
+        | inl zero ↦ absurd (none (keeps.printed zero).command (keeps.printed zero).is_command)
+        | inr (inl two) ↦ (two, keeps.no_command two)
+        | inr (inr (inl three)) ↦ (let it = (keeps.not_read three).1 in absurd (none it.command it.is_command))
+        | inr (inr (inr (inl four))) ↦ (let it = keeps.output_failed four in absurd (none it.command it.is_command))
+        | inr (inr (inr (inr (inl five)))) ↦ elim (keeps.refused five) [ inl it ↦ absurd (none it.2.command it.2.is_command) | inr it ↦ absurd (none it.1.command it.1.is_command) ]
+        | inr (inr (inr (inr (inr six)))) ↦ (let it = keeps.out_of_memory six in absurd (none it.command it.is_command))
+      ];
+  accepted = accepted;
+}

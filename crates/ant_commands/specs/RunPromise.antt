@@ -1,0 +1,224 @@
+-- The promise of one `run` without `--stats`, to be read from the top down: its words, its files, and what each exit status says (this project's
+-- own). The law `run_promise` says that each run of the program keeps it. `IsRunTo` is what the call that `main` makes ensures. The rules of the
+-- game, the texts of a world and of a brain, and what a shelf and a sink tell are definitions of other crates.
+use Rattle.std.specs.Prelude.{◌≡◌, ◌≢◌, ◌⊎◌, ℕ, ◌≤◌, true, false, ⊤, List, [], ◌∷◌, ◌++◌, map, Option, Some, Result, Ok, Err, codes}
+use Rattle.std.specs.List.{AllByRecursion, AllZip, Contains}
+use Rattle.ant_base.specs.Faults.{Rose}
+use Rattle.ant_base.specs.Fetched.{Fetched}
+use Rattle.ant_base.specs.Layout.{◌+++◌}
+use Rattle.ant_base.specs.Number.{decimal_value}
+use Rattle.ant_base.specs.Shelf.{FetchesEach}
+use Rattle.ant_base.specs.Sink.{NothingWaits, PushedAll, PushedFront, SinkState}
+use Rattle.ant_base.specs.declared.shelf.FetchFault.{FetchFault}
+use Rattle.ant_base.specs.declared.shelf.FetchFault.TheVariants.{Failed, TooLong}
+use Rattle.ant_turn.specs.Sheet.{Sheet, contest}
+use Rattle.brain_read.specs.declared.instr.Instr.{Instr}
+use Rattle.brain_read.specs.Grammar.{IsBrainText}
+use Rattle.cell_world.specs.Grid.{Grid, world_of}
+use Rattle.command_words.specs.Command.{PlainAsked, IsCommand}
+use Rattle.command_words.specs.Slots.{AllDiffer, DumpChoice, is_file_name, pieces_of}
+use Rattle.command_words.specs.Slots.DumpChoice.{NoDump, EveryDump, ChosenDumps}
+use Rattle.command_words.specs.declared.table.CommandKind.TheVariants.{Run}
+use Rattle.command_words.specs.declared.table.Choice.TheVariants.{Stats}
+use Rattle.match_run.specs.Play.{PushedProperPrefix}
+use Rattle.match_run.specs.Run.{run_text}
+use Rattle.world_read.specs.Opened.{OpensAs}
+use Rattle.ant_commands.specs.Headline.{NamesTheWord}
+use Rattle.ant_commands.specs.Outputs.{ReadGame, chosen_rounds}
+use Rattle.ant_commands.specs.Outside.{Outside}
+use Rattle.ant_commands.specs.Run.{IsNoCommand, IsRunTo}
+
+-- an option of a `run`, with what it says
+pub data RunOption : Type 0 where
+  Seed : ℕ → RunOption
+  Rounds : ℕ → RunOption
+  Dump : DumpChoice → RunOption
+  Workers : ℕ → RunOption
+  Window : ℕ → RunOption
+  Surround : ℕ → RunOption
+  Corpse : ℕ → RunOption
+  Rest : ℕ → RunOption
+  Far : RunOption
+
+-- the word that names an option
+abbrev pub name_of : RunOption → List ℕ
+name_of (Seed number) = codes "--seed"
+name_of (Rounds number) = codes "--rounds"
+name_of (Dump dumps) = codes "--dump"
+name_of (Workers number) = codes "--workers"
+name_of (Window number) = codes "--window"
+name_of (Surround number) = codes "--surround"
+name_of (Corpse number) = codes "--corpse"
+name_of (Rest number) = codes "--rest"
+name_of Far = codes "--far"
+
+-- a word is 1 to 10 decimal digits of a number that is neither below the least nor above the greatest
+abbrev pub IsNumber : ℕ → ℕ → ℕ → List ℕ → Type 0
+IsNumber least greatest number word = (decimal_value word ≡ Some number) × (least ≤ number) × (number ≤ greatest)
+
+-- a word chooses the rounds that are dumped: `none`, `all`, or their numbers with one comma between them
+abbrev pub IsDumps : DumpChoice → List ℕ → Type 0
+IsDumps NoDump word = word ≡ codes "none"
+IsDumps EveryDump word = word ≡ codes "all"
+IsDumps (ChosenDumps rounds) word = AllZip (IsNumber 0 1000000) rounds (pieces_of word)
+
+-- what stands behind an option's name: one word, and nothing behind `--far`
+abbrev pub IsValue : RunOption → List (List ℕ) → Type 0
+IsValue (Seed number) (word ∷ []) = IsNumber 0 4294967295 number word
+IsValue (Rounds number) (word ∷ []) = IsNumber 0 1000000 number word
+IsValue (Dump dumps) (word ∷ []) = IsDumps dumps word
+IsValue (Workers number) (word ∷ []) = IsNumber 1 16 number word
+IsValue (Window number) (word ∷ []) = IsNumber 1 16384 number word
+IsValue (Surround number) (word ∷ []) = IsNumber 4 6 number word
+IsValue (Corpse number) (word ∷ []) = IsNumber 0 9 number word
+IsValue (Rest number) (word ∷ []) = IsNumber 0 255 number word
+IsValue Far [] = Unit {0}
+IsValue option words = ⊥
+
+-- the words are those of the options, one after another
+abbrev pub AreOptions : List RunOption → List (List ℕ) → Type 0
+AreOptions [] words = words ≡ []
+AreOptions (option ∷ options) words =
+    (value : List (List ℕ)) × (more : List (List ℕ)) × (words ≡ name_of option ∷ (value ++ more)) × IsValue option value × AreOptions options more
+
+-- what the options say of the game: the seed, how many rounds are played, which are dumped, and the numbers of the rules
+pub record GameSetup : Type 0 where
+  pub seed : ℕ
+  pub rounds : ℕ
+  pub dumps : DumpChoice
+  pub sheet : Sheet
+
+-- what an option changes; how many workers there are, how far they look ahead and `--far` change nothing
+abbrev pub with_option : RunOption → GameSetup → GameSetup
+with_option (Seed number) setup = record setup { seed = number }
+with_option (Rounds number) setup = record setup { rounds = number }
+with_option (Dump dumps) setup = record setup { dumps = dumps }
+with_option (Surround number) setup = record setup { sheet = record setup.sheet { surround = number } }
+with_option (Corpse number) setup = record setup { sheet = record setup.sheet { corpse = number } }
+with_option (Rest number) setup = record setup { sheet = record setup.sheet { rest = number } }
+with_option option setup = setup
+
+-- what options say; where none says otherwise, nothing is dumped and the rules are the contest's. The seed and the rounds are always said
+abbrev pub setup_said : List RunOption → GameSetup
+setup_said [] = record { seed = 0; rounds = 0; dumps = NoDump; sheet = contest }
+setup_said (option ∷ options) = with_option option (setup_said options)
+
+-- the words are `run`, the names of three files, and options in any order, each at most once, the seed and the rounds among them
+pub record IsRunOf (words : List (List ℕ)) (world red black : List ℕ) (setup : GameSetup) : Type 0 where
+  pub options : List RunOption
+  pub behind : List (List ℕ)
+  pub whole : words ≡ codes "run" ∷ world ∷ red ∷ black ∷ behind
+  pub names : AllByRecursion (λ name. is_file_name name ≡ true) (world ∷ red ∷ black ∷ [])
+  pub spelled : AreOptions options behind
+  pub once : AllDiffer (map name_of options)
+  pub seeded : Contains (map name_of options) (codes "--seed")
+  pub limited : Contains (map name_of options) (codes "--rounds")
+  pub said : setup ≡ setup_said options
+
+-- a fetch: the name that was asked for, and what was answered
+abbrev pub fetch : List ℕ → Result (List ℕ) FetchFault → Fetched
+fetch name answer = record { name = name; answer = answer }
+
+-- bytes are the text of a world, or of a brain
+abbrev pub IsWorld : List ℕ → Type 0
+IsWorld bytes = (world : Grid) × OpensAs bytes world
+
+abbrev pub IsBrain : List ℕ → Type 0
+IsBrain bytes = (brain : List Instr) × IsBrainText bytes brain
+
+-- the files up to one were fetched, in this order: it was answered in such a way, and those before it are a world and a brain
+abbrev pub StopsAt : ((List ℕ → Type 0) → List ℕ → Result (List ℕ) FetchFault → Type 0) → List ℕ → List ℕ → List ℕ → Outside → Outside → Type 0
+StopsAt IsSuch world red black before after =
+    ((answer : Result (List ℕ) FetchFault) × FetchesEach before.shelf after.shelf (fetch world answer ∷ []) × IsSuch IsWorld world answer)
+    ⊎ ((first : List ℕ) × (answer : Result (List ℕ) FetchFault) × FetchesEach before.shelf after.shelf (fetch world (Ok first) ∷ fetch red answer ∷ [])
+    × IsWorld first × IsSuch IsBrain red answer)
+    ⊎ ((first : List ℕ) × (second : List ℕ) × (answer : Result (List ℕ) FetchFault)
+    × FetchesEach before.shelf after.shelf (fetch world (Ok first) ∷ fetch red (Ok second) ∷ fetch black answer ∷ [])
+    × IsWorld first × IsBrain second × IsSuch IsBrain black answer)
+
+-- the text of the game: the line of the seed, the dumps of the chosen rounds, and the score
+abbrev pub game_text : GameSetup → ReadGame → List ℕ
+game_text setup game = run_text (record { red = game.red; black = game.black; sheet = setup.sheet }) setup.seed setup.rounds (chosen_rounds setup.dumps) (world_of game.world)
+
+-- the three files were fetched, in this order and no other; they are a world and two brains, and of the text of their game so much was written
+pub record Plays (IsWritten : SinkState → SinkState → List ℕ → Type 0) (world red black : List ℕ) (setup : GameSetup) (before after : Outside) : Type 0 where
+  pub first : List ℕ
+  pub second : List ℕ
+  pub third : List ℕ
+  pub fetched : FetchesEach before.shelf after.shelf (fetch world (Ok first) ∷ fetch red (Ok second) ∷ fetch black (Ok third) ∷ [])
+  pub game : ReadGame
+  pub is_world : OpensAs first game.world
+  pub is_red : IsBrainText second game.red
+  pub is_black : IsBrainText third game.black
+  pub written : IsWritten before.out after.out (game_text setup game)
+
+-- the errors got this line, or a prefix of it where they failed
+abbrev pub HasLine : SinkState → SinkState → List ℕ → Type 0
+HasLine err new_err line = PushedAll err new_err line ⊎ PushedFront err new_err line
+
+-- 0: the whole text was written; where the output can tell, all of it was flushed. The errors got nothing
+pub record IsPrinted (world red black : List ℕ) (setup : GameSetup) (before after : Outside) : Type 0 where
+  pub plays : Plays PushedAll world red black setup before after
+  pub flushed : NothingWaits after.out.waiting
+  pub silent : after.err ≡ before.err
+
+-- 3: a file was not read: its fetch failed, of which the shelf wasn't sure, and the shelf's count of faults rose; nothing was written
+pub record IsUnread (world red black : List ℕ) (before after : Outside) : Type 0 where
+  pub name : List ℕ
+  pub stopped : StopsAt (λ IsText last answer. (last ≡ name) × (answer ≡ Err Failed)) world red black before after
+  pub unsure : before.shelf.sure name ≡ false
+  pub rose : Rose before.shelf.faults after.shelf.faults
+  pub unwritten : after.out ≡ before.out
+  pub line : HasLine before.err after.err (codes "ants: " +++ name +++ codes ": not read\n")
+
+-- 4: the output failed after a prefix of the text
+pub record IsCutOff (world red black : List ℕ) (setup : GameSetup) (before after : Outside) : Type 0 where
+  pub plays : Plays PushedFront world red black setup before after
+  pub line : HasLine before.err after.err (codes "ants: output failed\n")
+
+-- bytes that are no such text, or too many bytes; and what is said of them
+abbrev pub IsUnfit : (List ℕ → Type 0) → Result (List ℕ) FetchFault → List ℕ → Type 0
+IsUnfit IsText (Ok bytes) says = ¬ IsText bytes
+IsUnfit IsText (Err fault) says = (fault ≡ TooLong) × (says ≡ codes "too long")
+
+-- 5: a file is no world or no brain, or too long; nothing was written. The line names the file and what is wrong with it: which fault is said of
+-- which text is left to the law `headline`
+pub record IsNotAccepted (world red black : List ℕ) (before after : Outside) : Type 0 where
+  pub name : List ℕ
+  pub says : List ℕ
+  pub stopped : StopsAt (λ IsText last answer. (last ≡ name) × IsUnfit IsText answer says) world red black before after
+  pub unwritten : after.out ≡ before.out
+  pub line : HasLine before.err after.err (codes "ants: " +++ name +++ codes ": " +++ says +++ codes "\n")
+
+-- 6: memory could not be had, before the text was begun or after a proper prefix of it; no fetch failed or was too long
+pub record WantsMemory (world red black : List ℕ) (setup : GameSetup) (before after : Outside) : Type 0 where
+  pub stopped : ((after.out ≡ before.out)
+      × (FetchesEach before.shelf after.shelf [] ⊎ StopsAt (λ IsText last answer. (answer ≢ Err Failed) × (answer ≢ Err TooLong)) world red black before after))
+      ⊎ Plays PushedProperPrefix world red black setup before after
+  pub line : HasLine before.err after.err (codes "ants: out of memory\n")
+
+-- how a run ends: with one of five statuses, and what each says
+abbrev pub RunEnds : List ℕ → List ℕ → List ℕ → GameSetup → Outside → Outside → ℕ → Type 0
+RunEnds world red black setup before after number =
+    ((number ≡ 0) × IsPrinted world red black setup before after)
+    ⊎ ((number ≡ 3) × IsUnread world red black before after)
+    ⊎ ((number ≡ 4) × IsCutOff world red black setup before after)
+    ⊎ ((number ≡ 5) × IsNotAccepted world red black before after)
+    ⊎ ((number ≡ 6) × WantsMemory world red black setup before after)
+
+-- the words are a `run` of some files with some setup
+abbrev pub IsSomeRun : List (List ℕ) → Type 0
+IsSomeRun words = (world : List ℕ) × (red : List ℕ) × (black : List ℕ) × (setup : GameSetup) × IsRunOf words world red black setup
+
+-- the promise of a run: it ends so; and whatever begins with `run` and is neither refused (status 2) nor has `--stats` is one
+pub record RunPromise : Type 0 where
+  pub kept : (words : List (List ℕ)) (world red black : List ℕ) (setup : GameSetup) → IsRunOf words world red black setup
+      → (before after : Outside) (number : ℕ) → IsRunTo words before after number → RunEnds world red black setup before after number
+  pub every : (words : List (List ℕ)) (before after : Outside) (number : ℕ) → IsRunTo (codes "run" ∷ words) before after number → number ≢ 2
+      → ¬ Contains words (codes "--stats") → IsSomeRun (codes "run" ∷ words)
+
+-- words that are no command end with status 2 at the refused word; and what the table of commands has as a `run` without `--stats` is one
+pub record RefusedWords : Type 0 where
+  pub refused : (words : List (List ℕ)) (before after : Outside) (number : ℕ) → IsRunTo words before after number → IsNoCommand words
+      → (number ≡ 2) × NamesTheWord words before after
+  pub accepted : (words : List (List ℕ)) (asked : PlainAsked) → IsCommand words asked → asked.kind ≡ Run → asked.has Stats ≡ false → IsSomeRun words

@@ -1,0 +1,55 @@
+// The command `events`.
+ghost use Rattle.std.specs.Prelude.{◌≤◌};
+ghost use Rattle.ant_base.specs.Sink.{Pushed};
+ghost use Rattle.ant_turn.specs.Minds.{Fits};
+ghost use Rattle.cell_world.specs.Grid.{world_of};
+ghost use Rattle.ant_commands.specs.Jobs.{events_job};
+ghost use Rattle.ant_commands.specs.Setups.{ToldWithin, plain_told};
+ghost use Rattle.game_tellings.specs.Events.{events_text};
+ghost use Rattle.match_run.specs.Run.{most_rounds};
+ghost use Rattle.ant_commands.specs.Inner.Plans.{minds_by};
+ghost use Rattle.ant_commands.specs.Inner.Reading.{CarriesOut, ending_of};
+
+use crate::commands::run::{Setting, setting_of};
+use crate::commands::setups::ToldGame;
+use crate::stop::{CommandStop, after_push};
+use ant_base::{Failed, Shelf, Sink};
+use ant_turn::{Brains, Sheet};
+use std::alloc::Global;
+
+// Plays a game, and pushes who died in it and how the score went.
+fn push_events<K: Sink>(
+    setting: Setting,
+    sheet: Sheet,
+    seed: u32,
+    rounds: u32,
+    out: &mut K,
+) -> Result<(), Failed>
+    requires fit { Fits (world_of setting.world) (minds_by setting sheet) }
+    requires few_rounds { rounds ≤ most_rounds }
+    ensures { Pushed (K.state out.old) (K.state out.new) (events_text (minds_by setting sheet) seed (world_of setting.world) rounds) result }
+{
+    let Setting { world, red, black } = setting;
+    let brains = Brains {
+        red: &red,
+        black: &black,
+        sheet,
+    };
+    game_tellings::events(world, brains, seed, rounds, out)
+}
+
+/// Plays a game turn by turn, and writes who died in it and how the score went.
+pub fn events<'w, S: Shelf, K: Sink>(
+    alloc: Global,
+    game: ToldGame<'w>,
+    shelf: &mut S,
+    out: &mut K,
+) -> Result<(), CommandStop<'w>>
+    requires { ToldWithin (plain_told game) }
+    ensures { CarriesOut (events_job game.entry.names.world.now game.entry.names.red.now game.entry.names.black.now (plain_told game.entry))
+        (S.state shelf.old) (S.state shelf.new) (K.state out.old) (K.state out.new) (ending_of result) }
+{
+    let sheet = Sheet::new(game.surround, game.corpse, game.rest);
+    let setting = setting_of(alloc, game.names, shelf)?;
+    after_push(push_events(setting, sheet, game.seed, game.rounds, out))
+}

@@ -1,0 +1,139 @@
+// The commands `events` and `profile`.
+use crate::commands::{CLOSING, CutRun, Given, Job, NO_JOB, Table, check_cuts, check_rows};
+use ant_commands::Status;
+use std::test::Fail;
+
+// A game in whose first round ant 1 steps beside ant 2, which then has five foes around it.
+const AMBUSH: Job<'static> = Job {
+    line: "",
+    world: CLOSING,
+    red: "Flip 2 0 0",
+    black: "Move 0 0",
+    ..NO_JOB
+};
+
+// Words, and what is told: of no round, of a death and the score that it makes, of a death without food, of more food, and of six foes, which
+// nobody has.
+const EVENTS: [(&str, &str); 5] = [
+    (
+        "events w r b --seed 12345 --rounds 0",
+        "random seed: 12345\n",
+    ),
+    (
+        "events w r b --rounds 9 --seed 12345",
+        "random seed: 12345\nround 1, black ant 1: red ant 2 dies on (3, 3)\nround 1, black ant 1: score: red 3 black 0\n",
+    ),
+    (
+        "events w r b --corpse 0 --rounds 9 --seed 12345",
+        "random seed: 12345\nround 1, black ant 1: red ant 2 dies on (3, 3)\n",
+    ),
+    (
+        "events - r b --corpse 9 --rest 3 --rounds 1 --seed 7",
+        "random seed: 7\nround 1, black ant 1: red ant 2 dies on (3, 3)\nround 1, black ant 1: score: red 9 black 0\n",
+    ),
+    (
+        "events w r b --surround 6 --rounds 9 --seed 12345",
+        "random seed: 12345\n",
+    ),
+];
+
+// The first two numbers of this seed are odd and even. Red ant 2 dies before its turn, black ant 1 rests behind its step or goes on, and the
+// other black ants are blocked.
+const PROFILES: [(&str, &str); 5] = [
+    (
+        "profile w r b --seed 12345 --rounds 0",
+        "random seed: 12345\nred 0: 0 times, 0 met: Flip 2 0 0\nblack 0: 0 times, 0 met: Move 0 0\n",
+    ),
+    (
+        "profile w r b --rounds 1 --seed 12345",
+        "random seed: 12345\nred 0: 1 times, 0 met: Flip 2 0 0\nblack 0: 5 times, 1 met: Move 0 0\n",
+    ),
+    (
+        "profile w r b --rounds 2 --seed 12345",
+        "random seed: 12345\nred 0: 2 times, 1 met: Flip 2 0 0\nblack 0: 9 times, 1 met: Move 0 0\n",
+    ),
+    (
+        "profile w r b --rest 0 --rounds 2 --seed 12345",
+        "random seed: 12345\nred 0: 2 times, 1 met: Flip 2 0 0\nblack 0: 10 times, 2 met: Move 0 0\n",
+    ),
+    (
+        "profile w r b --surround 6 --corpse 0 --rounds 1 --seed 12345",
+        "random seed: 12345\nred 0: 2 times, 1 met: Flip 2 0 0\nblack 0: 5 times, 1 met: Move 0 0\n",
+    ),
+];
+
+// Worlds that are none.
+const REFUSED: [(&str, &str); 1] = [("2", "ants: w: bad width\n")];
+
+static TOLD_EVENTS: Table<'static> = Table {
+    job: AMBUSH,
+    given: Given::Line,
+    status: Status::Done,
+    rows: &EVENTS,
+};
+
+static TOLD_PROFILES: Table<'static> = Table {
+    job: AMBUSH,
+    given: Given::Line,
+    status: Status::Done,
+    rows: &PROFILES,
+};
+
+static NO_EVENTS: Table<'static> = Table {
+    job: Job {
+        line: "events w r b --seed 12345 --rounds 5",
+        ..AMBUSH
+    },
+    given: Given::World,
+    status: Status::Input,
+    rows: &REFUSED,
+};
+
+static NO_PROFILE: Table<'static> = Table {
+    job: Job {
+        line: "profile w r b --seed 12345 --rounds 5",
+        ..AMBUSH
+    },
+    given: Given::World,
+    status: Status::Input,
+    rows: &REFUSED,
+};
+
+#[test]
+fn events_are_told_by_their_words(rt: HostRuntime) -> Result<(), Fail> {
+    check_rows(&rt, rt.alloc(), &TOLD_EVENTS)?;
+    check_rows(&rt, rt.alloc(), &NO_EVENTS)
+}
+
+#[test]
+fn a_profile_is_told_by_its_words(rt: HostRuntime) -> Result<(), Fail> {
+    check_rows(&rt, rt.alloc(), &TOLD_PROFILES)?;
+    check_rows(&rt, rt.alloc(), &NO_PROFILE)
+}
+
+// Events of which the output has room up to the end of the first line's words, and a profile with room for its red brain.
+static NO_ROOM: [CutRun<'static>; 2] = [
+    CutRun {
+        job: Job {
+            line: "events w r b --seed 12345 --rounds 5",
+            room: 65,
+            ..AMBUSH
+        },
+        held: "random seed: 12345\nround 1, black ant 1: red ant 2 dies on (3, 3)",
+        line: "ants: output failed\n",
+    },
+    CutRun {
+        job: Job {
+            line: "profile w r b --seed 12345 --rounds 1",
+            room: 53,
+            ..AMBUSH
+        },
+        held: "random seed: 12345\nred 0: 1 times, 0 met: Flip 2 0 0\n",
+        line: "ants: output failed\n",
+    },
+];
+
+#[test]
+fn what_is_told_may_be_cut(rt: HostRuntime) -> Result<(), Fail> {
+    check_cuts(&rt, rt.alloc(), &NO_ROOM)
+}

@@ -1,0 +1,4 @@
+pub mod FaultText
+pub mod Opens
+pub mod Refusals
+pub mod Verdicts

@@ -1,0 +1,16 @@
+//! Texts that are refused: why, what is said of it, and the one way in which each shell opens a text.
+//!
+//! A world, a brain, a labelled program or a save comes to a shell as bytes. It is opened here: its value, or the one fault for which it is
+//! refused, that it is too long among them, or out of memory, which is no fault of a text. The shells add where the text came from: a
+//! file's name, or the text's number in a call. All of it is this project's own. It stands on the four readers.
+#![tactic(auto)]
+
+mod fault;
+mod laws;
+mod open;
+mod stop;
+
+pub use fault::TextFault;
+pub use laws::every_text_has_one_verdict;
+pub use open::{open_brain, open_labels, open_program, open_save, open_world};
+pub use stop::TextStop;
