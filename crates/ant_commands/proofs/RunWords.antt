@@ -1,30 +1,25 @@
 -- The words of a `run` are those that the table of commands has, and say the same.
-use Rattle.std.proofs.Common.{◌≡◌, ◌≢◌, ◌⊎◌, inl, inr, ℕ, ◌≤◌, nat_le, Bool, true, false, ◌&&◌, cond, List, [], ◌∷◌, ◌++◌, map, Option, Some, None, is_some, option_map, unwrap_or, codes, bytes_eq, refl, sym, ap, ◌∙◌, subst, lit<, arith}
+use Rattle.std.proofs.Common.{◌≡◌, ◌≢◌, inl, inr, ℕ, nat_le, Bool, true, false, ◌&&◌, cond, List, [], ◌∷◌, ◌++◌, map, Option, Some, None, is_some, option_map, unwrap_or, codes, bytes_eq, refl, sym, ap, ◌∙◌, subst, lit<}
 use Rattle.std.specs.List.{AllByRecursion, AllZip, Contains, flat_map}
 use Rattle.std.proofs.lemmas.Bool.{and_from, and_parts, false≢true, le-leb, leb-true}
 use Rattle.std.proofs.lemmas.List.Elements.{Contains-append_right}
 use Rattle.std.proofs.lemmas.Slice.Eq.{bytes_eq-Decides}
 use Rattle.ant_base.specs.Number.{decimal_value, number_within, within}
-use Rattle.ant_turn.specs.Sheet.{Sheet}
-use Rattle.command_words.specs.Command.{FitAll, Given, IsCommand, IsCommandOf, IsGiven, IsOptionOf, NoneTwice, PlainAsked, answers_in, asked_in, asked_of, dumps_said, first_word, given_words, is_among, joined, said}
+use Rattle.command_words.specs.Command.{FitAll, Given, IsCommand, IsCommandOf, IsGiven, IsOptionOf, NoneTwice, PlainAsked, asked_in, asked_of, dumps_said, first_word, given_words, joined, said}
 use Rattle.command_words.specs.Limits.{least_of, most_of, number_in}
 use Rattle.command_words.specs.Slots.{AllDiffer, DumpChoice, dumps_of, fits, is_dumps, is_file_name, numbers_of, pieces_of, with_number}
 use Rattle.command_words.specs.Slots.DumpChoice.{NoDump, EveryDump, ChosenDumps}
-use Rattle.command_words.specs.Table.{choices_of, is_needed, kinds, option_of, places_of, values_of, word_of}
+use Rattle.command_words.specs.Table.{choices_of, is_needed, option_of, places_of, values_of, word_of}
 use Rattle.command_words.specs.declared.limits.NumberKind.{NumberKind}
 use Rattle.command_words.specs.declared.limits.NumberKind.TheVariants.{SeedNumber, RoundCount, WorkerCount, WindowSize, FoeCount, CorpseFood, RestRounds}
-use Rattle.command_words.specs.declared.slot.Slot.{Slot}
 use Rattle.command_words.specs.declared.slot.Slot.TheVariants.{Number, Dumps}
 use Rattle.command_words.specs.declared.slot.Place.TheVariants.{Word}
-use Rattle.command_words.specs.declared.table.CommandKind.{CommandKind}
 use Rattle.command_words.specs.declared.table.CommandKind.TheVariants.{Run}
 use Rattle.command_words.specs.declared.table.Choice.{Choice}
 use Rattle.command_words.specs.declared.table.Choice.TheVariants as choice
-use Rattle.command_words.specs.Inner.Walk.{choice_of, command_kind_of}
-use Rattle.command_words.proofs.AnswersLemmas.{answers_in-of, answers_of, given-has, given_has, has_given, value_given, words_of}
-use Rattle.command_words.proofs.TableLemmas.{bytes_eq-same, choice_of-option, command_kind_of-word, same_option}
-use Rattle.command_words.proofs.WalkAmong.{is_among-given}
-use Rattle.command_words.proofs.WalkSearch.{is_among-append}
+use Rattle.command_words.specs.Inner.Walk.{choice_of}
+use Rattle.command_words.proofs.AnswersLemmas.{answers_in-of, answers_of, has_given, value_given, words_of}
+use Rattle.command_words.proofs.TableLemmas.{bytes_eq-same, choice_of-option, same_option}
 use Rattle.list_lemmas.proofs.Elements.{Contains-cases, Contains-first, Contains-later, Contains-none}
 use Rattle.ant_commands.specs.RunPromise.{AreOptions, GameSetup, IsDumps, IsNumber, IsRunOf, IsSomeRun, IsValue, RunOption, name_of, setup_said, with_option}
 use Rattle.ant_commands.specs.RunPromise.RunOption.{Seed, Rounds, Dump, Workers, Window, Surround, Corpse, Rest, Far}

@@ -1,8 +1,7 @@
 -- Looks one behind the other: what stands in the caller's rooms, and where the game stands.
-use Rattle.std.proofs.Common.{◌≡◌, ◌≢◌, ℕ, zero, suc, ◌+◌, ◌*◌, ◌-◌, ◌<◌, ◌≤◌, List, [], ◌∷◌, ◌++◌, length, take, drop, map, flat_map, slice_set, slice_index_or, refl, sym, ap, ap₂, ◌∙◌, subst, arith}
+use Rattle.std.proofs.Common.{◌≡◌, ℕ, ◌+◌, ◌*◌, ◌-◌, ◌<◌, ◌≤◌, List, [], ◌∷◌, ◌++◌, length, take, drop, map, slice_set, slice_index_or, sym, ap, ap₂, ◌∙◌, subst, arith}
 use Rattle.std.proofs.lemmas.List.{append_assoc, append-nil, drop_more, length-append, length-drop, length-map, length-take-le, map_more, take-append-drop, take_more}
 use Rattle.std.proofs.lemmas.Grind.{flat_map-append}
-use Rattle.std.proofs.lemmas.List.Concat.{flat_map-cons}
 use Rattle.std.proofs.lemmas.List.FromFn.{length-map-range_with_len, map-range_with_len_more}
 use Rattle.std.proofs.lemmas.Slice.{drop-append-drop, drop-put_mid, take-put_mid}
 use Rattle.std.proofs.lemmas.Nat.{mul-le}
@@ -11,7 +10,7 @@ use native.Mathlib.Nat.{add_comm, suc-mul}
 use native.Mathlib.Numerals.{unary_clauses}
 use borrow.Rule.Slice.PartMut.{put_mid}
 use Rattle.std.specs.List.{range_with_len}
-use Rattle.ant_turn.specs.Minds.{Minds, contest_minds}
+use Rattle.ant_turn.specs.Minds.{contest_minds}
 use Rattle.ant_turn.specs.Rounds.{Moment, after_rounds, start_of}
 use Rattle.ant_turn.proofs.KeptByRounds.{after_rounds-ids, after_rounds-then}
 use Rattle.brain_read.specs.declared.instr.Instr.{Instr}

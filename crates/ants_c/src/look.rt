@@ -1,9 +1,6 @@
 // A game that is looked at between its rounds.
 ghost use Rattle.std.specs.Prelude.{◌≡◌, ◌↔◌, ◌+◌, ◌*◌, ◌≤◌, ◌++◌, true, drop, length, map};
-ghost use Rattle.ant_turn.specs.Minds.{contest_minds};
 ghost use Rattle.cell_world.specs.Grid.{world_of};
-ghost use Rattle.cell_world.specs.World.{place_in};
-ghost use Rattle.match_run.specs.Run.{most_rounds};
 ghost use Rattle.world_read.specs.Opened.{IsOpeningWorld};
 ghost use Rattle.ants_c.specs.Looked.{AreRising, ants_after, colour_number, seen_ant, seen_ants};
 ghost use Rattle.ants_c.specs.Played.{game_score};

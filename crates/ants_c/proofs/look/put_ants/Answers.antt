@@ -1,5 +1,5 @@
 -- one more ant is in its place
-use Rattle.std.proofs.Common.{ap, ◌∙◌, arith}
+use Rattle.std.proofs.Common.{arith}
 use Rattle.cell_world.specs.Grid.{world_of}
 use Rattle.ants_c.proofs.Looks.{ant_more}
 use Rattle.ants_c.proofs.look.put_ants.Goals as goal

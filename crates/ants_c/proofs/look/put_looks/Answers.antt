@@ -1,5 +1,5 @@
 -- the brains fit the world; and each look stands behind those before it
-use Rattle.std.proofs.Common.{◌≡◌, ◌<◌, ◌-◌, ◌∙◌, ℕ, length, ap, subst, sym, arith, slice_index_or}
+use Rattle.std.proofs.Common.{◌<◌, ◌-◌, ◌∙◌, ℕ, length, ap, subst, sym, arith, slice_index_or}
 use Rattle.ant_turn.proofs.FitLemmas.{Fits-opening}
 use Rattle.cell_world.specs.Grid.{world_of}
 use Rattle.cell_world.specs.Score.{score_of}
