@@ -52,6 +52,15 @@
                      generated world has no room
        ANTS_MEMORY   memory could not be had; nothing was kept
 
+   A COMMAND of the program, any of them, is a call of ants_call(): its words and the names of its files as a line each, and the files' bytes
+   one behind the other. Its status is the program's own, and the line in which the program says what is wrong lies over `said`. Two more come:
+
+       ANTS_UNREADABLE  the words or the names aren't UTF-8, there isn't one size for each name, or the sizes don't make up all bytes
+       ANTS_NO_FILE     a file that the words name isn't among those that were handed in: nothing is read from the machine
+
+   ANTS_NUMBER says there that the words are no command, and ANTS_NO_ROOM that the text is longer than `out` or the line than `said`: `used`
+   and `told` have the lengths that are wanted. A room of 256 for the line is enough but for long names.
+
    HOW MUCH ROOM is always enough, in bytes; no call reads or writes what it doesn't need of it:
 
        ants_run, ants_resume                100 + dumps * (30 + 150 * width * height), for as many dumps as come; most cells have 20 to 25
@@ -70,7 +79,7 @@
     1. No pointer is NULL, and each is aligned for its type; but one whose length is 0 may be anything, as NULL, and is not looked at.
     2. As many elements lie there as the length says, in one block of at most 2^63 - 1 bytes that may be read, and written to where the
        parameter has no `const`.
-    3. What a call may write to (score, scores, out, used, fault, words) overlaps nothing else that it is passed, is initialised before
+    3. What a call may write to (score, scores, out, used, fault, words, said, told) overlaps nothing else that it is passed, is initialised before
        the call, and is read and written by nobody else during it. What it only reads is written by nobody during it.
     4. This header and the library are of one version: nothing is checked at the link, but ants_version() can be asked.
     5. malloc, realloc and free are of one allocator, and align a block to each power of two up to 16 that divides its size. One that
@@ -101,7 +110,9 @@ extern "C" {
 // What a call answers.
 enum ants_status {
     ANTS_DONE = 0, // Done.
-    ANTS_NUMBER = 2, // A number is beyond its limits.
+    ANTS_UNREADABLE = 1, // What a call of the program is given can't be read: its words, or the names and sizes of its files.
+    ANTS_NUMBER = 2, // A number is beyond its limits; of a call of the program, its words are no command.
+    ANTS_NO_FILE = 3, // A file that the words of a call of the program name isn't there.
     ANTS_NO_ROOM = 4, // The caller's room is too small.
     ANTS_REFUSED = 5, // A text was refused, or an element of a generated world has no room.
     ANTS_MEMORY = 6, // Memory could not be had.
@@ -230,6 +241,22 @@ uint32_t ants_save(
 uint32_t ants_resume(
     const uint8_t *save, size_t save_len, uint32_t rounds, const uint32_t *dumps, size_t dumps_len, uint8_t *out,
     size_t out_len, size_t *used, struct ants_fault_data *fault, uint8_t *words, size_t words_len);
+
+// Runs the whole program over files that the caller holds (this project's own). The lines of `words` are its words, without its name; the
+// lines of `names` are the names of the files, `-` too, each of which takes as many of `bytes` as its size says, in their order. Of a name
+// that stands twice the first file counts, and `--far` is no option. What the program writes to its output is laid over `out`, and the line
+// in which it says what is wrong over `said`. The status is the program's own: 0, 2 where the words are no command, 3 where a file isn't
+// there, 5 or 6; or
+// - 1: the words or the names aren't UTF-8, there isn't one size for each name, or the sizes don't make up all bytes;
+// - 4: the text is longer than `out`, or the line than `said`, which hold the front of it.
+//
+// `used` is the length of the text, and `told` that of the line; what they don't reach of `out` and `said` stays. At 1 nothing is written,
+// and at 6 nothing where memory could not be had before the program ran. It plays on the caller's thread, whatever number of workers the
+// words name. It takes memory for a copy of the files, and for what the program takes.
+uint32_t ants_call(
+    const uint8_t *words, size_t words_len, const uint8_t *names, size_t names_len, const uint32_t *sizes,
+    size_t sizes_len, const uint8_t *bytes, size_t bytes_len, uint8_t *out, size_t out_len, size_t *used, uint8_t *said,
+    size_t said_len, size_t *told);
 
 #ifdef __cplusplus
 }

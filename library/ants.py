@@ -22,9 +22,9 @@ import re
 import sys
 from array import array
 from ctypes import POINTER, byref, c_char, c_char_p, c_size_t, c_uint32, c_uint64
-from typing import Dict, Iterable, List, NamedTuple, Optional, Union
+from typing import Dict, Iterable, List, Mapping, NamedTuple, Optional, Union
 
-__all__ = ["Difference", "Refused", "Score", "asm", "brain", "difference", "gen", "minimise", "resume", "run", "same", "save", "score", "scores"]
+__all__ = ["Called", "Difference", "Refused", "Score", "asm", "brain", "call", "difference", "gen", "minimise", "resume", "run", "same", "save", "score", "scores"]
 
 Text = Union[str, bytes, bytearray, memoryview]
 
@@ -38,7 +38,9 @@ _MOST_GUESSED = 1 << 28  # bytes of a room for a text whose length isn't known; 
 # made: declarations
 __version__ = "1.1.0"
 _DONE = 0  # Done.
-_NUMBER = 2  # A number is beyond its limits.
+_UNREADABLE = 1  # What a call of the program is given can't be read: its words, or the names and sizes of its files.
+_NUMBER = 2  # A number is beyond its limits; of a call of the program, its words are no command.
+_NO_FILE = 3  # A file that the words of a call of the program name isn't there.
 _NO_ROOM = 4  # The caller's room is too small.
 _REFUSED = 5  # A text was refused, or an element of a generated world has no room.
 _MEMORY = 6  # Memory could not be had.
@@ -70,6 +72,8 @@ _DECLARED = {
         POINTER(_Fault), c_char_p, c_size_t],
     "ants_resume": [c_char_p, c_size_t, c_uint32, POINTER(c_uint32), c_size_t, c_char_p, c_size_t, POINTER(c_size_t), POINTER(_Fault),
         c_char_p, c_size_t],
+    "ants_call": [c_char_p, c_size_t, c_char_p, c_size_t, POINTER(c_uint32), c_size_t, c_char_p, c_size_t, c_char_p, c_size_t,
+        POINTER(c_size_t), c_char_p, c_size_t, POINTER(c_size_t)],
 }
 # end
 
@@ -90,6 +94,13 @@ class Difference(NamedTuple):
     first: str
     second_state: int
     second: str
+
+
+class Called(NamedTuple):
+    """What came of a command: the program's status, what it wrote, and the line in which it says what is wrong, empty at 0."""
+    status: int
+    output: str
+    fault: str
 
 
 class Refused(ValueError):
@@ -198,13 +209,18 @@ def _done(function: str, texts: Dict[str, bytes], *more: object) -> bool:
     return bool(status == _DONE)
 
 
+def _area(room: int) -> mmap.mmap:
+    """A room for so many bytes, 1 at least, of which only those that are written take memory."""
+    try:
+        return mmap.mmap(-1, max(room, 1), flags=mmap.MAP_PRIVATE | mmap.MAP_ANONYMOUS)
+    except OSError:
+        raise MemoryError("memory could not be had") from None
+
+
 def _text(function: str, texts: Dict[str, bytes], *more: object, room: int = 1 << 16) -> str:
     """Calls a function that writes a text, once more where the text turns out to be longer than the room."""
     while True:
-        try:
-            area = mmap.mmap(-1, room, flags=mmap.MAP_PRIVATE | mmap.MAP_ANONYMOUS)
-        except OSError:
-            raise MemoryError("memory could not be had") from None
+        area = _area(room)
         out, used = c_char.from_buffer(area), c_size_t()
         if _done(function, texts, *more, byref(out), room, byref(used)):
             with memoryview(area) as view:
@@ -300,3 +316,36 @@ def gen(seed: int, width: int = 150, height: int = 150, rocks: int = 14, blobs: 
     """A world in the contest's manner, as `ants gen` prints it."""
     sides = _number("width", width, 3, 512), _number("height", height, 3, 512)
     return _text("ants_gen", {}, _number("seed", seed), *sides, _number("rocks", rocks, most=255), _number("blobs", blobs, most=255))
+
+
+def _lines(name: str, lines: Iterable[str]) -> bytes:
+    """Words as a line each."""
+    found = list(lines)
+    if any("\n" in it for it in found):
+        raise ValueError("%s: a line break in one of them" % name)
+    return "".join(it + "\n" for it in found).encode("utf-8")
+
+
+def call(words: Iterable[str], files: Mapping[str, Text] = {}) -> Called:
+    """Runs the program with these words, which don't have its name, over these files by name; "-" is a name as any other.
+
+    Nothing is read from the machine: a file that isn't among these is one that can't be read, with status 3. `--far` is no option, and
+    workers play on this thread. No word and no name has a line break.
+    """
+    spoken, names = _lines("words", words), _lines("files", files)
+    texts = [_bytes(name, text) for name, text in files.items()]
+    sizes, contents = _numbers(len(it) for it in texts), b"".join(texts)
+    room, line_room = _MOST_GUESSED, _WORDS
+    while True:
+        area, line_area = _area(room), _area(line_room)
+        out, line = c_char.from_buffer(area), c_char.from_buffer(line_area)
+        used, told = c_size_t(), c_size_t()
+        status = _library.ants_call(
+            spoken, len(spoken), names, len(names), byref(c_uint32.from_buffer(sizes)), len(texts), contents, len(contents),
+            byref(out), room, byref(used), byref(line), line_room, byref(told))
+        if status == _MEMORY:
+            raise MemoryError("memory could not be had")
+        if status != _NO_ROOM:
+            with memoryview(area) as text, memoryview(line_area) as fault:
+                return Called(status, str(text[:used.value], "utf-8"), str(fault[:told.value], "utf-8"))
+        room, line_room = max(room, used.value), max(line_room, told.value)

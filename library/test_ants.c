@@ -6,7 +6,7 @@
 static const char *world = "3\n3\n# # #\n # + #\n# # #\n", *brain = "Flip 2 0 0\n", *drop = "Drop 0\n";
 static struct ants_fault_data fault;
 static struct ants_score_data scores[3];
-static uint8_t words[64], out[64];
+static uint8_t words[64], out[128];
 static size_t used;
 static int failures;
 
@@ -103,12 +103,62 @@ static void run_row(void) {
     ROW(used == strlen(text) && memcmp(out, text, used) == 0 && out[used] == '.');
 }
 
+static uint8_t line[64];
+static size_t told;
+
+/* A call of the program over the files w, b and d, into so much room. */
+static uint32_t called(const char *spoken, size_t room, size_t line_room) {
+    uint8_t bytes[64];
+    const uint32_t sizes[3] = {(uint32_t)strlen(world), (uint32_t)strlen(brain), (uint32_t)strlen(drop)};
+    clear();
+    memset(line, '.', sizeof line);
+    told = 99;
+    memcpy(bytes, world, sizes[0]);
+    memcpy(bytes + sizes[0], brain, sizes[1]);
+    memcpy(bytes + sizes[0] + sizes[1], drop, sizes[2]);
+    return ants_call(TEXT(spoken), TEXT("w\nb\nd\n"), sizes, 3, bytes, sizes[0] + sizes[1] + sizes[2], out, room, &used, line, line_room, &told);
+}
+
+static int wrote(const char *text) { return used == strlen(text) && memcmp(out, text, used) == 0 && out[used] == '.'; }
+
+static int reported(const char *text) { return told == strlen(text) && memcmp(line, text, told) == 0 && line[told] == '.'; }
+
+static int unwritten(void) { return used == 99 && told == 99 && out[0] == '.' && line[0] == '.'; }
+
+static void call_rows(void) {
+    const char *text = "random seed: 7\n\nscore: red 0 black 0\n";
+    const char *points = "2 points: b (0 won, 2 drawn, 0 lost)\n2 points: d (0 won, 2 drawn, 0 lost)\n";
+    const uint32_t one[1] = {1}, long_one[1] = {4294967295u};
+    ROW(called("brain\nb", 127, 63) == ANTS_DONE && wrote("Flip 2 0 0\n") && reported(""));
+    ROW(called("run\nw\nb\nd\n--seed\n7\n--rounds\n0\n", 127, 63) == ANTS_DONE && wrote(text) && reported(""));
+    ROW(called("run\nw\nb\nd\n--seed\n7\n--rounds\n0\n", strlen(text), 0) == ANTS_DONE && wrote(text) && told == 0);
+    ROW(called("run\nw\nb\nd\n--seed\n7\n--rounds\n0\n", strlen(text) - 1, 63) == ANTS_NO_ROOM && used == strlen(text));
+    ROW(memcmp(out, text, used - 1) == 0 && out[used - 1] == '.' && reported(""));
+    ROW(called("cup\n--worlds\nw\n--brains\nb\nd\n--seed\n7\n--rounds\n1\n--workers\n2", 127, 63) == ANTS_DONE && wrote(points) && reported(""));
+    ROW(called("show\nw\n7", 20, 63) == ANTS_NO_ROOM && used > 20 && memcmp(out, "random seed: 7\n", 15) == 0 && out[20] == '.' && reported(""));
+    ROW(called("run\nw\nb\nd\n--far", 127, 63) == ANTS_NUMBER && wrote("") && reported("ants: word 5 refused\n"));
+    ROW(called("turn\nw", 127, 63) == ANTS_NUMBER && wrote("") && reported("ants: word 1 refused\n"));
+    ROW(called("turn\nw", 127, 5) == ANTS_NO_ROOM && wrote("") && told == strlen("ants: word 1 refused\n") && memcmp(line, "ants:.", 6) == 0);
+    ROW(called("brain\nc", 127, 63) == ANTS_NO_FILE && wrote("") && reported("ants: c: not read\n"));
+    ROW(called("brain\nw", 127, 63) == ANTS_REFUSED && wrote("") && reported("ants: w: line 1: unknown word\n"));
+    ROW(called("brain\n\xff", 127, 63) == ANTS_UNREADABLE && unwritten());
+    clear();
+    used = told = 99;
+    memset(line, '.', sizeof line);
+    ROW(ants_call(TEXT("brain\nb"), TEXT("b\n"), one, 1, TEXT("ab"), out, 64, &used, line, 64, &told) == ANTS_UNREADABLE && unwritten());
+    ROW(ants_call(TEXT("brain\nb"), TEXT("b\n"), long_one, 1, TEXT("ab"), out, 64, &used, line, 64, &told) == ANTS_UNREADABLE && unwritten());
+    ROW(ants_call(TEXT("brain\nb"), TEXT("b\nc\n"), one, 1, TEXT("a"), out, 64, &used, line, 64, &told) == ANTS_UNREADABLE && unwritten());
+    ROW(ants_call(NULL, 0, NULL, 0, NULL, 0, NULL, 0, NULL, 0, &used, NULL, 0, &told) == ANTS_NO_ROOM && used == 0 && told > 0);
+}
+
 int main(void) {
+    ROW(ANTS_UNREADABLE == 1 && ANTS_NO_FILE == 3);
     ROW(ANTS_DONE == 0 && ANTS_NUMBER == 2 && ANTS_NO_ROOM == 4 && ANTS_REFUSED == 5 && ANTS_MEMORY == 6);
     play_rows();
     text_rows();
     run_row();
     null_rows();
     version_rows();
+    call_rows();
     return failures != 0;
 }

@@ -310,5 +310,37 @@ class Memory(unittest.TestCase):
         self.assertEqual(printed, "ants %s\n" % ants.__version__)
 
 
+class Commands(Beside):
+    def test_each_is_as_the_program(self):
+        files = dict(zip(("w", "r", "b", "x"), map(example, ("heap.world", "bring_home.brain", "trail.brain", "contest.world"))))
+        for line in (
+            "show w 7", "brain r", "minimise b --states", "same r b", "gen 12345", "--version", "--help", "",
+            "run w r b --seed 7 --rounds 50 --dump 0,50 --stats --workers 4 --window 64", "trace w r b 0 --seed 7 --rounds 20",
+            "cup --worlds w x --brains r b --seed 7 --rounds 20 --games --workers 3", "save x r b --seed 7 --rounds 20",
+            "run w r b --seed 7 --rounds 1000001", "run w r none --seed 7", "run w r w --seed 7", "turn w",
+        ):
+            words = line.split(" ") if line else []
+            self.assertEqual(ants.call(words, files), self.program(*words, **files), line)
+
+    def test_one_longer_than_the_first_room(self):
+        files = {"w": WORLD, "b": "Drop 0\n"}
+        words = ["run", "w", "b", "b", "--seed", "7", "--rounds", "0"]
+        room, ants._MOST_GUESSED = ants._MOST_GUESSED, 64
+        try:
+            self.assertEqual(ants.call(["--help"]), self.program("--help"))
+            self.assertEqual(ants.call(words, files), self.program(*words, **files))
+        finally:
+            ants._MOST_GUESSED = room
+        self.assertEqual(ants.call(["brain", "n" * 2000]).fault, "ants: %s: not read\n" % ("n" * 2000))
+
+    def test_what_the_program_is_not_given(self):
+        self.assertEqual(ants.call(["run", "w", "b", "b", "--far"], {"w": WORLD, "b": "Drop 0\n"}), (2, "", "ants: word 5 refused\n"))
+        self.assertEqual(ants.call(["brain", "-"], {"-": "drop 0"}), (0, "Drop 0\n", ""))
+        self.assertEqual(ants.call(["brain", "\u00fc"], {"\u00fc": "Drop 0\n"}), (0, "Drop 0\n", ""))
+        for words, files in ((["brain", "a\nb"], {}), (["brain", "a"], {"a\n": ""}), (["brain", "\udcff"], {})):
+            with self.assertRaises(ValueError):
+                ants.call(words, files)
+
+
 if __name__ == "__main__":
     unittest.main()

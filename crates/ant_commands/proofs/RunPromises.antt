@@ -25,11 +25,10 @@ use Rattle.match_run.specs.Counts.{counts_text, totals_of, whole_text}
 use Rattle.match_run.specs.Play.{PushedProperPrefix}
 use Rattle.match_run.specs.Run.{run_text}
 use Rattle.ant_commands.specs.declared.stop.FileFault.{FileFault}
-use Rattle.ant_commands.specs.declared.stop.FileFault.TheVariants.{TooLong, World, Brain, Breaks, Labelled, Save, AlreadyAt}
 use Rattle.ant_commands.specs.Endings.{IsUnsure, StopsFor}
 use Rattle.ant_commands.specs.FaultLines.{Reason, fault_line, file_fault_text}
 use Rattle.ant_commands.specs.FaultLines.Reason.{AtFile, AtInput, AtMemory, AtOutput, AtRoom}
-use Rattle.ant_commands.specs.Files.{AreAccepted, AreBegun, File, FileContent, FileKind, IsFetched, IsNoText, IsRefused, Reads}
+use Rattle.ant_commands.specs.Files.{AreAccepted, AreBegun, File, FileContent, FileKind, IsFetched, IsRefused, Reads}
 use Rattle.ant_commands.specs.Files.FileContent.{WorldContent, BrainContent, BreakContent, LabelledContent, LabelsContent, SaveContent}
 use Rattle.ant_commands.specs.Files.FileKind.{WorldFile, BrainFile}
 use Rattle.ant_commands.specs.Files as files
@@ -199,18 +198,9 @@ never_sure shelf name (file ∷ list) (fetch ∷ fetches) (inr later) = never_su
 last_unfit : (kind : FileKind) (IsText : List ℕ → Type 0) → ((bytes : List ℕ) → IsText bytes → (content : FileContent) × Reads kind bytes content)
     → (other : List ℕ) (fault : FileFault) (last : Fetched) → IsRefused (record { name = other; kind = kind }) last fault
     → IsLast (λ IsText last answer. IsUnfit IsText answer (file_fault_text fault)) IsText other last
-last_unfit kind IsText reads other fault last is = go fault is where
-  no_text : (fault : FileFault) → IsNoText (record { name = other; kind = kind }) last fault → IsLast (λ IsText last answer. IsUnfit IsText answer (file_fault_text fault)) IsText other last
-  no_text fault it = record { answer = Ok it.bytes; got = it.got; such = λ text. (let read = reads it.bytes text in never_both kind it.bytes read.0 fault read.1 it.refuses) }
-
-  go : (fault : FileFault) → IsRefused (record { name = other; kind = kind }) last fault → IsLast (λ IsText last answer. IsUnfit IsText answer (file_fault_text fault)) IsText other last
-  go TooLong is = record { answer = Err why.TooLong; got = is; such = (refl, refl) }
-  go (World fault) is = no_text (World fault) is
-  go (Brain fault) is = no_text (Brain fault) is
-  go (Breaks fault) is = no_text (Breaks fault) is
-  go (Labelled fault) is = no_text (Labelled fault) is
-  go (Save fault) is = no_text (Save fault) is
-  go (AlreadyAt round) is = no_text (AlreadyAt round) is
+last_unfit kind IsText reads other fault last (inl long) = record { answer = Err why.TooLong; got = long.1; such = (refl, ap file_fault_text long.0) }
+last_unfit kind IsText reads other fault last (inr it) =
+    record { answer = Ok it.bytes; got = it.got; such = λ text. (let read = reads it.bytes text in never_both kind it.bytes read.0 fault read.1 it.refuses) }
 
 last_refused : (kind : FileKind) (IsText : List ℕ → Type 0) → ((bytes : List ℕ) → IsText bytes → (content : FileContent) × Reads kind bytes content)
     → (name other : List ℕ) (fault : FileFault) (last : Fetched) → IsRefusedAs name fault (record { name = other; kind = kind }) last
@@ -341,6 +331,13 @@ kept words world red black setup is before after number run =
     (subst (λ (w : List ℕ). RunEnds w (asked.file 1) (asked.file 2) (game_said asked) before after number) it.world_is
     (ends words before after number (headline words before after number run) it.is it.uncounted))))
 
+-- both readings are that of the table
+one : (words : List (List ℕ)) (a b : IsSomeRun words) → (a.0 ≡ b.0) × (a.1 ≡ b.1) × (a.2 ≡ b.2) × (a.3 ≡ b.3)
+one words a b =
+    let x : IsTableRun words a.0 a.1 a.2 a.3 = table_run words a.0 a.1 a.2 a.3 a.4 in
+    let y : IsTableRun words b.0 b.1 b.2 b.3 = table_run words b.0 b.1 b.2 b.3 b.4 in
+    (sym x.world_is ∙ y.world_is, sym x.red_is ∙ y.red_is, sym x.black_is ∙ y.black_is, sym x.said ∙ y.said)
+
 -- words that weren't refused are a command
 commanded : (words : List (List ℕ)) (before after : Outside) (number : ℕ) → KeepsPromise words before after number → number ≢ 2 → (command : PlainAsked) × IsCommand words command
 commanded words before after number keeps other = elim keeps.no_other [
@@ -369,7 +366,7 @@ every words before after number run other uncounted =
     (λ has. uncounted (subst (λ (ws : List (List ℕ)). Contains ws (option_of choice.Stats)) (sym rest) (among_words (joined is.front) is.given choice.Stats has)))
 
 pub run_promise : RunPromise
-run_promise = record { kept = kept; every = every }
+run_promise = record { kept = kept; one = one; every = every }
 
 accepted : (words : List (List ℕ)) (asked : PlainAsked) → IsCommand words asked → asked.kind ≡ Run → asked.has choice.Stats ≡ false → IsSomeRun words
 accepted words asked is run off =

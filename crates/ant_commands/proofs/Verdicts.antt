@@ -21,7 +21,7 @@ use Rattle.ant_commands.specs.Verdict.{IsRefusedAs, Judged, FilesVerdict}
 use Rattle.ant_commands.specs.Verdict.FilesVerdict.{AllAccepted, FirstRefused}
 use Rattle.ant_commands.specs.Outside.{Outside}
 use Rattle.ant_commands.specs.Endings.{IsUnsure}
-use Rattle.ant_commands.specs.Run.{Ends, IsComplete, IsCrowding, IsNoCommand, IsOrderly, IsRefusing, IsRun, NeverUnread}
+use Rattle.ant_commands.specs.Run.{EndsAsPromised, Ends, IsComplete, IsCrowding, IsNoCommand, IsOrderly, IsRefusing, IsRun, NeverUnread}
 use Rattle.ant_commands.specs.FaultLines.{Ending, Reason, ending_by, ending_status, status_of}
 use Rattle.ant_commands.specs.FaultLines.Ending.{Done, RefusedWord, Stopped}
 use Rattle.ant_commands.specs.FaultLines.Reason.{AtFile, AtOutput, AtInput, AtRoom, AtMemory}
@@ -312,3 +312,15 @@ no_command_run words before after ended run same = no_command_by words before af
 
 pub words_run : (words : List (List ℕ)) (before after : Outside) (ended : Status) → IsRun words before after ended → IsNoCommand words → ended ≡ status.Words
 words_run words before after ended run none = run.is_status ∙ words_by words before after run.fetches run.ending run.ends none
+
+-- a run ends as promised
+pub promised_run : (given : List (List ℕ)) (before after : Outside) (ended : Status) → IsRun given before after ended → EndsAsPromised given before after ended
+promised_run given before after ended run = record {
+  run = run;
+  words = (no_command_run given before after ended run, words_run given before after ended run);
+  orderly = orderly_run given before after ended run;
+  complete = complete_run given before after ended run;
+  crowding = crowding_run given before after ended run;
+  refusing = refusing_run given before after ended run;
+  read = read_run given before after ended run;
+}

@@ -1,5 +1,5 @@
 -- How the whole program ends.
-use Rattle.std.specs.Prelude.{◌≡◌, ◌≢◌, ℕ, List, [], ◌++◌, Option, Some, Result, ◌⊎◌}
+use Rattle.std.specs.Prelude.{◌≡◌, ◌≢◌, ◌↔◌, ℕ, List, [], ◌++◌, Option, Some, Result, ◌⊎◌}
 use Rattle.ant_base.specs.Faults.{Rose}
 use Rattle.ant_base.specs.Fetched.{Fetched}
 use Rattle.ant_base.specs.Shelf.{AreSure, FetchesEach, ShelfState}
@@ -113,3 +113,13 @@ NeverUnread words before ended = (verdict : FilesVerdict) (is : IsJudgedCommand 
 -- the words are no command
 abbrev pub IsNoCommand : List (List ℕ) → Type 0
 IsNoCommand words = (command : PlainAsked) → ¬ IsCommand words command
+
+-- all that is promised of a call of the program over these words: the first field says all of it, and the others follow from it
+pub record EndsAsPromised (given : List (List ℕ)) (before after : Outside) (ended : Status) : Type 0 where
+  pub run : IsRun given before after ended
+  pub words : (ended ≡ status.Words) ↔ IsNoCommand given
+  pub orderly : IsOrderly given before after
+  pub complete : IsComplete given before after ended
+  pub crowding : IsCrowding given ended
+  pub refusing : IsRefusing given before after ended
+  pub read : NeverUnread given before ended

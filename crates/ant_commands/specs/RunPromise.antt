@@ -210,10 +210,11 @@ RunEnds world red black setup before after number =
 abbrev pub IsSomeRun : List (List ℕ) → Type 0
 IsSomeRun words = (world : List ℕ) × (red : List ℕ) × (black : List ℕ) × (setup : GameSetup) × IsRunOf words world red black setup
 
--- the promise of a run: it ends so; and whatever begins with `run` and is neither refused (status 2) nor has `--stats` is one
+-- the promise of a run: it ends so; words say at most one; and whatever begins with `run` and is neither refused (status 2) nor has `--stats` is one
 pub record RunPromise : Type 0 where
   pub kept : (words : List (List ℕ)) (world red black : List ℕ) (setup : GameSetup) → IsRunOf words world red black setup
       → (before after : Outside) (number : ℕ) → IsRunTo words before after number → RunEnds world red black setup before after number
+  pub one : (words : List (List ℕ)) (a b : IsSomeRun words) → (a.0 ≡ b.0) × (a.1 ≡ b.1) × (a.2 ≡ b.2) × (a.3 ≡ b.3)
   pub every : (words : List (List ℕ)) (before after : Outside) (number : ℕ) → IsRunTo (codes "run" ∷ words) before after number → number ≢ 2
       → ¬ Contains words (codes "--stats") → IsSomeRun (codes "run" ∷ words)
 

@@ -3,13 +3,14 @@ ghost use Rattle.std.specs.Prelude.{◌≡◌};
 ghost use Rattle.command_words.specs.Command.{AskedWithin, plain};
 ghost use Rattle.command_words.specs.Limits.{IsWithin};
 ghost use Rattle.command_words.specs.declared.limits.NumberKind.TheVariants.{WorkerCount};
+ghost use Rattle.ant_commands.specs.Inner.Cups.{PlaysCup};
 ghost use Rattle.ant_commands.specs.Inner.Reading.{CarriesOut, ending_of};
 ghost use Rattle.ant_commands.specs.Job.{workers_named};
 ghost use Rattle.ant_commands.specs.Jobs.{job_of};
 
 mod asm;
 mod brain;
-mod cup;
+pub mod cup;
 mod events;
 pub mod far;
 mod generate;
@@ -30,7 +31,7 @@ mod workload;
 
 use crate::commands::asm::asm;
 use crate::commands::brain::brain;
-use crate::commands::cup::cup;
+use crate::commands::cup::{Games, cup};
 use crate::commands::events::events;
 use crate::commands::generate::gen_world;
 use crate::commands::help::{help, version};
@@ -50,20 +51,29 @@ use crate::commands::workload::workload;
 use crate::stop::CommandStop;
 use ant_base::{Shelf, Sink};
 use command_words::{Asked, Choice, CommandKind};
+use match_run::OutOfMemory;
 use round_book::Crew;
 use std::alloc::Global;
-use std::thread::Threads;
+use tournament::{Pairing, Played};
 
-/// Hands a command line to its command's own function, with a crew, if it plays in windows.
-pub fn dispatch<'w, R: Threads + Sync, C: Crew, S: Shelf, K: Sink>(
-    rt: &R,
+/// Hands a command line to its command's own function, with a crew, if it plays in windows, and with a function that plays games, if it is a
+/// cup.
+pub fn dispatch<
+    'w,
+    C: Crew,
+    P: Fn(&Games<'_>, &[Pairing], u32) -> Result<Vec<Played>, OutOfMemory>,
+    S: Shelf,
+    K: Sink,
+>(
     alloc: Global,
     crew: &mut C,
+    play: &P,
     asked: Asked<'w>,
     shelf: &mut S,
     out: &mut K,
 ) -> Result<(), CommandStop<'w>>
     requires ready { C.ready crew.old }
+    requires plays { PlaysCup P.Fn play.now }
     requires within { AskedWithin (plain asked) }
     ensures { CarriesOut (job_of (plain asked.entry)) (S.state shelf.old) (S.state shelf.new) (K.state out.old) (K.state out.new) (ending_of result) }
 {
@@ -79,7 +89,7 @@ pub fn dispatch<'w, R: Threads + Sync, C: Crew, S: Shelf, K: Sink>(
         ),
         CommandKind::Run => run(alloc, crew, AskedGame::of_run(asked), shelf, out),
         CommandKind::Gen => gen_world(alloc, asked.number(0), GenShape::of(asked), shelf, out),
-        CommandKind::Cup => cup(rt, alloc, CupEntry::of(asked), shelf, out),
+        CommandKind::Cup => cup(alloc, CupEntry::of(asked), play, shelf, out),
         CommandKind::View => view(alloc, ViewedGame::of(asked), shelf, out),
         CommandKind::Workload => workload(
             alloc,

@@ -11,7 +11,7 @@ pub fn headline()
 {}
 
 /// The promise of one `run` without `--stats`, in definitions of its own: what each status says of its three files, of the text of its game and of the
-/// errors, whatever the words that are a `run`; and words that begin with `run` and are not refused are such words.
+/// errors. The words of a `run` name one game; and words that begin with `run`, have no `--stats` and are not refused are such words.
 pub fn run_promise()
     ensures { RunPromise }
 {}

@@ -1,7 +1,7 @@
 //! All commands of the program `ants`, over any shelf of files and any two sinks: a simulator of the ant world of the ICFP Programming Contest 2004.
 //!
 //! `run_ants` does all that the program does; its `main` hands it the real shelf and sinks. `run_here` does all of it except `run --far`, which
-//! has to wait for workers. Each command's files, its text, its faults and their lines are definitions in specs/, and the clauses of `run_ants`
+//! has to wait for workers, and `run_alone` does what `run_here` does on the caller's thread. Each command's files, its text, its faults and their lines are definitions in specs/, and the clauses of `run_ants`
 //! say how every run ends.
 //!
 //! What names no section of the contest's task is this project's own: the commands and what they print, the faults, and the statuses.
@@ -19,5 +19,5 @@ pub use laws::{
     run_promise, saves_are_resumed, texts_end_in_lf, windows_change_counts_alone,
     workers_change_nothing,
 };
-pub use program::{exit_without_memory, run_ants, run_here, run_to_exit};
+pub use program::{exit_without_memory, run_alone, run_ants, run_here, run_to_exit};
 pub use status::Status;

@@ -1,19 +1,21 @@
 // The whole program, over any shelf and any sinks.
-ghost use Rattle.std.specs.Prelude.{◌≡◌, ◌↔◌};
+ghost use Rattle.std.specs.Prelude.{◌≡◌};
 ghost use Rattle.command_words.specs.Far.{words_without_far};
 ghost use Rattle.command_words.specs.Command.{AskedWithin, plain};
 ghost use Rattle.ant_commands.specs.Jobs.{job_of};
 ghost use Rattle.command_words.specs.Words.{texts};
 ghost use Rattle.round_book.specs.Book.{CanBegin};
 ghost use Rattle.round_book.specs.Led.{IsWindow};
+ghost use Rattle.ant_commands.specs.Inner.Cups.{CanPlay, GivesScores};
 ghost use Rattle.ant_commands.specs.Inner.Reading.{CarriesOut, CarriesOutWords, ending_of};
 ghost use Rattle.ant_commands.specs.Outside.{outside_of};
-ghost use Rattle.ant_commands.specs.Run.{GotLine, IsComplete, IsCrowding, IsNoCommand, IsOrderly, NeverUnread, IsRefusing, IsRun, IsRunTo, Reports};
+ghost use Rattle.ant_commands.specs.Run.{EndsAsPromised, GotLine, IsRunTo, Reports};
 ghost use Rattle.ant_commands.specs.Status.{status_number};
 ghost use Rattle.ant_commands.specs.FaultLines.{ending_status, fault_line, plain_ending, reason_of, status_of, word_line};
 ghost use Rattle.ant_commands.specs.FaultLines.Reason.{AtMemory};
 ghost use Rattle.std.specs.Process.{exit_status};
 
+use crate::commands::cup::Games;
 use crate::commands::far::run_far;
 use crate::commands::setups::AskedGame;
 use crate::commands::{dispatch, workers_in};
@@ -22,18 +24,20 @@ use crate::stop::{CommandStop, Ended};
 use ant_base::{Gate, Layout, Shelf, Sink, layout};
 use command_words::{Asked, CommandKind, Refused, is_far_run, read_words, read_words_without_far};
 use match_run::OutOfMemory;
-use round_book::{Counts, Field, Led};
+use round_book::{Counts, Field, Led, SoloCrew};
 use round_workers::BoardCrew;
 use std::alloc::Global;
 use std::process::ExitCode;
 use std::sync::Wait;
 use std::thread::Threads;
+use tournament::{Pairing, play_games, play_games_alone};
 
 // Who calls whom, from `main` down. The words are read once, by the one that knows `--far` or by the one that doesn't:
 //
 //     run_to_exit > run_ants > run_here > read_and_carry_out > carry_out > dispatch > the command's own function
 //                            > read_and_carry_out_far > carry_out_far > run_far, for a run
 //                                                                     > carry_out, for all else
+//     run_alone > read_and_carry_out_alone > carry_out_alone > dispatch
 
 // Carries out a command, whose numbers and names are within their limits. A crew takes no memory before its first window, so that each
 // command may have one.
@@ -55,7 +59,27 @@ fn carry_out<'w, R: Threads + Sync, S: Shelf, K: Sink, G: Gate>(
             ensures { IsWindow result field.entry.now from to field.exit.now }
         { board.window(alloc, field, from, to) },
     );
-    dispatch(rt, alloc, &mut crew, asked, shelf, out)
+    let play = |games: &Games<'_>, listed: &[Pairing], workers: u32|
+        requires { CanPlay workers games.now listed.now }
+        ensures { GivesScores games.entry.now listed.entry.now result }
+    { play_games(rt, alloc, games, listed, workers) };
+    dispatch(alloc, &mut crew, &play, asked, shelf, out)
+}
+
+// Carries out a command on the caller's thread alone.
+fn carry_out_alone<'w, S: Shelf, K: Sink>(
+    alloc: Global,
+    asked: Asked<'w>,
+    shelf: &mut S,
+    out: &mut K,
+) -> Result<(), CommandStop<'w>>
+    requires within { AskedWithin (plain asked) }
+    ensures { CarriesOut (job_of (plain asked.entry)) (S.state shelf.old) (S.state shelf.new) (K.state out.old) (K.state out.new) (ending_of result) }
+{
+    let play = |games: &Games<'_>, listed: &[Pairing], _workers: u32| {
+        play_games_alone(alloc, games, listed)
+    };
+    dispatch(alloc, &mut SoloCrew::new(), &play, asked, shelf, out)
 }
 
 // Carries out the command that the words are, where `--far` is no option.
@@ -71,6 +95,21 @@ fn read_and_carry_out<'w, R: Threads + Sync, S: Shelf, K: Sink, G: Gate>(
 {
     match read_words_without_far(words) {
         Ok(asked) => Ended::after(carry_out(rt, alloc, asked, shelf, out, gate)),
+        Err(refused) => Ended::RefusedWord(refused.word),
+    }
+}
+
+// Carries out the command that the words are on the caller's thread alone, where `--far` is no option.
+fn read_and_carry_out_alone<'w, S: Shelf, K: Sink>(
+    alloc: Global,
+    words: &'w [String],
+    shelf: &mut S,
+    out: &mut K,
+) -> Ended<'w>
+    ensures { CarriesOutWords (words_without_far (texts words.now)) (S.state shelf.old) (S.state shelf.new) (K.state out.old) (K.state out.new) (plain_ending result) }
+{
+    match read_words_without_far(words) {
+        Ok(asked) => Ended::after(carry_out_alone(alloc, asked, shelf, out)),
         Err(refused) => Ended::RefusedWord(refused.word),
     }
 }
@@ -131,8 +170,8 @@ fn read_and_carry_out_far<'w, R: Threads + Wait + Sync, S: Shelf, K: Sink, G: Ga
 /// only where it isn't sure of each name that was fetched. The runtime serves the workers of a game and of a cup; a game's workers call the
 /// gate before each look.
 ///
-/// The first clause says all of it: the others follow from it, by `no_command_run`, `words_run`, `orderly_run`, `complete_run`,
-/// `crowding_run`, `refusing_run` and `read_run` of proofs/Verdicts.antt. They stand here for callers, each in words of its own.
+/// The clause has a field for each of these promises. The first, `run`, says all of it: the others follow from it, by `promised_run` of
+/// proofs/Verdicts.antt. They stand there for callers, each in words of its own.
 pub fn run_here<R: Threads + Sync, S: Shelf, K: Sink, E: Sink, G: Gate>(
     rt: &R,
     alloc: Global,
@@ -142,19 +181,26 @@ pub fn run_here<R: Threads + Sync, S: Shelf, K: Sink, E: Sink, G: Gate>(
     err: &mut E,
     gate: &G,
 ) -> Status
-    ensures run { IsRun (words_without_far (texts words.now)) (outside_of (S.state shelf.old) (K.state out.old) (E.state err.old))
+    ensures { EndsAsPromised (words_without_far (texts words.now)) (outside_of (S.state shelf.old) (K.state out.old) (E.state err.old))
         (outside_of (S.state shelf.new) (K.state out.new) (E.state err.new)) result }
-    ensures words { (result ≡ Status.Words) ↔ IsNoCommand (words_without_far (texts words.now)) }
-    ensures orderly { IsOrderly (words_without_far (texts words.now)) (outside_of (S.state shelf.old) (K.state out.old) (E.state err.old))
-        (outside_of (S.state shelf.new) (K.state out.new) (E.state err.new)) }
-    ensures complete { IsComplete (words_without_far (texts words.now)) (outside_of (S.state shelf.old) (K.state out.old) (E.state err.old))
-        (outside_of (S.state shelf.new) (K.state out.new) (E.state err.new)) result }
-    ensures crowding { IsCrowding (words_without_far (texts words.now)) result }
-    ensures refusing { IsRefusing (words_without_far (texts words.now)) (outside_of (S.state shelf.old) (K.state out.old) (E.state err.old))
-        (outside_of (S.state shelf.new) (K.state out.new) (E.state err.new)) result }
-    ensures read { NeverUnread (words_without_far (texts words.now)) (outside_of (S.state shelf.old) (K.state out.old) (E.state err.old)) result }
 {
     let ended = read_and_carry_out(rt, alloc, words, shelf, out, gate);
+    report(ended, err)
+}
+
+/// Does what `run_here` does on the caller's thread alone, without a runtime: windows and cups that name more workers are played there too, with
+/// the same text.
+pub fn run_alone<S: Shelf, K: Sink, E: Sink>(
+    alloc: Global,
+    words: &[String],
+    shelf: &mut S,
+    out: &mut K,
+    err: &mut E,
+) -> Status
+    ensures { EndsAsPromised (words_without_far (texts words.now)) (outside_of (S.state shelf.old) (K.state out.old) (E.state err.old))
+        (outside_of (S.state shelf.new) (K.state out.new) (E.state err.new)) result }
+{
+    let ended = read_and_carry_out_alone(alloc, words, shelf, out);
     report(ended, err)
 }
 
@@ -162,7 +208,7 @@ pub fn run_here<R: Threads + Sync, S: Shelf, K: Sink, E: Sink, G: Gate>(
 /// some word is `--far`. Such a run's workers stand by for the whole game, and the call may wait for one of them; what it promises holds if it
 /// returns.
 ///
-/// The clauses are those of `run_here`, of all words: the first says all of it, and its doc says which status comes when.
+/// The clause is that of `run_here`, of all words, whose doc says which status comes when.
 pub fn run_ants<R: Threads + Wait + Sync, S: Shelf, K: Sink, E: Sink, G: Gate>(
     rt: &R,
     alloc: Global,
@@ -172,17 +218,8 @@ pub fn run_ants<R: Threads + Wait + Sync, S: Shelf, K: Sink, E: Sink, G: Gate>(
     err: &mut E,
     gate: &G,
 ) -> Status
-    ensures run { IsRun (texts words.now) (outside_of (S.state shelf.old) (K.state out.old) (E.state err.old))
+    ensures { EndsAsPromised (texts words.now) (outside_of (S.state shelf.old) (K.state out.old) (E.state err.old))
         (outside_of (S.state shelf.new) (K.state out.new) (E.state err.new)) result }
-    ensures words { (result ≡ Status.Words) ↔ IsNoCommand (texts words.now) }
-    ensures orderly { IsOrderly (texts words.now) (outside_of (S.state shelf.old) (K.state out.old) (E.state err.old))
-        (outside_of (S.state shelf.new) (K.state out.new) (E.state err.new)) }
-    ensures complete { IsComplete (texts words.now) (outside_of (S.state shelf.old) (K.state out.old) (E.state err.old))
-        (outside_of (S.state shelf.new) (K.state out.new) (E.state err.new)) result }
-    ensures crowding { IsCrowding (texts words.now) result }
-    ensures refusing { IsRefusing (texts words.now) (outside_of (S.state shelf.old) (K.state out.old) (E.state err.old))
-        (outside_of (S.state shelf.new) (K.state out.new) (E.state err.new)) result }
-    ensures read { NeverUnread (texts words.now) (outside_of (S.state shelf.old) (K.state out.old) (E.state err.old)) result }
 {
     if !is_far_run(words) {
         return run_here(rt, alloc, words, shelf, out, err, gate);

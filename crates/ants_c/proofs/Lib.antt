@@ -1,4 +1,7 @@
+mod EmptySinks
 mod FirstRefused
+mod GivenLemmas
 mod Looks
 mod Overlaid
 mod Stops
+mod WorkedCalls

@@ -1,3 +1,4 @@
+pub mod Called
 pub mod Looked
 pub mod Numbers
 pub mod Played

@@ -31,6 +31,10 @@ pub record Answers (Is : List ℕ → Type 0) (before after : List ℕ) (used st
 abbrev pub Writes : ℕ → Type 0
 Writes status = (status ≡ 0) ⊎ (status ≡ 4)
 
+-- what a log has behind what a room held
+abbrev pub behind : List ℕ → List ℕ → List ℕ
+behind room log = drop (length room) log
+
 -- what was pushed lies over what the room held at first, and its bytes are counted; the log has both, one behind the other
 pub record IsLaid (room : List ℕ) (pushed : ℕ) (log : List ℕ) : Type 0 where
   pub long : length room ≤ length log

@@ -2,12 +2,15 @@
 //!
 //! Each export takes texts as bytes and puts its answer into room that the caller lends; none keeps anything, and none has a condition: what
 //! a caller may pass wrongly is a status. The statuses are the program's: 0 done, 2 a number beyond its limits, 4 the room is too small,
-//! 5 a text is refused, 6 out of memory. What names no section of the contest's task is this project's own. This crate stands on the
-//! readers, on `match_run`, and on what is done with brains and worlds.
+//! 5 a text is refused, 6 out of memory; and of `ants_call`, which runs the whole program, 1 what it is given can't be read, 2 no command and
+//! 3 a file isn't there. What names no section of the contest's task is this project's own. This crate stands on the readers, on
+//! `match_run`, on what is done with brains and worlds, and on `ant_commands`.
 #![tactic(auto)]
 
 ghost use Rattle.std.specs.Prelude.{◌≡◌, ◌⊎◌, ◌↔◌, ◌<◌, ◌≤◌, length};
+ghost use Rattle.ant_base.specs.Lines.{lines_of};
 ghost use Rattle.match_run.specs.Run.{most_rounds};
+ghost use Rattle.ants_c.specs.Called.{CanBeRead, IsCalled, IsNotCalled, files_in};
 ghost use Rattle.ants_c.specs.Looked.{AreFew, AreLooked, AreRising, HasIds};
 ghost use Rattle.ants_c.specs.Played.{AreScored, IsRunText, IsScored, IsStatus};
 ghost use Rattle.ants_c.specs.Refused.{IsRefusedBrain, IsRefusedGame, IsRefusedPair, IsRefusedProgram, IsRefusedSave, IsRefusedShape};
@@ -17,6 +20,7 @@ ghost use Rattle.ants_c.specs.Texts.{IsAssembledOf, IsCanonicalOf, IsComparisonO
 ghost use Rattle.ants_c.specs.Told.{IsTold};
 ghost use Rattle.ants_c.specs.Version.{version};
 
+mod call;
 mod ant;
 mod fault;
 mod look;
@@ -36,6 +40,7 @@ mod tell;
 mod texts;
 mod version;
 
+use crate::call::{call_program, files_of, words_of};
 use crate::look::{are_rising, put_looks};
 use crate::read::{Pair, Setting, open_brain, open_pair, open_program, open_save, open_texts};
 use crate::resume::put_resumed;
@@ -43,7 +48,7 @@ use crate::run::put_run;
 use crate::save::saved_setting;
 use crate::scores::{score_of_game, scores_of_setting};
 use crate::shapes::{generated, shape_of};
-use crate::status::{DONE, MEMORY, NO_ROOM, NUMBER};
+use crate::status::{DONE, MEMORY, NO_ROOM, NUMBER, UNREADABLE};
 use crate::tell::stopped;
 use crate::texts::{BrainText, SaveText, put, put_world};
 use crate::version::VersionText;
@@ -465,4 +470,47 @@ pub extern "C" fn ants_resume(
         Ok(status) => status,
         Err(_) => MEMORY,
     }
+}
+
+/// Runs the whole program over files that the caller holds (this project's own). The lines of `words` are its words, without its name; the
+/// lines of `names` are the names of the files, `-` too, each of which takes as many of `bytes` as its size says, in their order. Of a name
+/// that stands twice the first file counts, and `--far` is no option. What the program writes to its output is laid over `out`, and the line
+/// in which it says what is wrong over `said`. The status is the program's own: 0, 2 where the words are no command, 3 where a file isn't
+/// there, 5 or 6; or
+/// - 1: the words or the names aren't UTF-8, there isn't one size for each name, or the sizes don't make up all bytes;
+/// - 4: the text is longer than `out`, or the line than `said`, which hold the front of it.
+///
+/// `used` is the length of the text, and `told` that of the line; what they don't reach of `out` and `said` stays. At 1 nothing is written,
+/// and at 6 nothing where memory could not be had before the program ran. It plays on the caller's thread, whatever number of workers the
+/// words name. It takes memory for a copy of the files, and for what the program takes.
+#[unsafe(no_mangle)]
+pub extern "C" fn ants_call(
+    alloc: Global,
+    words: &[u8],
+    names: &[u8],
+    sizes: &[u32],
+    bytes: &[u8],
+    out: &mut [u8],
+    used: &mut usize,
+    said: &mut [u8],
+    told: &mut usize,
+) -> u32
+    ensures unread { result ≡ 1 → CanBeRead words.now names.now sizes.now bytes.now → ⊥ }
+    ensures read { (result ≡ 1) ⊎ ((result ≡ 6) ⊎ CanBeRead words.now names.now sizes.now bytes.now) }
+    ensures called { IsCalled (lines_of words.now) (files_in (lines_of names.now) sizes.now bytes.now) out.old out.new used.new said.old said.new told.new result
+        ⊎ IsNotCalled out.old out.new used.old used.new said.old said.new told.old told.new result }
+{
+    let Ok(spoken) = words_of(alloc, words) else {
+        return MEMORY;
+    };
+    let Some(words) = spoken else {
+        return UNREADABLE;
+    };
+    let Ok(given) = files_of(alloc, names, sizes, bytes) else {
+        return MEMORY;
+    };
+    let Some(files) = given else {
+        return UNREADABLE;
+    };
+    call_program(alloc, &words, files, out, used, said, told)
 }

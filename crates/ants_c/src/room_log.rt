@@ -45,4 +45,11 @@ impl RoomLog {
     {
         *self = self.with(&Piece(piece));
     }
+
+    // The same log.
+    pub(crate) fn copy(&self) -> RoomLog
+        ensures { result.bytes ≡ self.now.bytes }
+    {
+        self.with(&Piece(&[]))
+    }
 }

@@ -48,6 +48,13 @@ impl<'o> RoomSink<'o> {
         }
     }
 
+    /// What the room held, and then all that was pushed.
+    pub(crate) fn log(&self) -> RoomLog
+        ensures { result.bytes ≡ self.now.log.bytes }
+    {
+        self.log.copy()
+    }
+
     /// How many bytes were pushed.
     pub fn pushed(&self) -> usize
         ensures { result ≡ self.now.pushed }

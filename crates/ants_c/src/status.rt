@@ -3,8 +3,14 @@
 /// Done.
 pub const DONE: u32 = 0;
 
-/// A number is beyond its limits.
+/// What a call of the program is given can't be read: its words, or the names and sizes of its files.
+pub const UNREADABLE: u32 = 1;
+
+/// A number is beyond its limits; of a call of the program, its words are no command.
 pub const NUMBER: u32 = 2;
+
+/// A file that the words of a call of the program name isn't there.
+pub const NO_FILE: u32 = 3;
 
 /// The caller's room is too small.
 pub const NO_ROOM: u32 = 4;

@@ -10,8 +10,10 @@ use Rattle.cell_world.specs.declared.score.Score.{Score}
 use Rattle.tournament.specs.declared.games.Pairing.{Pairing}
 use Rattle.tournament.specs.declared.games.Played.{Played}
 use Rattle.tournament.specs.declared.pieces.Piece.{Piece}
-use Rattle.tournament.specs.Games.{IsGame, played_by}
-use Rattle.tournament.specs.Inner.Pieces.{AreKnown, IsPieceReady, IsPieceDone, dealt_games, played_games}
+use Rattle.tournament.specs.Games.{IsGame, games_of, games_on, played_by}
+use Rattle.tournament.specs.Plays.{AreKnown, CanBePlayedBy}
+use Rattle.tournament.proofs.GamesLemmas.{All-games_of, known_on, length-games_of, length-games_on}
+use Rattle.tournament.specs.Inner.Pieces.{IsPieceReady, IsPieceDone, dealt_games, played_games}
 
 -- one piece more
 pub dealt_more : (games old new : List Pairing) (from to : ℕ) → from ≤ to → old ≡ take from games → new ≡ old ++ take (to - from) (drop from games) → new ≡ take to games
@@ -82,3 +84,17 @@ pub gathered_done : {A : Type 0} (result : Result (Vec Played A) OutOfMemory) (s
     → IfOk result (λ played. played.items ≡ map (played_by score) (dealt_games old))
 gathered_done (Ok played) score old new len each is whole = is ∙ done score old new len each whole
 gathered_done (Err e) score old new len each is whole = tt
+
+-- the games of a cup can be played
+pub can_play_all : (knows : ℕ → ℕ → ℕ → Type 0) (players worlds workers : ℕ) (games : List Pairing) → players ≤ 16 → worlds ≤ 16 → 1 ≤ workers → workers ≤ 16 → games ≡ games_of players worlds
+    → ((world red black : ℕ) → world < worlds → red < players → black < players → red ≢ black → knows world red black) → CanBePlayedBy workers knows games
+can_play_all knows players worlds workers games few_players few_worlds worker few_workers is known =
+    let short = length-games_of players worlds few_players few_worlds in let long = ap length is in
+    record { few = omega arith; worker = worker; few_workers = few_workers; known = games_known knows players worlds games known (All-same (IsGame players worlds) games (games_of players worlds) is (All-games_of players worlds)) }
+
+-- so can those on a world
+pub can_play_on : (knows : ℕ → ℕ → ℕ → Type 0) (players world workers : ℕ) (games : List Pairing) → players ≤ 16 → 1 ≤ workers → workers ≤ 16 → games ≡ games_on players world
+    → ((red black : ℕ) → red < players → black < players → red ≢ black → knows world red black) → CanBePlayedBy workers knows games
+can_play_on knows players world workers games few_players worker few_workers is known =
+    let short = length-games_on players world few_players in let long = ap length is in
+    record { few = omega arith; worker = worker; few_workers = few_workers; known = All-same (λ game. knows game.world game.red game.black) games (games_on players world) is (known_on knows players world known) }

@@ -3,6 +3,7 @@ pub mod Games
 pub mod Inner
 pub mod Laws
 pub mod Names
+pub mod Plays
 pub mod Standing
 pub mod Text
 pub mod Told

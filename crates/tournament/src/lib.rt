@@ -4,11 +4,12 @@
 //! and then j as red against i. The side with the greater score wins a game and gets 2 points; equal scores are a draw, which gives 1 point
 //! to each side (the task's game play). The standing has a line for each player, by points falling, equal points by player number rising.
 //!
-//! What makes a game's score is a [`Referee`], so that this crate knows no brain and no world. [`play_all`] cuts the list of games into
-//! contiguous pieces and plays each piece in a thread of its own; the standing is that of the referee's scores, whatever the number of
-//! workers is. [`tell_cup`] plays world by world instead, and pushes the games' lines after each. [`push_standing`] prints the standing with
-//! the players' [`Names`]. Pieces, texts and names are this project's own. It stands on `cell_world` for the score, on `ant_base` for texts,
-//! and on no rule of the game.
+//! What makes a game's score is a [`Referee`], so that this crate knows no brain and no world. A cup is handed the function that plays its
+//! games: over [`play_games`], which cuts the list of games into contiguous pieces and plays each piece in a thread of its own, or over
+//! [`play_games_alone`], which needs no threads; the standing is that of the referee's scores. [`play_all`] plays all games at once, and
+//! [`tell_cup`] world by world, and pushes the games' lines after each. [`push_standing`] prints the standing with the players' [`Names`].
+//! Pieces, texts and names are this project's own. It stands on `cell_world` for the score, on `ant_base` for texts, and on no rule of the
+//! game.
 #![tactic(auto)]
 
 mod existence;
@@ -30,7 +31,7 @@ pub use games::{Pairing, Played};
 pub use hex_geometry::OutOfMemory;
 pub use laws::{games_add_up, one_standing, points_add_up, wins_are_losses};
 pub use names::{Added, Names};
-pub use play::{play_all, play_world};
+pub use play::{play_all, play_games, play_games_alone, play_world};
 pub use referee::Referee;
 pub use standing::{Line, Standing};
 pub use tally::standing_of;

@@ -1,7 +1,8 @@
 // The list of games in contiguous pieces, one for each worker.
 ghost use Rattle.std.specs.Prelude.{◌≡◌, ◌+◌, ◌*◌, ◌<◌, ◌≤◌, ◌++◌, ◌^◌, false, [], All, length, map, IfOk, OnOk};
 ghost use Rattle.tournament.specs.Games.{played_by};
-ghost use Rattle.tournament.specs.Inner.Pieces.{AreKnown, IsPieceReady, IsPieceDone, dealt_games, played_games};
+ghost use Rattle.tournament.specs.Plays.{AreKnown};
+ghost use Rattle.tournament.specs.Inner.Pieces.{IsPieceReady, IsPieceDone, dealt_games, played_games};
 
 use crate::games::{Pairing, Played};
 use crate::referee::Referee;
@@ -35,12 +36,12 @@ impl Piece {
         requires { IsPieceReady (F.knows referee.now) self.old }
         ensures { IsPieceDone (F.score referee.now) self.old self.new }
     {
-        self.refused = play_games(alloc, referee, &self.games, &mut self.played).is_err();
+        self.refused = add_played(alloc, referee, &self.games, &mut self.played).is_err();
     }
 }
 
 // Adds these games with their scores, up to the first that is refused.
-fn play_games<F: Referee>(
+pub fn add_played<F: Referee>(
     alloc: Global,
     referee: &F,
     games: &[Pairing],

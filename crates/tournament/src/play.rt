@@ -1,12 +1,12 @@
 // A whole cup, and its games on one world.
-ghost use Rattle.std.specs.Prelude.{◌≡◌, ◌≢◌, ℕ, ◌<◌, ◌≤◌, ◌^◌, IfOk, length, map};
-ghost use Rattle.tournament.specs.Games.{played_by, world_played};
-ghost use Rattle.tournament.specs.Inner.Pieces.{AreKnown};
+ghost use Rattle.std.specs.Prelude.{◌≡◌, ◌≢◌, ℕ, ◌<◌, ◌≤◌, IfOk};
+ghost use Rattle.tournament.specs.Games.{world_played};
+ghost use Rattle.tournament.specs.Plays.{AreKnown, ArePlayed, CanBePlayedBy, PlaysGames};
 ghost use Rattle.tournament.specs.Standing.{IsStandingOf};
 
 use crate::fork::play_together;
 use crate::games::{Pairing, Played, games_of, games_on};
-use crate::pieces::deal;
+use crate::pieces::{add_played, deal};
 use crate::referee::Referee;
 use crate::standing::Standing;
 use crate::tally::standing_of;
@@ -14,64 +14,81 @@ use hex_geometry::OutOfMemory;
 use std::alloc::Global;
 use std::thread::Threads;
 
-/// Plays all games of a cup of 2 to 16 players on 1 to 16 worlds with 1 to 16 workers, and gives the standing of the referee's scores, the
-/// same for every number of workers. The referee knows each of these games: any two different players, as red and as black, on each world.
-/// A worker that has no game starts no thread. It is refused only when out of memory, its own or the referee's.
+/// Plays all games of a cup of 2 to 16 players on 1 to 16 worlds, and gives the standing of the referee's scores. `play` plays them, by 1 to 16
+/// workers or on the caller's thread, as [`play_games`] and [`play_games_alone`] do: the standing is the same. The referee knows each of these
+/// games: any two different players, as red and as black, on each world. It is refused only when out of memory, its own or that of `play`.
 ///
 /// Given 2 players, one world, and a referee by whom player 1 wins the game in which it is red and the other game is drawn, it answers two
 /// lines: player 1 with 3 points, 1 won, 1 drawn, 0 lost; and then player 0 with 1 point, 0 won, 1 drawn, 1 lost.
-pub fn play_all<R: Threads + Sync, F: Referee>(
-    rt: &R,
+pub fn play_all<F: Referee, P: Fn(&F, &[Pairing], u32) -> Result<Vec<Played>, OutOfMemory>>(
     alloc: Global,
     referee: &F,
     players: u32,
     worlds: u32,
     workers: u32,
+    play: &P,
 ) -> Result<Standing, OutOfMemory>
     requires players { (2 ≤ players) × (players ≤ 16) }
     requires worlds { (1 ≤ worlds) × (worlds ≤ 16) }
     requires workers { (1 ≤ workers) × (workers ≤ 16) }
     requires known { (world red black : ℕ) → world < worlds → red < players → black < players → red ≢ black → F.knows referee.now world red black }
+    requires plays { PlaysGames P.Fn F.knows F.score play.now }
     ensures { IfOk result (λ standing. IsStandingOf players worlds (F.score referee.now) standing) }
 {
     let games = games_of(alloc, players, worlds)?;
-    let played = play_listed(rt, alloc, referee, &games, workers)?;
+    let played = play(referee, &games, workers)?;
     standing_of(alloc, players, &played)
 }
 
-/// Plays the games of a cup of 2 to 16 players on the world of this number, from 0, with 1 to 16 workers, and gives them with the referee's
-/// scores, in the order in which the cup has them, whatever the number of workers is. The referee knows each of these games: any two
-/// different players, as red and as black. It is refused only when out of memory, its own or the referee's.
-pub fn play_world<R: Threads + Sync, F: Referee>(
-    rt: &R,
+/// Plays the games of a cup of 2 to 16 players on the world of this number, from 0, and gives them with the referee's scores, in the order in
+/// which the cup has them. `play` plays them, as in [`play_all`]. The referee knows each of these games: any two different players, as red and
+/// as black. It is refused only when out of memory, its own or that of `play`.
+pub fn play_world<F: Referee, P: Fn(&F, &[Pairing], u32) -> Result<Vec<Played>, OutOfMemory>>(
     alloc: Global,
     referee: &F,
     players: u32,
     world: u32,
     workers: u32,
+    play: &P,
 ) -> Result<Vec<Played>, OutOfMemory>
     requires players { (2 ≤ players) × (players ≤ 16) }
     requires workers { (1 ≤ workers) × (workers ≤ 16) }
     requires known { (red black : ℕ) → red < players → black < players → red ≢ black → F.knows referee.now world red black }
+    requires plays { PlaysGames P.Fn F.knows F.score play.now }
     ensures { IfOk result (λ played. played.items ≡ world_played players world (F.score referee.now)) }
 {
     let games = games_on(alloc, players, world)?;
-    play_listed(rt, alloc, referee, &games, workers)
+    play(referee, &games, workers)
 }
 
-// Plays these games with so many workers, and gives them with their scores.
-fn play_listed<R: Threads + Sync, F: Referee>(
+/// Plays fewer than 2^30 games that the referee knows, in contiguous pieces by 1 to 16 workers, each in a thread of its own, and gives them in
+/// their order with the referee's scores. A worker that has no game starts no thread. It is refused only when out of memory, its own or the
+/// referee's.
+pub fn play_games<R: Threads + Sync, F: Referee>(
     rt: &R,
     alloc: Global,
     referee: &F,
     games: &[Pairing],
     workers: u32,
 ) -> Result<Vec<Played>, OutOfMemory>
-    requires few { length games.now < 2 ^ 30 }
-    requires workers { (1 ≤ workers) × (workers ≤ 16) }
-    requires known { AreKnown (F.knows referee.now) games.now }
-    ensures { IfOk result (λ played. played.items ≡ map (played_by (F.score referee.now)) games.now) }
+    requires { CanBePlayedBy workers (F.knows referee.now) games.now }
+    ensures { ArePlayed (F.score referee.now) games.now result }
 {
     let mut pieces = deal(alloc, games, workers as usize)?;
     play_together(rt, alloc, referee, &mut pieces, workers as usize)
+}
+
+/// Plays games that the referee knows one after another on the caller's thread, and gives them with the referee's scores. It is refused only
+/// when out of memory, its own or the referee's.
+pub fn play_games_alone<F: Referee>(
+    alloc: Global,
+    referee: &F,
+    games: &[Pairing],
+) -> Result<Vec<Played>, OutOfMemory>
+    requires { AreKnown (F.knows referee.now) games.now }
+    ensures { ArePlayed (F.score referee.now) games.now result }
+{
+    let mut played = Vec::new(alloc);
+    add_played(alloc, referee, games, &mut played)?;
+    Ok(played)
 }

@@ -44,6 +44,8 @@ pub enum Stop {
     },
     /// Memory could not be had.
     OutOfMemory,
+    /// A word or the name of a file of a [`call`] has a line break, or a file has 2^32 bytes or more.
+    Unreadable,
     /// The `libants.a` that is linked is of this version, and this crate is of [`raw::VERSION`].
     OtherVersion(String),
 }
@@ -55,6 +57,7 @@ impl fmt::Display for Stop {
             Stop::Refused { name: "", words, .. } => f.write_str(words),
             Stop::Refused { name, words, .. } => write!(f, "{name}: {words}"),
             Stop::OutOfMemory => f.write_str("out of memory"),
+            Stop::Unreadable => f.write_str("a line break in a word or a name, or a file that is too long"),
             Stop::OtherVersion(version) => write!(f, "libants.a is of version {version}, and this crate of {}", raw::VERSION),
         }
     }
@@ -93,6 +96,17 @@ pub struct Difference {
     pub second_state: u32,
     /// Its instruction there.
     pub second: String,
+}
+
+/// What came of a command.
+#[derive(Clone, Debug, PartialEq, Eq)]
+pub struct Called {
+    /// The program's status.
+    pub status: u32,
+    /// What it wrote.
+    pub output: String,
+    /// The line in which it says what is wrong, empty at status 0.
+    pub fault: String,
 }
 
 /// How many bytes a room for a text whose length isn't known has at most; only those that are written take memory.
@@ -136,9 +150,7 @@ fn text(names: &[&'static str], room: usize, call: impl Fn(&mut [u8], &mut usize
     while !done(names, |fault, words| call(&mut out, &mut used, fault, words))? {
         out = vec![0; used];
     }
-    out.truncate(used);
-    out.shrink_to_fit();
-    Ok(String::from_utf8(out).unwrap_or_else(|other| String::from_utf8_lossy(other.as_bytes()).into_owned()))
+    Ok(cut(out, used))
 }
 
 /// How many cells a world's text has, or some more.
@@ -314,6 +326,59 @@ fn told(lines: &str) -> Option<Difference> {
 /// ```
 pub fn world(seed: u32, width: u32, height: u32, rocks: u32, blobs: u32) -> Result<String, Stop> {
     text(&[], ROOM, |out, used, fault, words| raw::ants_gen(seed, width, height, rocks, blobs, out, used, fault, words))
+}
+
+/// Words as a line each; none where one has a line break.
+fn lines<'w>(words: impl Iterator<Item = &'w str>) -> Option<Vec<u8>> {
+    let mut lines = Vec::new();
+    for word in words {
+        if word.contains('\n') {
+            return None;
+        }
+        lines.extend_from_slice(word.as_bytes());
+        lines.push(b'\n');
+    }
+    Some(lines)
+}
+
+/// Bytes of a room as text.
+fn cut(mut room: Vec<u8>, used: usize) -> String {
+    room.truncate(used);
+    room.shrink_to_fit();
+    String::from_utf8(room).unwrap_or_else(|other| String::from_utf8_lossy(other.as_bytes()).into_owned())
+}
+
+/// Runs the program with these words, which don't have its name, over these files by name; `-` is a name as any other.
+///
+/// Nothing is read from the machine: a file that isn't among these is one that can't be read, with status 3. `--far` is no option, and workers
+/// play on this thread.
+///
+/// ```
+/// let files: [(&str, &[u8]); 2] = [("a", b"Drop 0\n"), ("b", b"Drop 1\nDrop 0\n")];
+/// assert_eq!(ants::call(&["same", "a", "b"], &files)?.output, "same\n");
+/// let called = ants::call(&["brain", "c"], &files)?;
+/// assert_eq!((called.status, called.fault.starts_with("ants: c: ")), (3, true));
+/// # Ok::<(), ants::Stop>(())
+/// ```
+pub fn call(words: &[&str], files: &[(&str, &[u8])]) -> Result<Called, Stop> {
+    look()?;
+    let spoken = lines(words.iter().copied()).ok_or(Stop::Unreadable)?;
+    let names = lines(files.iter().map(|it| it.0)).ok_or(Stop::Unreadable)?;
+    let sizes: Vec<_> = files.iter().map(|it| u32::try_from(it.1.len())).collect::<Result<_, _>>().map_err(|_| Stop::Unreadable)?;
+    let bytes: Vec<_> = files.iter().flat_map(|it| it.1.iter().copied()).collect();
+    let (mut out, mut line) = (vec![0; MOST_GUESSED], vec![0; 1024]);
+    loop {
+        let (mut used, mut told) = (0, 0);
+        match raw::ants_call(&spoken, &names, &sizes, &bytes, &mut out, &mut used, &mut line, &mut told) {
+            raw::NO_ROOM => {
+                out.resize(out.len().max(used), 0);
+                line.resize(line.len().max(told), 0);
+            }
+            raw::UNREADABLE => return Err(Stop::Unreadable),
+            raw::MEMORY => return Err(Stop::OutOfMemory),
+            status => return Ok(Called { status, output: cut(out, used), fault: cut(line, told) }),
+        }
+    }
 }
 
 #[cfg(test)]

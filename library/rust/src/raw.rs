@@ -8,8 +8,12 @@ pub const VERSION: &str = "1.1.0";
 
 /// Done.
 pub const DONE: u32 = 0;
-/// A number is beyond its limits.
+/// What a call of the program is given can't be read: its words, or the names and sizes of its files.
+pub const UNREADABLE: u32 = 1;
+/// A number is beyond its limits; of a call of the program, its words are no command.
 pub const NUMBER: u32 = 2;
+/// A file that the words of a call of the program name isn't there.
+pub const NO_FILE: u32 = 3;
 /// The caller's room is too small.
 pub const NO_ROOM: u32 = 4;
 /// A text was refused, or an element of a generated world has no room.
@@ -277,6 +281,47 @@ pub fn ants_resume(save: &[u8], rounds: u32, dumps: &[u32], out: &mut [u8], used
     }
 }
 
+/// Runs the whole program over files that the caller holds (this project's own). The lines of `words` are its words, without its name; the
+/// lines of `names` are the names of the files, `-` too, each of which takes as many of `bytes` as its size says, in their order. Of a name
+/// that stands twice the first file counts, and `--far` is no option. What the program writes to its output is laid over `out`, and the line
+/// in which it says what is wrong over `said`. The status is the program's own: 0, 2 where the words are no command, 3 where a file isn't
+/// there, 5 or 6; or
+/// - 1: the words or the names aren't UTF-8, there isn't one size for each name, or the sizes don't make up all bytes;
+/// - 4: the text is longer than `out`, or the line than `said`, which hold the front of it.
+///
+/// `used` is the length of the text, and `told` that of the line; what they don't reach of `out` and `said` stays. At 1 nothing is written,
+/// and at 6 nothing where memory could not be had before the program ran. It plays on the caller's thread, whatever number of workers the
+/// words name. It takes memory for a copy of the files, and for what the program takes.
+pub fn ants_call(
+    words: &[u8],
+    names: &[u8],
+    sizes: &[u32],
+    bytes: &[u8],
+    out: &mut [u8],
+    used: &mut usize,
+    said: &mut [u8],
+    told: &mut usize,
+) -> u32 {
+    unsafe {
+        c::ants_call(
+            words.as_ptr(),
+            words.len(),
+            names.as_ptr(),
+            names.len(),
+            sizes.as_ptr(),
+            sizes.len(),
+            bytes.as_ptr(),
+            bytes.len(),
+            out.as_mut_ptr(),
+            out.len(),
+            used,
+            said.as_mut_ptr(),
+            said.len(),
+            told,
+        )
+    }
+}
+
 mod c {
     use super::{Fault, Score};
 
@@ -413,6 +458,22 @@ mod c {
             fault: *mut Fault,
             words: *mut u8,
             words_len: usize,
+        ) -> u32;
+        pub fn ants_call(
+            words: *const u8,
+            words_len: usize,
+            names: *const u8,
+            names_len: usize,
+            sizes: *const u32,
+            sizes_len: usize,
+            bytes: *const u8,
+            bytes_len: usize,
+            out: *mut u8,
+            out_len: usize,
+            used: *mut usize,
+            said: *mut u8,
+            said_len: usize,
+            told: *mut usize,
         ) -> u32;
     }
 }

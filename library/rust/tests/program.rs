@@ -67,3 +67,23 @@ fn a_refusal_has_the_words_of_the_program() {
     assert_eq!(refused.to_string(), "black: line 1: unknown word");
     assert_eq!(ants::world(1, 12, 12, 14, 11).unwrap_err().to_string(), "no room for element 0");
 }
+
+#[test]
+fn commands_are_those_of_the_program() {
+    let files = [("world", WORLD), ("red", RED), ("black", BLACK)];
+    for line in [
+        "show world 7",
+        "run world red black --seed 7 --rounds 20 --dump 0,20 --workers 2",
+        "cup --worlds world --brains red black --seed 7 --rounds 20 --games",
+        "turn world",
+        "brain none",
+        "brain world",
+    ] {
+        let called = ants::call(&line.split(' ').collect::<Vec<_>>(), &files).unwrap();
+        let text = if called.status == 0 { called.output } else { called.fault };
+        assert_eq!(text, written("call", line), "{line}");
+    }
+    let far = ants::call(&["run", "world", "red", "black", "--far"], &files).unwrap();
+    assert_eq!((far.status, far.output.as_str(), far.fault.as_str()), (2, "", "ants: word 5 refused\n"));
+    assert_eq!(ants::call(&["brain", "a\nb"], &[]), Err(Stop::Unreadable));
+}

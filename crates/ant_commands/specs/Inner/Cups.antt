@@ -1,6 +1,9 @@
 -- What the private functions that play a cup ensure.
-use Rattle.std.specs.Prelude.{◌≡◌, ℕ, ◌<◌, ◌≤◌, List, length, map, slice_index_or}
+use Rattle.std.specs.Prelude.{◌≡◌, ℕ, ◌<◌, ◌≤◌, List, Result, Vec, length, map, slice_index_or}
+use Rattle.std.specs.Borrow.{Bor}
+use Rattle.std.specs.Fn.{Shared}
 use Rattle.std.specs.List.{AllByRecursion}
+use Rattle.ant_base.specs.declared.memory.OutOfMemory.{OutOfMemory}
 use Rattle.ant_turn.specs.Minds.{Fits}
 use Rattle.brain_read.specs.declared.instr.Instr.{Instr}
 use Rattle.cell_world.specs.Grid.{Grid, world_of}
@@ -9,8 +12,12 @@ use Rattle.cell_world.specs.declared.kind.Kind.{Kind}
 use Rattle.command_words.specs.Table.{fewest_names, most_names}
 use Rattle.command_words.specs.declared.table.NameList.TheVariants.{Brains, Worlds}
 use Rattle.match_run.specs.Run.{most_rounds}
+use Rattle.tournament.specs.declared.games.Pairing.{Pairing}
+use Rattle.tournament.specs.declared.games.Played.{Played}
+use Rattle.tournament.specs.Plays.{ArePlayed, CanBePlayedBy, PlaysGames}
+use Rattle.ant_commands.specs.declared.commands.cup.Games.{Games}
 use Rattle.ant_commands.specs.Files.{File, FileKind}
-use Rattle.ant_commands.specs.Outputs.{minds_between, nowhere}
+use Rattle.ant_commands.specs.Outputs.{minds_between, nowhere, score_between}
 
 -- the files of these names, of one kind
 abbrev pub files_named : FileKind → List (List ℕ) → List File
@@ -37,3 +44,15 @@ pub record CanBePlayed (worlds : List Grid) (players : List (List Instr)) (round
   pub black_there : black < length players
   pub fit : Fits (world_of (slice_index_or worlds world nowhere)) (minds_between players red black)
   pub few_rounds : rounds ≤ most_rounds
+
+-- a cup's games that can be played by so many workers, and what they come to
+abbrev pub CanPlay : ℕ → Games → List Pairing → Type 0
+CanPlay workers games = CanBePlayedBy workers (CanBePlayed games.worlds.now games.players.now games.rounds)
+
+abbrev pub GivesScores : {A : Type 0} → Games → List Pairing → Result (Vec Played A) OutOfMemory → Type 0
+GivesScores games = ArePlayed (score_between games.worlds.now games.players.now games.seed games.rounds)
+
+module _ {P A : Type 0} (g : Shared P (Bor Games × (Bor (List Pairing) × (ℕ × Unit {0}))) (Result (Vec Played A) OutOfMemory)) where
+  -- a function plays the games of cups that can be played, each with its score
+  abbrev pub PlaysCup : P → Type 0
+  PlaysCup play = PlaysGames g (λ games. CanBePlayed games.worlds.now games.players.now games.rounds) (λ games. score_between games.worlds.now games.players.now games.seed games.rounds) play

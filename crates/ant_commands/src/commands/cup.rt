@@ -9,7 +9,7 @@ ghost use Rattle.command_words.specs.Slots.{AllDiffer};
 ghost use Rattle.match_run.specs.Run.{most_rounds};
 ghost use Rattle.tournament.specs.Standing.{IsStandingOf};
 ghost use Rattle.tournament.specs.Told.{Told};
-ghost use Rattle.ant_commands.specs.Inner.Cups.{AreReady, CanBePlayed};
+ghost use Rattle.ant_commands.specs.Inner.Cups.{AreReady, CanBePlayed, PlaysCup};
 ghost use Rattle.ant_commands.specs.Inner.Reading.{CarriesOut, ReadsFiles, ending_of, outcome_of};
 ghost use Rattle.ant_commands.specs.Outputs.{cup_contents, cup_files, score_between};
 
@@ -22,8 +22,9 @@ use brain_read::Brain;
 use cell_world::{Score, World};
 use match_run::{OutOfMemory, play_score};
 use std::alloc::Global;
-use std::thread::Threads;
-use tournament::{Names, PushFault, Referee, Standing, play_all, push_standing, tell_cup};
+use tournament::{
+    Names, Pairing, Played, PushFault, Referee, Standing, play_all, push_standing, tell_cup,
+};
 
 // What the files of a cup were read as.
 #[derive(Drop)]
@@ -32,13 +33,13 @@ struct Roster {
     players: Vec<Brain>,
 }
 
-// Plays the games of a cup, each on a copy of its world.
+/// Plays the games of a cup, each on a copy of its world.
 #[derive(Clone, Copy)]
-struct Games<'c> {
-    worlds: &'c [World],
-    players: &'c [Brain],
-    seed: u32,
-    rounds: u32,
+pub struct Games<'c> {
+    pub worlds: &'c [World],
+    pub players: &'c [Brain],
+    pub seed: u32,
+    pub rounds: u32,
 }
 
 impl Referee for Games<'_> {
@@ -74,18 +75,19 @@ fn roster_of<'w, S: Shelf>(
     Ok(Roster { worlds, players })
 }
 
-// The standing after all games, played by so many workers.
-fn standing_of<R: Threads + Sync>(
-    rt: &R,
+// The standing after all games.
+fn standing_of<P: Fn(&Games<'_>, &[Pairing], u32) -> Result<Vec<Played>, OutOfMemory>>(
     alloc: Global,
     roster: &Roster,
     seed: u32,
     rounds: u32,
     workers: u32,
+    play: &P,
 ) -> Result<Standing, OutOfMemory>
     requires ready { AreReady roster.now.worlds.items roster.now.players.items }
     requires few_rounds { rounds ≤ most_rounds }
     requires workers { IsWithin WorkerCount workers }
+    requires plays { PlaysCup P.Fn play.now }
     ensures { IfOk result (λ standing. IsStandingOf (length roster.now.players.items) (length roster.now.worlds.items)
         (score_between roster.now.worlds.items roster.now.players.items seed rounds) standing) }
 {
@@ -97,16 +99,16 @@ fn standing_of<R: Threads + Sync>(
     };
     let players = games.players.len() as u32;
     let worlds = games.worlds.len() as u32;
-    play_all(rt, alloc, &games, players, worlds, workers)
+    play_all(alloc, &games, players, worlds, workers, play)
 }
 
 // Plays the games world by world, and pushes their lines after each world; the standing comes last.
-fn tell_games<R: Threads + Sync, K: Sink>(
-    rt: &R,
+fn tell_games<K: Sink, P: Fn(&Games<'_>, &[Pairing], u32) -> Result<Vec<Played>, OutOfMemory>>(
     alloc: Global,
     roster: &Roster,
     entry: CupEntry<'_>,
     names: &Names,
+    play: &P,
     out: &mut K,
 ) -> Result<(), PushFault>
     requires within { CupWithin (texts entry.worlds.now) (texts entry.brains.now) entry.seed entry.rounds entry.workers }
@@ -114,6 +116,7 @@ fn tell_games<R: Threads + Sync, K: Sink>(
     requires worlds { length roster.now.worlds.items ≡ length (texts entry.worlds.now) }
     requires players { length roster.now.players.items ≡ length (texts entry.brains.now) }
     requires names { names.now ≡ texts entry.brains.now }
+    requires plays { PlaysCup P.Fn play.now }
     ensures { Told (K.state out.old) (K.state out.new) (texts entry.entry.worlds.now) (texts entry.entry.brains.now)
         (score_between roster.now.worlds.items roster.now.players.items entry.entry.seed entry.entry.rounds) result }
 {
@@ -123,7 +126,7 @@ fn tell_games<R: Threads + Sync, K: Sink>(
         seed: entry.seed,
         rounds: entry.rounds,
     };
-    tell_cup(rt, alloc, &games, entry.worlds, names, entry.workers, out)
+    tell_cup(alloc, &games, entry.worlds, names, entry.workers, play, out)
 }
 
 // The names of the players, which are different.
@@ -140,14 +143,20 @@ fn names_of(alloc: Global, words: &[String]) -> Result<Names, OutOfMemory>
 
 /// Plays all games of a cup by the contest's rules, and writes its standing; where the games are wanted, their lines before it. All files are
 /// read before the first game.
-pub fn cup<'w, R: Threads + Sync, S: Shelf, K: Sink>(
-    rt: &R,
+pub fn cup<
+    'w,
+    S: Shelf,
+    K: Sink,
+    P: Fn(&Games<'_>, &[Pairing], u32) -> Result<Vec<Played>, OutOfMemory>,
+>(
     alloc: Global,
     entry: CupEntry<'w>,
+    play: &P,
     shelf: &mut S,
     out: &mut K,
 ) -> Result<(), CommandStop<'w>>
-    requires { CupWithin (texts entry.worlds.now) (texts entry.brains.now) entry.seed entry.rounds entry.workers }
+    requires within { CupWithin (texts entry.worlds.now) (texts entry.brains.now) entry.seed entry.rounds entry.workers }
+    requires plays { PlaysCup P.Fn play.now }
     ensures { CarriesOut
         (cup_job (texts entry.entry.worlds.now) (texts entry.entry.brains.now) entry.entry.seed entry.entry.rounds entry.entry.workers entry.entry.games)
         (S.state shelf.old) (S.state shelf.new) (K.state out.old) (K.state out.new) (ending_of result) }
@@ -155,8 +164,15 @@ pub fn cup<'w, R: Threads + Sync, S: Shelf, K: Sink>(
     let roster = roster_of(alloc, entry, shelf)?;
     let names = names_of(alloc, entry.brains)?;
     if entry.games {
-        return after_cup(tell_games(rt, alloc, &roster, entry, &names, out));
+        return after_cup(tell_games(alloc, &roster, entry, &names, play, out));
     }
-    let standing = standing_of(rt, alloc, &roster, entry.seed, entry.rounds, entry.workers)?;
+    let standing = standing_of(
+        alloc,
+        &roster,
+        entry.seed,
+        entry.rounds,
+        entry.workers,
+        play,
+    )?;
     after_push(push_standing(&standing, &names, out))
 }

@@ -1,5 +1,6 @@
 // What no clause says: that cups succeed, their exact text, and that games are played side by side.
-ghost use Rattle.std.specs.Prelude.{ℕ};
+ghost use Rattle.std.specs.Prelude.{ℕ, ⊤};
+ghost use Rattle.tournament.specs.Plays.{ArePlayed, CanBePlayedBy};
 
 use ant_base::{Calls, MemSink};
 use cell_world::Score;
@@ -10,7 +11,10 @@ use std::process::Abort;
 use std::sync::atomic::{AtomicBool, Ordering};
 use std::test::Fail;
 use std::thread::Threads;
-use tournament::{Added, Names, PushFault, Referee, play_all, push_standing, tell_cup};
+use tournament::{
+    Added, Names, Pairing, Played, PushFault, Referee, play_all, play_games, play_games_alone,
+    push_standing, tell_cup,
+};
 
 // More bytes than any text of these tests has.
 const ROOM: u64 = 2000;
@@ -123,6 +127,23 @@ fn named(alloc: Global, list: &[&str]) -> Result<Names, Fail> {
     Ok(names)
 }
 
+// Plays games on this thread where one worker is asked for, else by workers.
+fn played<R: Threads + Sync, F: Referee>(
+    rt: &R,
+    alloc: Global,
+    referee: &F,
+    games: &[Pairing],
+    workers: u32,
+) -> Result<Vec<Played>, OutOfMemory>
+    requires { CanBePlayedBy workers (F.knows referee.now) games.now }
+    ensures { ArePlayed (F.score referee.now) games.now result }
+{
+    match workers {
+        1 => play_games_alone(alloc, referee, games),
+        _ => play_games(rt, alloc, referee, games, workers),
+    }
+}
+
 // Asserts that the cup of these players has this text with 1, 2 and 16 workers.
 fn check<R: Threads + Sync + Abort, F: Referee>(
     rt: &R,
@@ -137,8 +158,12 @@ fn check<R: Threads + Sync + Abort, F: Referee>(
     let players = names.len();
     assert!(rt; 2 <= players && players <= 16);
     assert!(rt; 1 <= worlds && worlds <= 16);
+    let play = |referee: &F, games: &[Pairing], workers: u32| -> Result<Vec<Played>, OutOfMemory>
+        requires { CanBePlayedBy workers (F.knows referee.now) games.now }
+        ensures { ArePlayed (F.score referee.entry.now) games.entry.now result }
+    { played(rt, alloc, referee, games, workers) };
     for workers in [1, 2, 16] {
-        let standing = play_all(rt, alloc, referee, players as u32, worlds, workers)?;
+        let standing = play_all(alloc, referee, players as u32, worlds, workers, &play)?;
         let mut out = MemSink::with_room(alloc, ROOM, Calls::new(alloc))?;
         let pushed = push_standing(&standing, names, &mut out);
         assert!(rt; pushed.is_ok());
@@ -202,9 +227,13 @@ fn check_told<R: Threads + Sync + Abort, F: Referee>(
     let players = names.len();
     assert!(rt; 2 <= players && players <= 16);
     assert!(rt; 1 <= places.len() && places.len() <= 16);
+    let play = |referee: &F, games: &[Pairing], workers: u32| -> Result<Vec<Played>, OutOfMemory>
+        requires { CanBePlayedBy workers (F.knows referee.now) games.now }
+        ensures { ArePlayed (F.score referee.entry.now) games.entry.now result }
+    { played(rt, alloc, referee, games, workers) };
     for workers in [1, 2, 16] {
         let mut out = MemSink::with_room(alloc, ROOM, Calls::new(alloc))?;
-        let told = tell_cup(rt, alloc, referee, &places, &names, workers, &mut out);
+        let told = tell_cup(alloc, referee, &places, &names, workers, &play, &mut out);
         assert_eq!(rt; told, end, "with {workers} workers");
         assert_eq!(rt; str::from_utf8(out.held())?, text, "with {workers} workers");
     }
@@ -253,7 +282,15 @@ fn two_workers_play_two_games_at_once(rt: HostRuntime) -> Result<(), Fail> {
         second: AtomicBool::new(false),
         alone: AtomicBool::new(false),
     };
-    let standing = play_all(&rt, rt.alloc(), &meeting, 2, 1, 2)?;
+    let alloc = rt.alloc();
+    let play = |meeting: &Meeting, games: &[Pairing], workers: u32| -> Result<
+        Vec<Played>,
+        OutOfMemory,
+    >
+        requires { CanBePlayedBy workers (λ _ _ _. ⊤) games.now }
+        ensures { ArePlayed (λ _ _ _. record { red = 0; black = 0 }) games.entry.now result }
+    { played(&rt, alloc, meeting, games, workers) };
+    let standing = play_all(alloc, &meeting, 2, 1, 2, &play)?;
     assert_eq!(rt; standing.len(), 2);
     assert!(rt;
         !meeting.alone.load(Ordering::SeqCst),

@@ -1,5 +1,5 @@
 -- The games of a cup cut into pieces, and what a piece is after a worker has played it.
-use Rattle.std.specs.Prelude.{◌≡◌, ℕ, List, [], map, All}
+use Rattle.std.specs.Prelude.{◌≡◌, ℕ, List, [], map}
 use Rattle.std.specs.Bool.{OnFalse}
 use Rattle.std.specs.List.{flat_map}
 use Rattle.cell_world.specs.declared.score.Score.{Score}
@@ -7,6 +7,7 @@ use Rattle.tournament.specs.declared.games.Pairing.{Pairing}
 use Rattle.tournament.specs.declared.games.Played.{Played}
 use Rattle.tournament.specs.declared.pieces.Piece.{Piece}
 use Rattle.tournament.specs.Games.{played_by}
+use Rattle.tournament.specs.Plays.{AreKnown}
 
 -- the games of all pieces, one after another
 abbrev pub dealt_games : List Piece → List Pairing
@@ -15,10 +16,6 @@ dealt_games pieces = flat_map (λ piece. piece.games.items) pieces
 -- the games with scores of all pieces, one after another
 abbrev pub played_games : List Piece → List Played
 played_games pieces = flat_map (λ piece. piece.played.items) pieces
-
--- what a referee knows of games holds of each game of the list
-abbrev pub AreKnown : (ℕ → ℕ → ℕ → Type 0) → List Pairing → Type 0
-AreKnown knows games = All (λ game. knows game.world game.red game.black) games
 
 -- nothing of the piece was played, and the referee knows its games
 pub record IsPieceReady (knows : ℕ → ℕ → ℕ → Type 0) (piece : Piece) : Type 0 where

@@ -1,49 +1,29 @@
--- the program ends as its command did, and its line was pushed, or as the run without standing workers did; all other clauses follow from the first
+-- the program ends as its command did, and its line was pushed, or as the run without standing workers did
 use Rattle.std.proofs.Common.{ℕ, List, sym, ◌∙◌, subst}
 use Rattle.command_words.specs.Words.{texts}
 use Rattle.ant_commands.specs.Outside.{outside_of}
-use Rattle.ant_commands.specs.Run.{IsRun}
 use Rattle.ant_commands.specs.FaultLines.{plain_ending}
-use Rattle.ant_commands.proofs.Verdicts.{complete_run, crowding_run, no_command_run, orderly_run, read_run, refusing_run, words_run}
+use Rattle.ant_commands.specs.Run.{EndsAsPromised}
+use Rattle.ant_commands.proofs.Verdicts.{promised_run}
 use Rattle.command_words.proofs.FarWords.{refuses_far}
 use Rattle.ant_commands.proofs.program.run_ants.Goals as goal
 
 pub returns-then-not-is_far_run : goal.returns-then-not-is_far_run
 returns-then-not-is_far_run g c =
-    let run : IsRun (texts c.args.words.now) (outside_of (g.S.Shelf.state c.args.shelf.now) (g.K.Sink.state c.args.out.now) (g.E.Sink.state c.args.err.now))
-    (outside_of (g.S.Shelf.state c.run_here.new.shelf) (g.K.Sink.state c.run_here.new.out) (g.E.Sink.state c.run_here.new.err)) c.run_here.result =
     subst
-    (λ (words : List (List ℕ)). IsRun words (outside_of (g.S.Shelf.state c.args.shelf.now) (g.K.Sink.state c.args.out.now) (g.E.Sink.state c.args.err.now))
+    (λ (words : List (List ℕ)). EndsAsPromised words (outside_of (g.S.Shelf.state c.args.shelf.now) (g.K.Sink.state c.args.out.now) (g.E.Sink.state c.args.err.now))
     (outside_of (g.S.Shelf.state c.run_here.new.shelf) (g.K.Sink.state c.run_here.new.out) (g.E.Sink.state c.run_here.new.err)) c.run_here.result)
-    (refuses_far.others (texts c.args.words.now) (sym c.is_far_run.ensures ∙ c.if-not-is_far_run.true)) c.run_here.ensures.run in
-    record {
-      run = run;
-      words = (no_command_run _ _ _ _ run, words_run _ _ _ _ run);
-      orderly = orderly_run _ _ _ _ run;
-      complete = complete_run _ _ _ _ run;
-      crowding = crowding_run _ _ _ _ run;
-      refusing = refusing_run _ _ _ _ run;
-      read = read_run _ _ _ _ run;
-    }
+    (refuses_far.others (texts c.args.words.now) (sym c.is_far_run.ensures ∙ c.if-not-is_far_run.true)) c.run_here.ensures
 
 pub returns : goal.returns
 returns g c =
-    let run : IsRun (texts c.args.words.now) (outside_of (g.S.Shelf.state c.args.shelf.now) (g.K.Sink.state c.args.out.now) (g.E.Sink.state c.args.err.now))
-    (outside_of (g.S.Shelf.state c.read_and_carry_out_far-ended.new.shelf) (g.K.Sink.state c.read_and_carry_out_far-ended.new.out) (g.E.Sink.state c.report.new.err)) c.report.result =
-    record {
+    promised_run (texts c.args.words.now) (outside_of (g.S.Shelf.state c.args.shelf.now) (g.K.Sink.state c.args.out.now) (g.E.Sink.state c.args.err.now))
+    (outside_of (g.S.Shelf.state c.read_and_carry_out_far-ended.new.shelf) (g.K.Sink.state c.read_and_carry_out_far-ended.new.out) (g.E.Sink.state c.report.new.err)) c.report.result
+    (record {
       fetches = c.read_and_carry_out_far-ended.ensures.fetches;
       fetched = c.read_and_carry_out_far-ended.ensures.fetched;
       ending = plain_ending c.read_and_carry_out_far-ended.result;
       ends = c.read_and_carry_out_far-ended.ensures.ends _ _;
       reports = c.report.ensures.reports;
       is_status = c.report.ensures.status;
-    } in
-    record {
-      run = run;
-      words = (no_command_run _ _ _ _ run, words_run _ _ _ _ run);
-      orderly = orderly_run _ _ _ _ run;
-      complete = complete_run _ _ _ _ run;
-      crowding = crowding_run _ _ _ _ run;
-      refusing = refusing_run _ _ _ _ run;
-      read = read_run _ _ _ _ run;
-    }
+    })

@@ -1,30 +1,20 @@
--- the program ends as its command did, and its line was pushed; all other clauses follow from the first
+-- the program ends as its command did, and its line was pushed
 use Rattle.command_words.specs.Far.{words_without_far}
 use Rattle.command_words.specs.Words.{texts}
 use Rattle.ant_commands.specs.Outside.{outside_of}
-use Rattle.ant_commands.specs.Run.{IsRun}
 use Rattle.ant_commands.specs.FaultLines.{plain_ending}
-use Rattle.ant_commands.proofs.Verdicts.{complete_run, crowding_run, no_command_run, orderly_run, read_run, refusing_run, words_run}
+use Rattle.ant_commands.proofs.Verdicts.{promised_run}
 use Rattle.ant_commands.proofs.program.run_here.Goals as goal
 
 pub returns : goal.returns
 returns g c =
-    let run : IsRun (words_without_far (texts c.args.words.now)) (outside_of (g.S.Shelf.state c.args.shelf.now) (g.K.Sink.state c.args.out.now) (g.E.Sink.state c.args.err.now))
-    (outside_of (g.S.Shelf.state c.read_and_carry_out-ended.new.shelf) (g.K.Sink.state c.read_and_carry_out-ended.new.out) (g.E.Sink.state c.report.new.err)) c.report.result =
-    record {
+    promised_run (words_without_far (texts c.args.words.now)) (outside_of (g.S.Shelf.state c.args.shelf.now) (g.K.Sink.state c.args.out.now) (g.E.Sink.state c.args.err.now))
+    (outside_of (g.S.Shelf.state c.read_and_carry_out-ended.new.shelf) (g.K.Sink.state c.read_and_carry_out-ended.new.out) (g.E.Sink.state c.report.new.err)) c.report.result
+    (record {
       fetches = c.read_and_carry_out-ended.ensures.fetches;
       fetched = c.read_and_carry_out-ended.ensures.fetched;
       ending = plain_ending c.read_and_carry_out-ended.result;
       ends = c.read_and_carry_out-ended.ensures.ends _ _;
       reports = c.report.ensures.reports;
       is_status = c.report.ensures.status;
-    } in
-    record {
-      run = run;
-      words = (no_command_run _ _ _ _ run, words_run _ _ _ _ run);
-      orderly = orderly_run _ _ _ _ run;
-      complete = complete_run _ _ _ _ run;
-      crowding = crowding_run _ _ _ _ run;
-      refusing = refusing_run _ _ _ _ run;
-      read = read_run _ _ _ _ run;
-    }
+    })

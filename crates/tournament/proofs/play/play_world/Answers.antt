@@ -1,15 +1,17 @@
-use Rattle.std.proofs.Common.{length, ap, ◌∙◌, arith}
-use Rattle.std.proofs.lemmas.List.Elements.{All-same}
-use Rattle.tournament.proofs.GamesLemmas.{known_on, length-games_on}
+-- the games of the world can be played, and what was played has their scores
+use Rattle.std.proofs.Common.{List, ◌∙◌, arith, subst}
+use Rattle.tournament.specs.Plays.{ArePlayed}
+use Rattle.tournament.specs.declared.games.Pairing.{Pairing}
+use Rattle.tournament.proofs.PiecesLemmas.{can_play_on}
 use Rattle.tournament.proofs.play.play_world.Goals as goal
 
-pub play_listed-requires-clause-few : goal.play_listed-requires-clause-few
-play_listed-requires-clause-few g c =
-    let short = length-games_on c.args.players c.args.world (omega arith) in
-    let at = ap length (c.deref.ensures.value ∙ c.in_ok-games.ensures) in
-    omega arith
+pub play-requires : goal.play-requires
+play-requires g c =
+    c.requires.plays.may c.args.referee c.deref.result c.args.workers
+    (can_play_on (g.F.Referee.knows c.args.referee.now) c.args.players c.args.world c.args.workers c.deref.result.now (omega arith) c.requires.workers.0 c.requires.workers.1 (c.deref.ensures.value ∙ c.in_ok-games.ensures) c.requires.known)
 
-pub play_listed-requires-clause-known : goal.play_listed-requires-clause-known
-play_listed-requires-clause-known g c = λ κs within.
-    let knows = g.F.Referee.knows c.args.referee.now in
-    All-same (λ game. knows game.world game.red game.black) _ _ (c.deref.ensures.value ∙ c.in_ok-games.ensures) (known_on knows c.args.players c.args.world c.requires.known)
+pub returns : goal.returns
+returns g c =
+    let games = c.deref.ensures.value ∙ c.in_ok-games.ensures in
+    let can = can_play_on (g.F.Referee.knows c.args.referee.now) c.args.players c.args.world c.args.workers c.deref.result.now (omega arith) c.requires.workers.0 c.requires.workers.1 games c.requires.known in
+    subst (λ (all : List Pairing). ArePlayed (g.F.Referee.score c.args.referee.now) all c.play.result) games (c.requires.plays.plays c.args.referee c.deref.result c.args.workers c.play.result can c.play.ensures)

@@ -14,21 +14,21 @@ use Rattle.ant_commands.proofs.ToldCups.{carries_cup}
 use Rattle.ant_commands.proofs.commands.cup.cup.Goals as goal
 
 pub tell_games-requires-clause-ready : goal.tell_games-requires-clause-ready
-tell_games-requires-clause-ready g c = λ κs within.
+tell_games-requires-clause-ready g c =
     ready (texts c.args.entry.worlds.now) (texts c.args.entry.brains.now) c.args.entry.seed c.args.entry.rounds c.args.entry.workers c.in_ok-roster.ensures.fetches c.in_ok-roster.roster.worlds.items c.in_ok-roster.roster.players.items
-    c.requires c.in_ok-roster.ensures.comes
+    c.requires.within c.in_ok-roster.ensures.comes
 
 pub tell_games-requires-clause-worlds : goal.tell_games-requires-clause-worlds
-tell_games-requires-clause-worlds g c = λ κs within.
+tell_games-requires-clause-worlds g c =
     worlds_counted (texts c.args.entry.worlds.now) (texts c.args.entry.brains.now) c.in_ok-roster.ensures.fetches c.in_ok-roster.roster.worlds.items c.in_ok-roster.roster.players.items c.in_ok-roster.ensures.comes
 
 pub tell_games-requires-clause-players : goal.tell_games-requires-clause-players
-tell_games-requires-clause-players g c = λ κs within.
+tell_games-requires-clause-players g c =
     players_counted (texts c.args.entry.worlds.now) (texts c.args.entry.brains.now) c.in_ok-roster.ensures.fetches c.in_ok-roster.roster.worlds.items c.in_ok-roster.roster.players.items c.in_ok-roster.ensures.comes
 
 pub returns-then-entry : goal.returns-then-entry
 returns-then-entry g c =
-    let enough = c.requires.brain_names.enough in
+    let enough = c.requires.within.brain_names.enough in
     subst (λ (games : Bool). CarriesOut (cup_job (texts c.args.entry.worlds.now) (texts c.args.entry.brains.now) c.args.entry.seed c.args.entry.rounds c.args.entry.workers games) (g.S.Shelf.state c.args.shelf.now) (g.S.Shelf.state c.roster_of.new.shelf)
     (g.K.Sink.state c.args.out.now) (g.K.Sink.state c.tell_games.new.out) (ending_of c.after_cup.result)) (sym c.if-entry.true)
     (carries_cup (texts c.args.entry.worlds.now) (texts c.args.entry.brains.now) c.args.entry.seed c.args.entry.rounds c.args.entry.workers
@@ -36,9 +36,9 @@ returns-then-entry g c =
     (g.K.Sink.state c.args.out.now) (g.K.Sink.state c.tell_games.new.out) c.after_cup.result c.tell_games.result c.after_cup.ensures c.in_ok-roster.ensures (omega (arith, enough)) c.tell_games.ensures)
 
 pub standing_of-requires-clause-ready : goal.standing_of-requires-clause-ready
-standing_of-requires-clause-ready g c = λ κs within.
+standing_of-requires-clause-ready g c =
     ready (texts c.args.entry.worlds.now) (texts c.args.entry.brains.now) c.args.entry.seed c.args.entry.rounds c.args.entry.workers c.in_ok-roster.ensures.fetches c.in_ok-roster.roster.worlds.items c.in_ok-roster.roster.players.items
-    c.requires c.in_ok-roster.ensures.comes
+    c.requires.within c.in_ok-roster.ensures.comes
 
 pub returns-in_err-standing : goal.returns-in_err-standing
 returns-in_err-standing g c =

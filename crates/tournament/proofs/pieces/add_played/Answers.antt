@@ -1,5 +1,5 @@
 use Rattle.tournament.proofs.PiecesLemmas.{played_push}
-use Rattle.tournament.proofs.pieces.play_games.Goals as goal
+use Rattle.tournament.proofs.pieces.add_played.Goals as goal
 
 pub loop-game-preserved : goal.loop-game-preserved
 loop-game-preserved g c =

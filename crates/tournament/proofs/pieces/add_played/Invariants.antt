@@ -1,6 +1,6 @@
 use Rattle.std.proofs.Common.{◌≡◌, ◌++◌, map, take}
 use Rattle.tournament.specs.Games.{played_by}
-use Rattle.tournament.proofs.pieces.play_games.Given as goal
+use Rattle.tournament.proofs.pieces.add_played.Given as goal
 
 -- the games so far were added with their scores
 abbrev pub invariant-loop-game : goal.invariant-loop-game

@@ -1,7 +1,7 @@
 use Rattle.std.proofs.lemmas.List.Elements.{All-same}
 use Rattle.tournament.specs.Inner.Pieces.{IsPieceReady}
 use Rattle.tournament.proofs.PiecesLemmas.{ready_by}
-use Rattle.tournament.proofs.play.play_listed.Goals as goal
+use Rattle.tournament.proofs.play.play_games.Goals as goal
 
 pub play_together-requires-clause-ready : goal.play_together-requires-clause-ready
 play_together-requires-clause-ready g c = λ κs outlives.
