@@ -5,3 +5,4 @@ mod Looks
 mod Overlaid
 mod Stops
 mod WorkedCalls
+mod WorkedLooks

@@ -172,8 +172,8 @@ pub extern "C" fn ants_scores(
 ///
 /// `ids` is how many ants a round has, at 0 and at 4. The scores and the ants are written at 0 alone, and those behind them stay; the fault and the
 /// words at 5 alone.
-#[tactic(auto, using(crate::proofs::Stops::stopped_tells))]
 #[unsafe(no_mangle)]
+#[tactic(auto, using(crate::proofs::Stops::stopped_tells))]
 pub extern "C" fn ants_look(
     alloc: Global,
     world: &[u8],
