@@ -21,7 +21,7 @@ import pathlib
 import re
 import sys
 from array import array
-from ctypes import POINTER, byref, c_char, c_char_p, c_size_t, c_uint32, c_uint64
+from ctypes import POINTER, byref, c_char, c_char_p, c_size_t, c_uint8, c_uint16, c_uint32, c_uint64
 from typing import Dict, Iterable, List, Mapping, NamedTuple, Optional, Union
 
 __all__ = ["Called", "Difference", "Refused", "Score", "asm", "brain", "call", "difference", "gen", "minimise", "resume", "run", "same", "save", "score", "scores"]
@@ -46,6 +46,11 @@ _REFUSED = 5  # A text was refused, or an element of a generated world has no ro
 _MEMORY = 6  # Memory could not be had.
 
 
+class _Ant(ctypes.Structure):
+    _fields_ = [("state", c_uint32), ("resting", c_uint32), ("column", c_uint16), ("row", c_uint16), ("alive", c_uint8), ("colour",
+        c_uint8), ("direction", c_uint8), ("laden", c_uint8)]
+
+
 class _Fault(ctypes.Structure):
     _fields_ = [("text", c_uint32), ("kind", c_uint32), ("line", c_uint32), ("column", c_uint32), ("number", c_uint64), ("words", c_uint64)]
 
@@ -60,6 +65,8 @@ _DECLARED = {
         c_char_p, c_size_t],
     "ants_scores": [c_char_p, c_size_t, c_char_p, c_size_t, c_char_p, c_size_t, POINTER(c_uint32), c_size_t, c_uint32, POINTER(_Score),
         c_size_t, POINTER(_Fault), c_char_p, c_size_t],
+    "ants_look": [c_char_p, c_size_t, c_char_p, c_size_t, c_char_p, c_size_t, c_uint32, POINTER(c_uint32), c_size_t, POINTER(_Score),
+        c_size_t, POINTER(_Ant), c_size_t, POINTER(c_size_t), POINTER(_Fault), c_char_p, c_size_t],
     "ants_run": [c_char_p, c_size_t, c_char_p, c_size_t, c_char_p, c_size_t, c_uint32, c_uint32, POINTER(c_uint32), c_size_t, c_char_p,
         c_size_t, POINTER(c_size_t), POINTER(_Fault), c_char_p, c_size_t],
     "ants_brain": [c_char_p, c_size_t, c_char_p, c_size_t, POINTER(c_size_t), POINTER(_Fault), c_char_p, c_size_t],

@@ -8,7 +8,7 @@ from tree import Unknown, read, source_files
 SOURCE = "crates/ants_c/src"
 STATUSES, VERSION = SOURCE + "/status.rt", SOURCE + "/version.rt"
 HEAD = "library/ants.h.in"
-PLAIN = {"u8": "uint8_t", "u32": "uint32_t", "u64": "uint64_t", "usize": "size_t"}
+PLAIN = {"u8": "uint8_t", "u16": "uint16_t", "u32": "uint32_t", "u64": "uint64_t", "usize": "size_t"}
 WIDTH, RUST_WIDTH = 120, 150
 RUST_HEAD = """//! The structs and functions of the library as `library/ants.h` has them; made of the same source by `make documents`.
 //!
