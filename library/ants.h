@@ -158,6 +158,26 @@ enum ants_kind {
     ANTS_KIND_NO_ROOM = 60, // an element of a world to be generated has no room
 };
 
+// An ant: 16 bytes. Of one that is dead all numbers are 0.
+struct ants_ant_data {
+    // The state of its colour's brain that it executes next.
+    uint32_t state;
+    // How many turns it still rests.
+    uint32_t resting;
+    // Its column, from 0.
+    uint16_t column;
+    // Its row, from 0.
+    uint16_t row;
+    // 1 where it is alive, else 0.
+    uint8_t alive;
+    // 0 for red, 1 for black.
+    uint8_t colour;
+    // Its direction: 0 is east, 1 southeast, and so on clockwise to 5.
+    uint8_t direction;
+    // 1 where it carries food, else 0.
+    uint8_t laden;
+};
+
 // Why a text was refused, in numbers (this project's own). The kinds are those of enum ants_kind.
 struct ants_fault_data {
     // Which text, from 1 in the order in which the texts are passed; 0 where it is of no text.
@@ -210,6 +230,19 @@ uint32_t ants_scores(
     const uint8_t *world, size_t world_len, const uint8_t *red, size_t red_len, const uint8_t *black, size_t black_len,
     const uint32_t *seeds, size_t seeds_len, uint32_t rounds, struct ants_score_data *scores, size_t scores_len,
     struct ants_fault_data *fault, uint8_t *words, size_t words_len);
+
+// Plays a game as `ants_score` does, and looks at it after each of these rounds: its score, and the ants of all ids that were made, in order, those
+// of one round behind those of the round before (the task's game play and biology). The status is that of `ants_score`, or
+// - 2: a round is not above the one before it, or above 1,000,000;
+// - 4: there is room for fewer scores than there are rounds, or for fewer ants than the rounds have together.
+//
+// `ids` is how many ants a round has, at 0 and at 4. The scores and the ants are written at 0 alone, and those behind them stay; the fault and the
+// words at 5 alone.
+uint32_t ants_look(
+    const uint8_t *world, size_t world_len, const uint8_t *red, size_t red_len, const uint8_t *black, size_t black_len,
+    uint32_t seed, const uint32_t *rounds, size_t rounds_len, struct ants_score_data *scores, size_t scores_len,
+    struct ants_ant_data *ants, size_t ants_len, size_t *ids, struct ants_fault_data *fault, uint8_t *words,
+    size_t words_len);
 
 // Plays a game as `ants_score` does, and lays the text of its run over `out`: what the program's `run` prints with one worker, without
 // counts, with the dumps of these rounds (the task's game play). The status is that of `ants_score`, or

@@ -41,6 +41,21 @@ uint32_t ants_scores(
         PLACE(scores), scores_len, fault, PLACE(words), words_len);
 }
 
+uint32_t proved_ants_look(
+    const uint8_t *world, size_t world_len, const uint8_t *red, size_t red_len, const uint8_t *black, size_t black_len,
+    uint32_t seed, const uint32_t *rounds, size_t rounds_len, struct ants_score_data *scores, size_t scores_len,
+    struct ants_ant_data *ants, size_t ants_len, size_t *ids, struct ants_fault_data *fault, uint8_t *words,
+    size_t words_len);
+uint32_t ants_look(
+    const uint8_t *world, size_t world_len, const uint8_t *red, size_t red_len, const uint8_t *black, size_t black_len,
+    uint32_t seed, const uint32_t *rounds, size_t rounds_len, struct ants_score_data *scores, size_t scores_len,
+    struct ants_ant_data *ants, size_t ants_len, size_t *ids, struct ants_fault_data *fault, uint8_t *words,
+    size_t words_len) {
+    return proved_ants_look(
+        PLACE(world), world_len, PLACE(red), red_len, PLACE(black), black_len, seed, PLACE(rounds), rounds_len,
+        PLACE(scores), scores_len, PLACE(ants), ants_len, ids, fault, PLACE(words), words_len);
+}
+
 uint32_t proved_ants_run(
     const uint8_t *world, size_t world_len, const uint8_t *red, size_t red_len, const uint8_t *black, size_t black_len,
     uint32_t seed, uint32_t rounds, const uint32_t *dumps, size_t dumps_len, uint8_t *out, size_t out_len, size_t *used,

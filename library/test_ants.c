@@ -151,6 +151,30 @@ static void call_rows(void) {
     ROW(ants_call(NULL, 0, NULL, 0, NULL, 0, NULL, 0, NULL, 0, &used, NULL, 0, &told) == ANTS_NO_ROOM && used == 0 && told > 0);
 }
 
+/* The ambush of the README: black ant 1 steps beside red ant 2, which dies; and the rooms that a look wants. */
+static void look_rows(void) {
+    const char *ambush = "7\n6\n#######\n#.....#\n#..-#.#\n#-.+-##\n#+.--##\n#######\n", *step = "Move 0 0\n";
+    const uint32_t rounds[2] = {0, 1}, twice[2] = {1, 1};
+    struct ants_ant_data ants[15];
+    clear();
+    memset(ants, 0x55, sizeof ants);
+    ROW(sizeof ants[0] == 16);
+    ROW(ants_look(TEXT(ambush), TEXT(brain), TEXT(step), 12345, rounds, 2, scores, 3, ants, 15, &used, &fault, words, 64) == ANTS_DONE);
+    ROW(used == 7 && scores[0].red == 0 && scores[1].red == 3 && scores[1].black == 0 && scores[2].red == 0x55555555 && stays());
+    ROW(ants[1].column == 1 && ants[1].row == 3 && ants[1].alive == 1 && ants[1].colour == 1 && ants[1].resting == 0 && ants[1].direction == 0);
+    ROW(ants[2].column == 3 && ants[2].row == 3 && ants[2].alive == 1 && ants[2].colour == 0 && ants[2].state == 0 && ants[2].laden == 0);
+    ROW(ants[8].column == 2 && ants[8].row == 3 && ants[8].resting == 14);
+    ROW(ants[9].alive == 0 && ants[9].column == 0 && ants[9].row == 0 && ants[14].alive == 0x55);
+    clear();
+    ROW(ants_look(TEXT(ambush), TEXT(brain), TEXT(step), 12345, rounds, 2, scores, 1, ants, 15, &used, &fault, words, 64) == ANTS_NO_ROOM && used == 7);
+    ROW(ants_look(TEXT(ambush), TEXT(brain), TEXT(step), 12345, rounds, 2, scores, 2, ants, 13, &used, &fault, words, 64) == ANTS_NO_ROOM && stays());
+    ROW(ants_look(TEXT(ambush), TEXT(brain), TEXT(step), 12345, rounds, 2, scores, 2, ants, 14, &used, &fault, words, 64) == ANTS_DONE);
+    clear();
+    ROW(ants_look(TEXT(ambush), TEXT(brain), TEXT(step), 12345, twice, 2, scores, 3, ants, 15, &used, &fault, words, 64) == ANTS_NUMBER && used == 99 && stays());
+    ROW(ants_look(TEXT(world), TEXT("Move 0 7\n"), TEXT(brain), 1, rounds, 2, scores, 3, ants, 15, &used, &fault, words, 64) == ANTS_REFUSED);
+    ROW(is_fault(2, 27, 1, 0, 7, "line 1: no such state 7") && used == 99);
+}
+
 int main(void) {
     ROW(ANTS_UNREADABLE == 1 && ANTS_NO_FILE == 3);
     ROW(ANTS_DONE == 0 && ANTS_NUMBER == 2 && ANTS_NO_ROOM == 4 && ANTS_REFUSED == 5 && ANTS_MEMORY == 6);
@@ -158,6 +182,7 @@ int main(void) {
     play_rows();
     text_rows();
     run_row();
+    look_rows();
     null_rows();
     version_rows();
     call_rows();

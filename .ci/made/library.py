@@ -8,7 +8,7 @@ from tree import Unknown, read, source_files
 SOURCE = "crates/ants_c/src"
 STATUSES, VERSION, NUMBERS = SOURCE + "/status.rt", SOURCE + "/version.rt", "crates/ants_c/specs/Numbers.antt"
 HEAD = "library/ants.h.in"
-PLAIN = {"u8": "uint8_t", "u32": "uint32_t", "u64": "uint64_t", "usize": "size_t"}
+PLAIN = {"u8": "uint8_t", "u16": "uint16_t", "u32": "uint32_t", "u64": "uint64_t", "usize": "size_t"}
 WIDTH, RUST_WIDTH = 120, 150
 RUST_HEAD = """//! The structs and functions of the library as `library/ants.h` has them; made of the same source by `make documents`.
 //!
@@ -27,7 +27,7 @@ static _Alignas(16) uint8_t none[16];
 PYTHON_HEAD = '''"""What libants.so declares, as library/ants.h has it; made of the same source by `make documents`."""
 import ctypes
 import enum
-from ctypes import POINTER, c_char_p, c_size_t, c_uint32, c_uint64
+from ctypes import %s
 
 '''
 KINDS = " The kinds are"  # what a list of kinds stands below
@@ -246,7 +246,7 @@ class Library:
 
     def python(self):
         """library/icfp_ants/_declared.py: the statuses, the kinds of faults, the structs, and the types of what each function is given."""
-        out = [PYTHON_HEAD + 'VERSION = "%s"' % self.version]
+        out = ['VERSION = "%s"' % self.version]
         out += ["%s = %s  # %s" % (name, number, docs) for name, docs, number in self.statuses] + ["", ""]
         out += ["class Kind(enum.IntEnum):", '    """What is wrong with a text, or with none. The numbers stay."""']
         out += ["    %s = %s  # %s" % (it.name, it.number, it.says) for it in self.kinds] + ["", ""]
@@ -257,7 +257,8 @@ class Library:
         for it in self.exports:
             given = ", ".join(map(self.python_type, it.parameters))
             out += wrapped('"%s": [%s],' % (it.name, given), "    ")
-        return "\n".join(out + ["}"]) + "\n"
+        text = "\n".join(out + ["}"]) + "\n"
+        return PYTHON_HEAD % ", ".join(sorted(set(re.findall(r"POINTER|\bc_\w+", text)))) + text
 
     def python_type(self, parameter):
         kind = parameter.kind

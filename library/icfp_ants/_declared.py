@@ -1,7 +1,7 @@
 """What libants.so declares, as library/ants.h has it; made of the same source by `make documents`."""
 import ctypes
 import enum
-from ctypes import POINTER, c_char_p, c_size_t, c_uint32, c_uint64
+from ctypes import POINTER, c_char_p, c_size_t, c_uint16, c_uint32, c_uint64, c_uint8
 
 VERSION = "1.1.0"
 DONE = 0  # Done.
@@ -53,6 +53,11 @@ class Kind(enum.IntEnum):
     NO_ROOM = 60  # an element of a world to be generated has no room
 
 
+class Ant(ctypes.Structure):
+    _fields_ = [("state", c_uint32), ("resting", c_uint32), ("column", c_uint16), ("row", c_uint16), ("alive", c_uint8), ("colour",
+        c_uint8), ("direction", c_uint8), ("laden", c_uint8)]
+
+
 class Fault(ctypes.Structure):
     _fields_ = [("text", c_uint32), ("kind", c_uint32), ("line", c_uint32), ("column", c_uint32), ("number", c_uint64), ("words", c_uint64)]
 
@@ -67,6 +72,8 @@ FUNCTIONS = {
         c_size_t],
     "ants_scores": [c_char_p, c_size_t, c_char_p, c_size_t, c_char_p, c_size_t, POINTER(c_uint32), c_size_t, c_uint32, POINTER(Score),
         c_size_t, POINTER(Fault), c_char_p, c_size_t],
+    "ants_look": [c_char_p, c_size_t, c_char_p, c_size_t, c_char_p, c_size_t, c_uint32, POINTER(c_uint32), c_size_t, POINTER(Score),
+        c_size_t, POINTER(Ant), c_size_t, POINTER(c_size_t), POINTER(Fault), c_char_p, c_size_t],
     "ants_run": [c_char_p, c_size_t, c_char_p, c_size_t, c_char_p, c_size_t, c_uint32, c_uint32, POINTER(c_uint32), c_size_t, c_char_p,
         c_size_t, POINTER(c_size_t), POINTER(Fault), c_char_p, c_size_t],
     "ants_brain": [c_char_p, c_size_t, c_char_p, c_size_t, POINTER(c_size_t), POINTER(Fault), c_char_p, c_size_t],

@@ -1,9 +1,10 @@
 pub mod Called
+pub mod Looked
 pub mod Numbers
 pub mod Played
 pub mod Refused
-pub mod Rooms
 pub mod RoomSinks
+pub mod Rooms
 pub mod Saves
 pub mod Texts
 pub mod Told

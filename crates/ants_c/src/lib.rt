@@ -11,6 +11,7 @@ ghost use Rattle.std.specs.Prelude.{◌≡◌, ◌⊎◌, ◌↔◌, ◌<◌, �
 ghost use Rattle.ant_base.specs.Lines.{lines_of};
 ghost use Rattle.match_run.specs.Run.{most_rounds};
 ghost use Rattle.ants_c.specs.Called.{CanBeRead, IsCalled, IsNotCalled, files_in};
+ghost use Rattle.ants_c.specs.Looked.{AreFew, AreLooked, AreRising, HasIds};
 ghost use Rattle.ants_c.specs.Played.{AreScored, IsRunText, IsScored, IsStatus};
 ghost use Rattle.ants_c.specs.Refused.{IsRefusedBrain, IsRefusedGame, IsRefusedPair, IsRefusedProgram, IsRefusedSave, IsRefusedShape};
 ghost use Rattle.ants_c.specs.Rooms.{Answers, IsPut, Writes};
@@ -20,7 +21,9 @@ ghost use Rattle.ants_c.specs.Told.{IsTold};
 ghost use Rattle.ants_c.specs.Version.{version};
 
 mod call;
+mod ant;
 mod fault;
+mod look;
 mod numbers;
 mod read;
 mod refusal;
@@ -38,6 +41,7 @@ mod texts;
 mod version;
 
 use crate::call::{call_program, files_of, words_of};
+use crate::look::{are_rising, put_looks};
 use crate::read::{Pair, Setting, open_brain, open_pair, open_program, open_save, open_texts};
 use crate::resume::put_resumed;
 use crate::run::put_run;
@@ -51,6 +55,7 @@ use crate::version::VersionText;
 use ant_turn::{Brains, Sheet};
 use brain_minimise::minimise;
 use brain_same::compare;
+pub use ant::AntsAnt;
 pub use fault::AntsFault;
 use match_run::MOST_ROUNDS;
 pub use score::AntsScore;
@@ -158,6 +163,54 @@ pub extern "C" fn ants_scores(
         }
         Err(_) => MEMORY,
     }
+}
+
+/// Plays a game as `ants_score` does, and looks at it after each of these rounds: its score, and the ants of all ids that were made, in order, those
+/// of one round behind those of the round before (the task's game play and biology). The status is that of `ants_score`, or
+/// - 2: a round is not above the one before it, or above 1,000,000;
+/// - 4: there is room for fewer scores than there are rounds, or for fewer ants than the rounds have together.
+///
+/// `ids` is how many ants a round has, at 0 and at 4. The scores and the ants are written at 0 alone, and those behind them stay; the fault and the
+/// words at 5 alone.
+#[unsafe(no_mangle)]
+#[tactic(auto, using(crate::proofs::Stops::stopped_tells))]
+pub extern "C" fn ants_look(
+    alloc: Global,
+    world: &[u8],
+    red: &[u8],
+    black: &[u8],
+    seed: u32,
+    rounds: &[u32],
+    scores: &mut [AntsScore],
+    ants: &mut [AntsAnt],
+    ids: &mut usize,
+    fault: &mut AntsFault,
+    words: &mut [u8],
+) -> u32
+    ensures status { IsStatus result }
+    ensures done { result ≡ 0 → AreLooked world.now red.now black.now seed rounds.now scores.old scores.new ants.old ants.new ids.new }
+    ensures rounds { (result ≡ 2) ⊎ AreRising 0 rounds.now }
+    ensures falling { result ≡ 2 → AreRising 0 rounds.now → ⊥ }
+    ensures few { result ≡ 4 → HasIds world.now red.now black.now ids.new × AreFew (length rounds.now) ids.new scores.old ants.old }
+    ensures room { result ≡ 0 → AreFew (length rounds.now) ids.new scores.old ants.old → ⊥ }
+    ensures refused { result ≡ 5 → IsTold (IsRefusedGame world.now red.now black.now) fault.new words.old words.new }
+    ensures looked { (result ≡ 0) ⊎ ((scores.new ≡ scores.old) × (ants.new ≡ ants.old)) }
+    ensures ids { Writes result ⊎ (ids.new ≡ ids.old) }
+    ensures fault { (result ≡ 5) ⊎ ((fault.new ≡ fault.old) × (words.new ≡ words.old)) }
+{
+    if !are_rising(rounds) {
+        return NUMBER;
+    }
+    let setting = match open_texts(alloc, world, red, black) {
+        Ok(setting) => setting,
+        Err(stop) => return stopped(stop, fault, words),
+    };
+    *ids = setting.world.ant_count() as usize;
+    if scores.len() < rounds.len() || ants.len() < rounds.len().saturating_mul(*ids) {
+        return NO_ROOM;
+    }
+    put_looks(setting, seed, rounds, scores, ants);
+    DONE
 }
 
 /// Plays a game as `ants_score` does, and lays the text of its run over `out`: what the program's `run` prints with one worker, without

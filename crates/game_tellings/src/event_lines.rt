@@ -1,5 +1,5 @@
 // The text of a game's events.
-ghost use Rattle.std.specs.Prelude.{◌≡◌, ◌+◌, ◌<◌, ◌≤◌, ◌^◌, Some, flat_map, OnOk};
+ghost use Rattle.std.specs.Prelude.{◌≡◌, ◌+◌, ◌<◌, ◌≤◌, ◌^◌, Some, flat_map, is_some, OnOk};
 ghost use Rattle.ant_base.specs.Layout.{text_of_option};
 ghost use Rattle.ant_base.specs.Sink.{Pushed};
 ghost use Rattle.ant_turn.specs.Minds.{Fits, minds_of};
@@ -118,9 +118,65 @@ fn watched(ground: &mut ScoredWorld, brains: Brains<'_>, standing: PlacedAnt) ->
     })
 }
 
+// Whether the ant is about to step ahead: it doesn't rest, and its instruction is a Move onto a cell that isn't blocked.
+#[inline(always)]
+fn steps(ground: &mut ScoredWorld, brains: Brains<'_>, standing: PlacedAnt) -> bool
+    requires fit { Fits (world_of ground.old) (minds_of brains) }
+    requires valid { Valid (world_of ground.old) }
+    requires here { ((world_of ground.old).cells standing.place).ant ≡ Some standing.ant }
+    ensures steps { result ≡ is_some (watch_of (minds_of brains.entry) (world_of ground.old).cells standing.place standing.ant) }
+    ensures world { world_of ground.new ≡ world_of ground.old }
+{
+    let (p, ant) = (standing.place, standing.ant);
+    if ant.resting > 0 {
+        return false;
+    }
+    match brains.of(ant.colour).at(ant.state) {
+        Instr::Move { .. } => !is_blocked(&ground.cell_at(adjacent(p, ant.facing))),
+        _ => false,
+    }
+}
+
 // Takes a turn and pushes its lines.
 #[inline(always)]
 fn push_turn<K: Sink>(
+    ground: &mut ScoredWorld,
+    brains: Brains<'_>,
+    stream: &mut Stream,
+    id: u32,
+    round: u32,
+    sink: &mut K,
+) -> Result<(), Failed>
+    requires fit { Fits (world_of ground.old) (minds_of brains) }
+    requires id { id < ground.old.ids }
+    requires place { stream.old.place + 1 < 2 ^ 63 }
+    ensures text { Pushed (K.state sink.old) (K.state sink.new)
+        (broken (turn_lines (minds_of brains.entry) stream.old.seed round (moment_from ground.old stream.old) id)) result }
+    ensures world { world_of ground.new ≡ with_cells (world_of ground.old)
+        (turn (minds_of brains.entry) stream.old.seed (world_of ground.old) stream.old.place id).cells }
+    ensures stream { stream.new ≡ record stream.old {
+      place = stream.old.place + one_if (turn (minds_of brains.entry) stream.old.seed (world_of ground.old) stream.old.place id).drew;
+    } }
+    ensures fit { Fits (world_of ground.new) (minds_of brains.entry) }
+{
+    let Some(standing) = ground.ant_of(id) else {
+        return Ok(());
+    };
+    if steps(ground, brains, standing) {
+        return push_step(ground, brains, stream, id, round, sink);
+    }
+    let before = ground.score();
+    let _deed = take_turn(ground, brains, stream, id);
+    let turn = TurnWords {
+        round,
+        actor: standing.ant,
+    };
+    push_score(turn, before, ground.score(), sink)
+}
+
+// Takes the turn of an ant that is about to step ahead, or any, and pushes its lines. It stands alone, so that what it notes costs no other turn.
+#[inline(never)]
+fn push_step<K: Sink>(
     ground: &mut ScoredWorld,
     brains: Brains<'_>,
     stream: &mut Stream,

@@ -97,6 +97,28 @@ pub mod kind {
     pub const NO_ROOM: u32 = 60;
 }
 
+/// An ant: 16 bytes. Of one that is dead all numbers are 0.
+#[repr(C)]
+#[derive(Clone, Copy, Debug, Default, PartialEq, Eq)]
+pub struct Ant {
+    /// The state of its colour's brain that it executes next.
+    pub state: u32,
+    /// How many turns it still rests.
+    pub resting: u32,
+    /// Its column, from 0.
+    pub column: u16,
+    /// Its row, from 0.
+    pub row: u16,
+    /// 1 where it is alive, else 0.
+    pub alive: u8,
+    /// 0 for red, 1 for black.
+    pub colour: u8,
+    /// Its direction: 0 is east, 1 southeast, and so on clockwise to 5.
+    pub direction: u8,
+    /// 1 where it carries food, else 0.
+    pub laden: u8,
+}
+
 /// Why a text was refused, in numbers (this project's own). The kinds are those of [`kind`].
 #[repr(C)]
 #[derive(Clone, Copy, Debug, Default, PartialEq, Eq)]
@@ -187,6 +209,48 @@ pub fn ants_scores(
             rounds,
             scores.as_mut_ptr(),
             scores.len(),
+            fault,
+            words.as_mut_ptr(),
+            words.len(),
+        )
+    }
+}
+
+/// Plays a game as `ants_score` does, and looks at it after each of these rounds: its score, and the ants of all ids that were made, in order, those
+/// of one round behind those of the round before (the task's game play and biology). The status is that of `ants_score`, or
+/// - 2: a round is not above the one before it, or above 1,000,000;
+/// - 4: there is room for fewer scores than there are rounds, or for fewer ants than the rounds have together.
+///
+/// `ids` is how many ants a round has, at 0 and at 4. The scores and the ants are written at 0 alone, and those behind them stay; the fault and the
+/// words at 5 alone.
+pub fn ants_look(
+    world: &[u8],
+    red: &[u8],
+    black: &[u8],
+    seed: u32,
+    rounds: &[u32],
+    scores: &mut [Score],
+    ants: &mut [Ant],
+    ids: &mut usize,
+    fault: &mut Fault,
+    words: &mut [u8],
+) -> u32 {
+    unsafe {
+        c::ants_look(
+            world.as_ptr(),
+            world.len(),
+            red.as_ptr(),
+            red.len(),
+            black.as_ptr(),
+            black.len(),
+            seed,
+            rounds.as_ptr(),
+            rounds.len(),
+            scores.as_mut_ptr(),
+            scores.len(),
+            ants.as_mut_ptr(),
+            ants.len(),
+            ids,
             fault,
             words.as_mut_ptr(),
             words.len(),
@@ -389,7 +453,7 @@ pub fn ants_call(
 }
 
 mod c {
-    use super::{Fault, Score};
+    use super::{Ant, Fault, Score};
 
     extern "C" {
         pub fn ants_version(out: *mut u8, out_len: usize, used: *mut usize) -> u32;
@@ -419,6 +483,25 @@ mod c {
             rounds: u32,
             scores: *mut Score,
             scores_len: usize,
+            fault: *mut Fault,
+            words: *mut u8,
+            words_len: usize,
+        ) -> u32;
+        pub fn ants_look(
+            world: *const u8,
+            world_len: usize,
+            red: *const u8,
+            red_len: usize,
+            black: *const u8,
+            black_len: usize,
+            seed: u32,
+            rounds: *const u32,
+            rounds_len: usize,
+            scores: *mut Score,
+            scores_len: usize,
+            ants: *mut Ant,
+            ants_len: usize,
+            ids: *mut usize,
             fault: *mut Fault,
             words: *mut u8,
             words_len: usize,
