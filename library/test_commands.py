@@ -116,7 +116,7 @@ class Functions(Beside):
         game = {"world": example("visit.world"), "red": example("host.brain"), "black": example("guest.brain")}
         found = {(it.column, it.row): it for it in icfp_ants.cells(icfp_ants.run(**game, seed=1, rounds=33, dumps=[33]))}
         self.assertEqual(found[1, 1], Cell(1, 1, False, 0, BLACK, (), (), None))
-        self.assertEqual(found[3, 1], Cell(3, 1, False, 1, RED, (0, 3), (5,), Ant(BLACK, 0, 0, 0, 5, 0)))
+        self.assertEqual(found[3, 1], Cell(3, 1, False, 1, RED, (0, 3), (5,), Ant(0, BLACK, 3, 1, 0, 0, 5, 0)))
         self.assertTrue(found[0, 0].is_rock)
 
     def test_run_with_its_options(self):
@@ -126,6 +126,19 @@ class Functions(Beside):
         self.assertEqual(icfp_ants.score_of(icfp_ants.run(**AMBUSH, seed=12345, rounds=1, corpse=9)), Score(9, 0))
         self.assertEqual(icfp_ants.counts_of(icfp_ants.run(**AMBUSH, seed=12345, rounds=1, stats=True)), Counts(7, 5, 2))
         self.assertEqual(icfp_ants.counts_of(icfp_ants.run(**AMBUSH, seed=12345, rounds=1, stats=True, window=1)), Counts(7, 7, 0))
+
+    def test_look(self):
+        for game, seed, rounds in ((AMBUSH, 12345, (0, 1, 2)), (FIRST, 1, (110, 0, 7, 7)), ({**FIRST, "world": example("contest.world")}, 7, (100, 30)), (AMBUSH, 1, ())):
+            found = icfp_ants.look(**game, seed=seed, rounds=rounds)
+            self.assertEqual([it.round for it in found], sorted(set(rounds)))
+            for it in found:
+                text = icfp_ants.run(**game, seed=seed, rounds=it.round, dumps=[it.round])
+                living = {cell.ant.id: cell.ant for cell in icfp_ants.cells(text) if cell.ant}
+                self.assertEqual((it.score, it.ants), (icfp_ants.score_of(text), [living.get(id) for id in range(len(it.ants))]))
+        self.assertIsNone(icfp_ants.look(**AMBUSH, seed=12345, rounds=[1])[0].ants[2])
+        self.assertEqual(len(icfp_ants.look(**AMBUSH, seed=12345, rounds=[1])[0].ants), 7)
+        self.assertRaisesRegex(Refused, "^black: no instruction$", lambda: icfp_ants.look(**{**AMBUSH, "black": ""}, seed=1, rounds=[1]))
+        self.assertRaisesRegex(ValueError, "^rounds: 1000001 is not", lambda: icfp_ants.look(**AMBUSH, seed=1, rounds=[1000001]))
 
     def test_save_and_resume_with_their_options(self):
         options = {"window": 5, "surround": 4, "corpse": 9, "rest": 0}
@@ -146,8 +159,9 @@ class Functions(Beside):
 
     def test_trace(self):
         found = icfp_ants.trace(**AMBUSH, ant=1, seed=12345, rounds=2)
-        ways = [(it.round, it.cell.column, it.cell.row, it.cell.ant) for it in found]
-        self.assertEqual(ways, [(0, 1, 3, Ant(BLACK, 1, 0, 0, 0, 0)), (1, 2, 3, Ant(BLACK, 1, 0, 0, 0, 14)), (2, 2, 3, Ant(BLACK, 1, 0, 0, 0, 13))])
+        self.assertEqual([(it.round, it.cell.ant) for it in found], [
+            (0, Ant(1, BLACK, 1, 3, 0, 0, 0, 0)), (1, Ant(1, BLACK, 2, 3, 0, 0, 0, 14)), (2, Ant(1, BLACK, 2, 3, 0, 0, 0, 13)),
+        ])
         self.assertEqual(found.text, self.written(*self.words("trace", 12345, 2, places=[1]), **AMBUSH))
         self.assertEqual(icfp_ants.trace(**AMBUSH, ant=2, seed=12345, rounds=5, start=1), [(1, None)])
         self.assertEqual(icfp_ants.trace(**AMBUSH, ant=1, seed=12345, rounds=5, start=6), [])

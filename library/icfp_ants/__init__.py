@@ -23,13 +23,14 @@ from ._declared import VERSION as __version__
 from ._declared import Kind
 from ._games import Counts, Score, advance, counts_of, resume, run, save, score, score_of, scores, scores_of_pairs
 from ._library import Refused
+from ._looks import Look, look
 from ._printed import (
     Ant, Cell, Colour, Cup, Death, Event, Executed, Label, Line, Played, Printed, Renumbered, Standing, Step, Stop, Traced, Use, Workload, cells,
 )
 
 __all__ = [
-    "Ant", "Called", "Cell", "Colour", "Counts", "Cup", "Death", "Difference", "Event", "Executed", "Kind", "Label", "Line", "Played", "Printed",
-    "Refused", "Renumbered", "Score", "Standing", "Step", "Stop", "Traced", "Use", "Workload", "__version__", "advance", "asm", "brain", "call",
-    "cells", "counts_of", "cup", "difference", "events", "gen", "labels", "lines", "minimise", "profile", "resume", "run", "same", "save", "score",
-    "score_of", "scores", "scores_of_pairs", "show", "states", "trace", "view", "way", "workload",
+    "Ant", "Called", "Cell", "Colour", "Counts", "Cup", "Death", "Difference", "Event", "Executed", "Kind", "Label", "Line", "Look", "Played",
+    "Printed", "Refused", "Renumbered", "Score", "Standing", "Step", "Stop", "Traced", "Use", "Workload", "__version__", "advance", "asm", "brain",
+    "call", "cells", "counts_of", "cup", "difference", "events", "gen", "labels", "lines", "look", "minimise", "profile", "resume", "run", "same",
+    "save", "score", "score_of", "scores", "scores_of_pairs", "show", "states", "trace", "view", "way", "workload",
 ]

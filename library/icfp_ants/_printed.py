@@ -23,9 +23,11 @@ class Colour(enum.Enum):
 
 
 class Ant(NamedTuple):
-    """An ant on a cell: its direction is 0 to 5, food is 1 where it carries some, and resting is how many turns it still rests."""
-    colour: Colour
+    """An ant: its direction is 0 to 5, food is 1 where it carries some, and resting is how many turns it still rests."""
     id: int
+    colour: Colour
+    column: int
+    row: int
     direction: int
     food: int
     state: int
@@ -163,9 +165,10 @@ def cell_of(line: str) -> Cell:
     found = _CELL.fullmatch(line)
     if not found:
         raise ValueError("not a line of a dump: %s" % line)
-    column, row, rock, food, hill, red_marks, black_marks, colour, *numbers = found.groups()
-    ant = Ant(Colour(colour), *map(int, numbers)) if colour else None
-    return Cell(int(column), int(row), bool(rock), int(food or 0), Colour(hill) if hill else None, _digits(red_marks), _digits(black_marks), ant)
+    rock, food, hill, red_marks, black_marks, colour, id, *numbers = found.groups()[2:]
+    column, row = int(found[1]), int(found[2])
+    ant = Ant(int(id), Colour(colour), column, row, *map(int, numbers)) if colour else None
+    return Cell(column, row, bool(rock), int(food or 0), Colour(hill) if hill else None, _digits(red_marks), _digits(black_marks), ant)
 
 
 def _digits(text: Optional[str]) -> Tuple[int, ...]:
