@@ -57,6 +57,8 @@ class Calls(Beside):
 
     def test_statuses(self):
         self.assert_called()
+        self.assert_called("")
+        self.assert_called("brain", "")
         self.assert_called("brain", "brain", brain="drop 0")
         self.assert_called("brain", "none")
         self.assert_called("brain", "brain", brain="hop 0\n")

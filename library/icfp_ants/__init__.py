@@ -4,9 +4,10 @@
     world, brain = open("contest.world").read(), open("sample.brain").read()
     red, black = icfp_ants.score(world, brain, brain, seed=12345, rounds=1000)
 
-Each command of the program is a function with its options as keywords, but for those that change nothing that is printed (`--workers`, `--far`), and
+Each command of the program but `help` is a function with its options as keywords, without those that change nothing that is printed (`--workers`, `--far`);
 `call` takes the words of any. What a command prints comes as str; where it prints lines that tell of something, as `trace`, `labels` or `cup`, they come as
-named tuples, with the `text` as the program writes it. `score_of`, `counts_of` and `cells` read what stands in the texts of games.
+named tuples, with the `text` as the program writes it. `score_of`, `counts_of` and `cells` read what stands in the texts of games, and `look` gives scores and
+ants without a text. `scores` and `scores_of_pairs` play many games in a call.
 
 A text is given as str or bytes. What is neither, as a file's name in a Path, is a TypeError. A text that is refused raises `Refused`, with the program's
 words; a number beyond its limits raises ValueError, and memory that could not be had MemoryError. Any threads may call at once: while a call runs, other
