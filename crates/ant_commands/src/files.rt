@@ -38,6 +38,7 @@ impl FileText for World {
 
     ghost content = { WorldContent };
 
+    #[tactic(auto, using(crate::proofs::Texts::text_read))]
     fn read<'w>(alloc: Global, name: &'w str, bytes: &[u8]) -> Result<World, CommandStop<'w>> {
         named(name, open_world(alloc, bytes))
     }
@@ -51,6 +52,7 @@ impl FileText for Brain {
 
     ghost content = { BrainContent };
 
+    #[tactic(auto, using(crate::proofs::Texts::text_read))]
     fn read<'w>(alloc: Global, name: &'w str, bytes: &[u8]) -> Result<Brain, CommandStop<'w>> {
         named(name, open_brain(alloc, bytes))
     }
@@ -64,6 +66,7 @@ impl FileText for Breaks {
 
     ghost content = { BreakContent };
 
+    #[tactic(auto, using(crate::proofs::Texts::break_stops))]
     fn read<'w>(alloc: Global, name: &'w str, bytes: &[u8]) -> Result<Breaks, CommandStop<'w>> {
         match read_breaks(alloc, bytes) {
             Ok(breaks) => Ok(breaks),
@@ -81,6 +84,7 @@ impl FileText for Assembled {
 
     ghost content = { λ made. LabelledContent made.brain made.places };
 
+    #[tactic(auto, using(crate::proofs::Texts::text_read))]
     fn read<'w>(alloc: Global, name: &'w str, bytes: &[u8]) -> Result<Assembled, CommandStop<'w>> {
         named(name, open_program(alloc, bytes))
     }
@@ -95,6 +99,7 @@ impl FileText for Labels {
 
     ghost content = { LabelsContent };
 
+    #[tactic(auto, using(crate::proofs::Texts::text_read))]
     fn read<'w>(alloc: Global, name: &'w str, bytes: &[u8]) -> Result<Labels, CommandStop<'w>> {
         named(name, open_labels(alloc, bytes))
     }

@@ -19,6 +19,7 @@ use std::alloc::Global;
 use text_fault::open_save;
 
 // Reads the bytes of the file of this name as a save of which at most so many rounds are done.
+#[tactic(auto, using(crate::proofs::Texts::text_read))]
 fn read_save<'w>(
     alloc: Global,
     name: &'w str,
