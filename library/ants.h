@@ -3,7 +3,7 @@
 
    A GAME is played by two brains on a world. All are texts: bytes with a length, which no zero byte ends. A world is its width, its height
    and its rows of cells: # rock, . clear, 1 to 9 food, + red hill, - black hill. A brain is an instruction a line. docs/RULES.md says all
-   of it; the package has it in share/doc/ants. Nothing is opened, closed or released. This is a whole program:
+   of it; the package has it in share/doc/icfp-ants. Nothing is opened, closed or released. This is a whole program:
 
        #include <ants.h>
        #include <stdio.h>
@@ -28,9 +28,9 @@
 
    TO LINK. One file is enough; it needs the C library alone. The header is for C from C99 on, and for C++ from C++11 on.
 
-       cc -O2 -I. game.c libants.a -o game                       the static library, which is in this folder, as this header is
-       cc -O2 game.c -o game $(pkg-config --cflags --libs ants)  libants.so, where `make install` or a package has put it; the system
-                                                                 finds it as any, by ldconfig, LD_LIBRARY_PATH or -Wl,-rpath
+       cc -O2 -I. game.c libants.a -o game                            the static library, which is in this folder, as this header is
+       cc -O2 game.c -o game $(pkg-config --cflags --libs icfp-ants)  libants.so, where `make install` or a package has put it; the
+                                                                      system finds it as any, by ldconfig, LD_LIBRARY_PATH or -Wl,-rpath
 
    WHICH VERSION. ANTS_VERSION is the header's, and ants_version() writes the library's. Where both can part, as with libants.so, ask first:
 
@@ -72,7 +72,7 @@
 
    The numbers are looked at first, then the room for scores, then the texts in their order. A result is written at ANTS_DONE alone, `used`
    and `out` at ANTS_NO_ROOM too, `fault` and `words` at ANTS_REFUSED alone; all else stays as it was. A text that is done is in the first
-   `used` bytes of `out`, and those behind stay. What the numbers of a fault mean stands at the struct.
+   `used` bytes of `out`, and those behind stay. What the numbers of a fault mean stands at the struct, and its kinds above it.
 
    WHAT A CALLER OWES, and nobody checks. The functions are proved for callers that keep to this:
 
@@ -118,6 +118,46 @@ enum ants_status {
     ANTS_MEMORY = 6, // Memory could not be had.
 };
 
+// The kinds of faults.
+enum ants_kind {
+    ANTS_KIND_TOO_LONG = 1, // a text has more than 4,194,304 bytes
+    ANTS_KIND_WORLD_BAD_WIDTH = 10, // bad width
+    ANTS_KIND_WORLD_BAD_HEIGHT = 11, // bad height
+    ANTS_KIND_WORLD_MISSING_ROW = 12, // a row is missing
+    ANTS_KIND_WORLD_BAD_CELL = 13, // a bad cell
+    ANTS_KIND_WORLD_SHORT_ROW = 14, // a row is short
+    ANTS_KIND_WORLD_LONG_ROW = 15, // a row is long
+    ANTS_KIND_WORLD_EXTRA_ROW = 16, // a row more
+    ANTS_KIND_WORLD_OPEN_RIM = 17, // the rim is open
+    ANTS_KIND_WORLD_TOO_MANY_ANTS = 18, // too many ants
+    ANTS_KIND_BRAIN_BAD_BYTE = 20, // a bad byte
+    ANTS_KIND_BRAIN_UNKNOWN_WORD = 21, // an unknown word
+    ANTS_KIND_BRAIN_MISSING_TOKEN = 22, // a token is missing
+    ANTS_KIND_BRAIN_BAD_NUMBER = 23, // a bad number
+    ANTS_KIND_BRAIN_EXTRA_TOKEN = 24, // a token more
+    ANTS_KIND_BRAIN_TOO_MANY = 25, // too many instructions
+    ANTS_KIND_BRAIN_EMPTY = 26, // no instruction
+    ANTS_KIND_BRAIN_NO_SUCH_STATE = 27, // no such state
+    ANTS_KIND_PROGRAM_BAD_BYTE = 30, // a bad byte
+    ANTS_KIND_PROGRAM_UNKNOWN_WORD = 31, // an unknown word
+    ANTS_KIND_PROGRAM_MISSING_TOKEN = 32, // a token is missing
+    ANTS_KIND_PROGRAM_BAD_NUMBER = 33, // a bad number
+    ANTS_KIND_PROGRAM_EXTRA_TOKEN = 34, // a token more
+    ANTS_KIND_PROGRAM_BAD_NAME = 35, // a bad name
+    ANTS_KIND_PROGRAM_MISPLACED = 36, // misplaced
+    ANTS_KIND_PROGRAM_TWICE = 37, // a name is taken
+    ANTS_KIND_PROGRAM_NO_BLOCK = 38, // no such block
+    ANTS_KIND_PROGRAM_WRONG_COUNT = 39, // another number of labels
+    ANTS_KIND_PROGRAM_TOO_MANY = 40, // too many
+    ANTS_KIND_PROGRAM_EMPTY_BLOCK = 41, // an empty block
+    ANTS_KIND_PROGRAM_EMPTY = 42, // no instruction
+    ANTS_KIND_PROGRAM_NO_LABEL = 43, // no such label
+    ANTS_KIND_SAVE_BAD_LINE = 50, // a line isn't in its form
+    ANTS_KIND_SAVE_BAD_STATE = 51, // no state of a game
+    ANTS_KIND_SAVE_ALREADY_AT = 52, // more rounds are done than are asked for
+    ANTS_KIND_NO_ROOM = 60, // an element of a world to be generated has no room
+};
+
 // An ant: 16 bytes. Of one that is dead all numbers are 0.
 struct ants_ant_data {
     // The state of its colour's brain that it executes next.
@@ -138,17 +178,7 @@ struct ants_ant_data {
     uint8_t laden;
 };
 
-// Why a text was refused, in numbers (this project's own). The kinds are
-// - 1: a text has more than 4,194,304 bytes;
-// - of a world, 10: bad width; 11: bad height; 12: a row is missing; 13: a bad cell; 14: a row is short; 15: a row is long; 16: a row more;
-//   17: the rim is open; 18: too many ants;
-// - of a brain, 20: a bad byte; 21: an unknown word; 22: a token is missing; 23: a bad number; 24: a token more; 25: too many instructions;
-//   26: no instruction; 27: no such state;
-// - of a labelled program, 30: a bad byte; 31: an unknown word; 32: a token is missing; 33: a bad number; 34: a token more; 35: a bad name;
-//   36: misplaced; 37: a name is taken; 38: no such block; 39: another number of labels; 40: too many; 41: an empty block; 42: no
-//   instruction; 43: no such label;
-// - of a save, 50: a line isn't in its form; 51: no state of a game; 52: more rounds are done than are asked for;
-// - of no text, 60: an element of a world to be generated has no room.
+// Why a text was refused, in numbers (this project's own). The kinds are those of enum ants_kind.
 struct ants_fault_data {
     // Which text, from 1 in the order in which the texts are passed; 0 where it is of no text.
     uint32_t text;

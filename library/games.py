@@ -1,17 +1,20 @@
 """Plays 1,000 games of two brains on one world, with the seeds 0 to 999, and prints their scores: python3 games.py WORLD RED BLACK ROUNDS"""
+import pathlib
 import sys
 
-import ants
+import icfp_ants
 
 
 def main() -> None:
-    texts = [open(name, "rb").read() for name in sys.argv[1:4]]
-    found = ants.scores(*texts, seeds=range(1000), rounds=int(sys.argv[4]))
+    if len(sys.argv) != 5 or not sys.argv[4].isdigit():
+        sys.exit("usage: games.py WORLD RED BLACK ROUNDS")
+    try:
+        world, red, black = (pathlib.Path(name).read_bytes() for name in sys.argv[1:4])
+        found = icfp_ants.scores(world, red, black, seeds=range(1000), rounds=int(sys.argv[4]))
+    except (OSError, ValueError) as fault:
+        sys.exit("games: %s" % fault)
     print("\n".join("%d %d %d" % (seed, *score) for seed, score in enumerate(found)))
 
 
 if __name__ == "__main__":
-    try:
-        main()
-    except ants.Refused as fault:
-        sys.exit("games: %s" % fault)
+    main()

@@ -45,7 +45,7 @@ static void play_rows(void) {
     ROW(ants_score(TEXT(""), TEXT(brain), TEXT(brain), 1, 1, scores, &fault, words, 64) == ANTS_REFUSED && is_fault(1, 10, 0, 0, 0, "bad width"));
     clear();
     ROW(ants_score(TEXT(world), TEXT(brain), TEXT("Move 0 7\n"), 1, 1, scores, &fault, words, 64) == ANTS_REFUSED);
-    ROW(is_fault(3, 27, 1, 0, 7, "line 1: no such state 7") && scores[0].red == 0x55555555);
+    ROW(is_fault(3, ANTS_KIND_BRAIN_NO_SUCH_STATE, 1, 0, 7, "line 1: no such state 7") && scores[0].red == 0x55555555);
 }
 
 static void text_rows(void) {
@@ -67,7 +67,7 @@ static void text_rows(void) {
     ROW(ants_same(TEXT(drop), TEXT("Drop\n"), out, 64, &used, &fault, words, 64) == ANTS_REFUSED && is_fault(2, 22, 1, 0, 0, "line 1: missing token"));
     clear();
     ROW(ants_gen(1, 2, 3, 0, 0, out, 64, &used, &fault, words, 64) == ANTS_NUMBER && used == 99 && out[0] == '.' && stays());
-    ROW(ants_gen(1, 12, 12, 0, 0, out, 64, &used, &fault, words, 64) == ANTS_REFUSED && is_fault(0, 60, 0, 0, 0, "no room for element 0"));
+    ROW(ants_gen(1, 12, 12, 0, 0, out, 64, &used, &fault, words, 64) == ANTS_REFUSED && is_fault(0, ANTS_KIND_NO_ROOM, 0, 0, 0, "no room for element 0"));
     clear();
     ROW(ants_resume(TEXT("ants save 2\n"), 1, &(uint32_t){0}, 0, out, 64, &used, &fault, words, 64) == ANTS_REFUSED);
     ROW(is_fault(1, 50, 1, 0, 0, "line 1: not a save"));
@@ -178,6 +178,7 @@ static void look_rows(void) {
 int main(void) {
     ROW(ANTS_UNREADABLE == 1 && ANTS_NO_FILE == 3);
     ROW(ANTS_DONE == 0 && ANTS_NUMBER == 2 && ANTS_NO_ROOM == 4 && ANTS_REFUSED == 5 && ANTS_MEMORY == 6);
+    ROW(ANTS_KIND_TOO_LONG == 1 && ANTS_KIND_WORLD_BAD_WIDTH == 10 && ANTS_KIND_PROGRAM_NO_LABEL == 43 && ANTS_KIND_SAVE_ALREADY_AT == 52);
     play_rows();
     text_rows();
     run_row();

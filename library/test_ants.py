@@ -1,7 +1,7 @@
 #!/usr/bin/env python3
-"""Holds the Python module against the built program: what each function gives is what the command writes, and each refusal reads as its fault line.
+"""Holds the Python package against the built program: what each function gives is what the command writes, and each refusal reads as its fault line.
 
-PROGRAM names the program, if it isn't that of the tree; the library is found as ants.py finds it.
+PROGRAM names the program, if it isn't that of the tree; the library is found as icfp_ants finds it.
 """
 import array
 import concurrent.futures
@@ -14,7 +14,8 @@ import sys
 import tempfile
 import unittest
 
-import ants
+import icfp_ants
+from icfp_ants._declared import FUNCTIONS
 from fault_words import FAULT_WORDS, says
 
 TOP = os.path.dirname(os.path.dirname(os.path.abspath(__file__)))
@@ -76,7 +77,7 @@ class Beside(unittest.TestCase):
 
     def assert_refused(self, call, *words, **texts):
         """Both refuse these texts, in the same words; gives the fault, whose numbers say the same."""
-        with self.assertRaises(ants.Refused) as caught:
+        with self.assertRaises(icfp_ants.Refused) as caught:
             call()
         status, output, faults = self.program(*words, **texts)
         fault = caught.exception
@@ -100,52 +101,91 @@ class Games(Beside):
         ):
             game = self.game(*names)
             more = ["--dump", ",".join(map(str, dumps))] if dumps else []
-            self.assertEqual(ants.run(**game, seed=seed, rounds=rounds, dumps=dumps), self.written(*self.run_words("run", seed, rounds, *more), **game))
+            self.assertEqual(icfp_ants.run(**game, seed=seed, rounds=rounds, dumps=dumps), self.written(*self.run_words("run", seed, rounds, *more), **game))
 
     def test_scores_are_those_of_runs(self):
         game = self.game("heap.world", "bring_home.brain", "trail.brain")
         seeds = [*range(30), MOST_SEED, 3, 3]
-        found = ants.scores(**game, seeds=seeds, rounds=1000)
+        found = icfp_ants.scores(**game, seeds=seeds, rounds=1000)
         self.assertGreater(len(set(found)), 3)
         for seed, score in zip(seeds, found):
             printed = self.written(*self.run_words("run", seed, 1000), **game)
             self.assertEqual("score: red %d black %d" % score, printed.split("\n")[-2])
-            self.assertEqual(ants.score(**game, seed=seed, rounds=1000), score)
-        self.assertEqual(ants.scores(**game, seeds=[], rounds=1000), [])
+            self.assertEqual(icfp_ants.score(**game, seed=seed, rounds=1000), score)
+        self.assertEqual(icfp_ants.scores(**game, seeds=[], rounds=1000), [])
 
     def test_save_and_resume(self):
         game = self.game("contest.world", "sample.brain", "trail.brain")
-        saved = ants.save(**game, seed=12345, rounds=100)
+        saved = icfp_ants.save(**game, seed=12345, rounds=100)
         self.assertEqual(saved, self.written(*self.run_words("save", 12345, 100), **game))
         words = ["resume", "save", "--rounds", 300, "--dump", "150,300"]
-        self.assertEqual(ants.resume(saved, rounds=300, dumps=(300, 150)), self.written(*words, save=saved))
-        fault = self.assert_refused(lambda: ants.resume(saved, rounds=99), "resume", "save", "--rounds", 99, save=saved)
+        self.assertEqual(icfp_ants.resume(saved, rounds=300, dumps=(300, 150)), self.written(*words, save=saved))
+        fault = self.assert_refused(lambda: icfp_ants.resume(saved, rounds=99), "resume", "save", "--rounds", 99, save=saved)
         self.assertEqual((fault.name, fault.number), ("save", 100))
 
     def test_each_fault_of_a_save(self):
         for kind, text, rounds in FAULTS_OF_SAVES:
-            fault = self.assert_refused(lambda: ants.resume(text, rounds=rounds), "resume", "save", "--rounds", rounds, save=text)
+            fault = self.assert_refused(lambda: icfp_ants.resume(text, rounds=rounds), "resume", "save", "--rounds", rounds, save=text)
             self.assertEqual((fault.name, fault.kind), ("save", kind))
 
     def test_refused_texts_in_their_order(self):
         good = self.game("heap.world", "bring_home.brain", "trail.brain")
         for name, text in (("world", "3\n"), ("red", "hop 0\n"), ("black", "Move 0 7\n")):
             game = {**good, name: text}
-            fault = self.assert_refused(lambda: ants.score(**game, seed=1, rounds=1), *self.run_words("run", 1, 1), **game)
+            fault = self.assert_refused(lambda: icfp_ants.score(**game, seed=1, rounds=1), *self.run_words("run", 1, 1), **game)
             self.assertEqual(fault.name, name)
-            for call in (ants.run, ants.save):
-                self.assertRaisesRegex(ants.Refused, "^" + name, lambda: call(**game, seed=1, rounds=1))
-            self.assertRaisesRegex(ants.Refused, "^" + name, lambda: ants.scores(**game, seeds=[1], rounds=1))
+            for call in (icfp_ants.run, icfp_ants.save):
+                self.assertRaisesRegex(icfp_ants.Refused, "^" + name, lambda: call(**game, seed=1, rounds=1))
+            self.assertRaisesRegex(icfp_ants.Refused, "^" + name, lambda: icfp_ants.scores(**game, seeds=[1], rounds=1))
         for first, second in (("world", "red"), ("world", "black"), ("red", "black")):
             game = {**good, first: "", second: ""}
-            fault = self.assert_refused(lambda: ants.score(**game, seed=1, rounds=1), *self.run_words("run", 1, 1), **game)
+            fault = self.assert_refused(lambda: icfp_ants.score(**game, seed=1, rounds=1), *self.run_words("run", 1, 1), **game)
             self.assertEqual(fault.name, first)
+
+    def test_workers_share_the_seeds(self):
+        game = self.game("heap.world", "bring_home.brain", "trail.brain")
+        for seeds in ([], [7], range(100)):
+            wanted = icfp_ants.scores(**game, seeds=seeds, rounds=200)
+            for workers in (2, 5, 256):
+                self.assertEqual(icfp_ants.scores(**game, seeds=seeds, rounds=200, workers=workers), wanted)
+        for workers in (0, 257):
+            self.assertRaisesRegex(ValueError, "^workers: %d is not 1 to 256$" % workers, lambda: icfp_ants.scores(**game, seeds=[], rounds=1, workers=workers))
+        self.assertRaisesRegex(icfp_ants.Refused, "^red: line 1: unknown word$", lambda: icfp_ants.scores(**{**game, "red": "hop 0\n"}, seeds=range(9), rounds=1, workers=3))
+
+    def test_pairs_play_as_alone(self):
+        world, brains = example("heap.world"), [example(it + ".brain") for it in ("bring_home", "trail", "step")]
+        pairs = [(red, black) for red in brains for black in brains]
+        for seeds in ([], [7], range(30)):
+            wanted = [icfp_ants.scores(world, *pair, seeds=seeds, rounds=200) for pair in pairs]
+            self.assertTrue(not seeds or len(set(map(tuple, wanted))) > 2)
+            for workers in (1, 2, 7, 100):
+                self.assertEqual(icfp_ants.scores_of_pairs(world, iter(pairs), seeds, 200, workers=workers), wanted)
+        self.assertEqual(icfp_ants.scores_of_pairs(world, [], [7], 200, workers=2), [])
+
+    def test_a_refused_pair_is_named_by_its_place(self):
+        good, bad = ("Drop 0\n", b"Drop 0\n"), "Move 0 7\n"
+        for workers in (1, 4):
+            for seeds in ([], [1], range(20)):
+                for pairs, said in (
+                    ([good, good, (bad, good[0]), ("", "")], r"^pairs\[2\]\[0\]: line 1: no such state 7$"), ([good, ("Drop 0", ""), (bad, bad)], r"^pairs\[1\]\[1\]: no instruction$"),
+                ):
+                    self.assertRaisesRegex(icfp_ants.Refused, said, lambda: icfp_ants.scores_of_pairs(WORLD, pairs, seeds, 1, workers))
+                self.assertRaisesRegex(icfp_ants.Refused, "^world: bad width$", lambda: icfp_ants.scores_of_pairs("", [good], seeds, 1, workers))
+        for wrong in (5, ["Drop 0"], ("Drop 0", "Drop 0", "Drop 0")):
+            self.assertRaisesRegex(TypeError, r"^pairs\[1\]: a red and a black brain", lambda: icfp_ants.scores_of_pairs(WORLD, [good, wrong], [1], 1))
+        self.assertRaisesRegex(TypeError, r"^pairs\[0\]\[1\]: a text is wanted", lambda: icfp_ants.scores_of_pairs(WORLD, [("Drop 0", None)], [1], 1))
+
+    def test_texts_that_are_made_for_a_pair_are_each_read(self):
+        pairs = (map("".join, (["Drop ", "0"], ["Drop ", "0", "\n" * place])) for place in range(50))
+        self.assertEqual(len(icfp_ants.scores_of_pairs(WORLD, pairs, [1], 1)), 50)
+        pairs = (("Drop %d" % (place == 40), "Drop 0") for place in range(50))
+        self.assertRaisesRegex(icfp_ants.Refused, r"^pairs\[40\]\[0\]: line 1: no such state 1$", lambda: icfp_ants.scores_of_pairs(WORLD, pairs, [1], 1))
 
     def test_threads_at_once(self):
         game = self.game("heap.world", "bring_home.brain", "trail.brain")
-        wanted = ants.scores(**game, seeds=range(200), rounds=1000)
+        wanted = icfp_ants.scores(**game, seeds=range(200), rounds=1000)
         with concurrent.futures.ThreadPoolExecutor(8) as threads:
-            self.assertEqual([*threads.map(lambda seed: ants.score(**game, seed=seed, rounds=1000), range(200))], wanted)
+            self.assertEqual([*threads.map(lambda seed: icfp_ants.score(**game, seed=seed, rounds=1000), range(200))], wanted)
 
 
 class Texts(Beside):
@@ -154,90 +194,91 @@ class Texts(Beside):
         self.assertGreater(len(paths), 10)
         for path in paths:
             brain = example(os.path.basename(path))
-            self.assertEqual(ants.brain(brain), self.written("brain", "brain", brain=brain))
+            self.assertEqual(icfp_ants.brain(brain), self.written("brain", "brain", brain=brain))
             _, _, below = self.written("minimise", "brain", brain=brain).partition("\n")
-            self.assertEqual(ants.minimise(brain), below)
-            self.assertIs(ants.same(brain, below), True)
-            self.assertIsNone(ants.difference(brain, below))
+            self.assertEqual(icfp_ants.minimise(brain), below)
+            self.assertIs(icfp_ants.same(brain, below), True)
+            self.assertIsNone(icfp_ants.difference(brain, below))
 
     def test_brain_whose_text_is_longer_than_the_first_room(self):
         brain = "Flip 4294967295 9999 9999\n" * MOST_STATES
-        self.assertEqual(ants.brain(brain.encode()), brain)
+        self.assertEqual(icfp_ants.brain(brain.encode()), brain)
 
     def test_programs(self):
-        self.assertEqual(ants.asm(example("trail.asm")), example("trail.brain"))
+        self.assertEqual(icfp_ants.asm(example("trail.asm")), example("trail.brain"))
         for kind, text in FAULTS_OF_PROGRAMS:
-            fault = self.assert_refused(lambda: ants.asm(text), "asm", "program", program=text)
+            fault = self.assert_refused(lambda: icfp_ants.asm(text), "asm", "program", program=text)
             self.assertEqual((fault.name, fault.kind), ("program", kind))
 
     def test_brains_that_differ(self):
         first, second = "Move 1 0\nDrop 0\n", "Move 1 0\nTurn Left 0\n"
-        self.assertIs(ants.same(first, second), False)
-        found = ants.difference(first, second)
+        self.assertIs(icfp_ants.same(first, second), False)
+        found = icfp_ants.difference(first, second)
         self.assertEqual(found, (1, 1, "Drop 0", 1, "Turn Left 0"))
         printed = self.written("same", "first", "second", first=first, second=second)
         self.assertEqual("different after %d answers\nfirst %d: %s\nsecond %d: %s\n" % found, printed)
         for name, texts in (("first", ("", second)), ("second", (first, "Drop 1\n")), ("first", ("", "Drop 1\n"))):
-            fault = self.assert_refused(lambda: ants.same(*texts), "same", "first", "second", first=texts[0], second=texts[1])
+            fault = self.assert_refused(lambda: icfp_ants.same(*texts), "same", "first", "second", first=texts[0], second=texts[1])
             self.assertEqual(fault.name, name)
 
     def test_generated_worlds(self):
-        self.assertEqual(ants.gen(12345), example("contest.world"))
+        self.assertEqual(icfp_ants.gen(12345), example("contest.world"))
         words = ["gen", 7, "--width", 64, "--height", 60, "--rocks", 3, "--blobs", 1]
-        self.assertEqual(ants.gen(7, width=64, height=60, rocks=3, blobs=1), self.written(*words))
-        fault = self.assert_refused(lambda: ants.gen(1, width=12, height=12), "gen", 1, "--width", 12, "--height", 12)
+        self.assertEqual(icfp_ants.gen(7, width=64, height=60, rocks=3, blobs=1), self.written(*words))
+        fault = self.assert_refused(lambda: icfp_ants.gen(1, width=12, height=12), "gen", 1, "--width", 12, "--height", 12)
         self.assertEqual((fault.name, fault.kind, fault.number), ("", 60, 0))
 
     def test_each_fault_of_a_world(self):
         for kind, text in FAULTS_OF_WORLDS:
-            fault = self.assert_refused(lambda: ants.score(text, "Drop 0\n", "Drop 0\n", 1, 1), "show", "world", 1, world=text)
+            fault = self.assert_refused(lambda: icfp_ants.score(text, "Drop 0\n", "Drop 0\n", 1, 1), "show", "world", 1, world=text)
             self.assertEqual((fault.name, fault.kind), ("world", kind))
 
     def test_each_fault_of_a_brain(self):
         for kind, text in FAULTS_OF_BRAINS:
-            fault = self.assert_refused(lambda: ants.brain(text), "brain", "brain", brain=text)
+            fault = self.assert_refused(lambda: icfp_ants.brain(text), "brain", "brain", brain=text)
             self.assertEqual((fault.name, fault.kind), ("brain", kind))
 
     def test_no_kind_is_left_out(self):
         tables = FAULTS_OF_WORLDS, FAULTS_OF_BRAINS, FAULTS_OF_PROGRAMS, FAULTS_OF_SAVES
         self.assertEqual({row[0] for table in tables for row in table} | {60}, set(FAULT_WORDS))
+        self.assertEqual(set(icfp_ants.Kind), set(FAULT_WORDS))
 
     def test_fault_in_numbers(self):
-        with self.assertRaises(ants.Refused) as caught:
-            ants.minimise("Drop 0\nMove 0 7\n")
+        with self.assertRaises(icfp_ants.Refused) as caught:
+            icfp_ants.minimise("Drop 0\nMove 0 7\n")
         fault = pickle.loads(pickle.dumps(caught.exception))
-        self.assertEqual((fault.name, fault.kind, fault.line, fault.column, fault.number), ("brain", 27, 2, 0, 7))
+        self.assertEqual((fault.name, fault.kind, fault.line, fault.column, fault.number), ("brain", icfp_ants.Kind.BRAIN_NO_SUCH_STATE, 2, 0, 7))
         self.assertEqual(str(fault), str(caught.exception))
 
     def test_numbers_and_texts_at_their_limits(self):
         stand = WORLD, "Drop 0\n", "Drop 0\n"
-        self.assertEqual(ants.score(*stand, 1, 1000000), (0, 0))
-        self.assertEqual(ants.scores(*stand, [1], 1000000), [(0, 0)])
-        self.assertTrue(ants.run(*stand, 1, 1000000).endswith("score: red 0 black 0\n"))
-        self.assertIn("round 1000000\n", ants.save(*stand, 1, 1000000))
-        self.assertTrue(ants.resume(ants.save(*stand, 1, 0), 1000000).endswith("score: red 0 black 0\n"))
+        self.assertEqual(icfp_ants.score(*stand, 1, 1000000), (0, 0))
+        self.assertEqual(icfp_ants.scores(*stand, [1], 1000000), [(0, 0)])
+        self.assertTrue(icfp_ants.run(*stand, 1, 1000000).endswith("score: red 0 black 0\n"))
+        self.assertIn("round 1000000\n", icfp_ants.save(*stand, 1, 1000000))
+        self.assertTrue(icfp_ants.resume(icfp_ants.save(*stand, 1, 0), 1000000).endswith("score: red 0 black 0\n"))
         longest = "Drop 0".ljust(MOST_BYTES)
-        self.assertEqual(ants.brain(longest), "Drop 0\n")
-        self.assertEqual(ants.score(WORLD.ljust(MOST_BYTES), longest, longest, 1, 0), (0, 0))
-        self.assertEqual(ants.asm("Drop next\nDrop next".ljust(MOST_BYTES)), "Drop 1\nDrop 0\n")
-        with self.assertRaises(ants.Refused) as caught:
-            ants.resume("x".ljust(MOST_BYTES), 1)
+        self.assertEqual(icfp_ants.brain(longest), "Drop 0\n")
+        self.assertEqual(icfp_ants.score(WORLD.ljust(MOST_BYTES), longest, longest, 1, 0), (0, 0))
+        self.assertEqual(icfp_ants.asm("Drop next\nDrop next".ljust(MOST_BYTES)), "Drop 1\nDrop 0\n")
+        with self.assertRaises(icfp_ants.Refused) as caught:
+            icfp_ants.resume("x".ljust(MOST_BYTES), 1)
         self.assertEqual(caught.exception.kind, 50)
         for width, height, rocks, blobs in ((3, 3, 0, 0), (3, 512, 255, 255), (512, 3, 255, 255)):
-            with self.assertRaises(ants.Refused) as caught:
-                ants.gen(1, width=width, height=height, rocks=rocks, blobs=blobs)
+            with self.assertRaises(icfp_ants.Refused) as caught:
+                icfp_ants.gen(1, width=width, height=height, rocks=rocks, blobs=blobs)
             self.assertEqual(caught.exception.kind, 60)
 
     def test_numbers_beyond_their_limits(self):
         for call in (
-            lambda: ants.score(WORLD, "Drop 0\n", "Drop 0\n", 1, 1000001), lambda: ants.score(WORLD, "Drop 0\n", "Drop 0\n", MOST_SEED + 1, 1),
-            lambda: ants.scores(WORLD, "Drop 0\n", "Drop 0\n", [0, -1], 1), lambda: ants.run(WORLD, "Drop 0\n", "Drop 0\n", 1, 1, [MOST_SEED + 1]),
-            lambda: ants.gen(1, width=2), lambda: ants.gen(1, height=513), lambda: ants.gen(1, rocks=256), lambda: ants.resume("", 1000001),
+            lambda: icfp_ants.score(WORLD, "Drop 0\n", "Drop 0\n", 1, 1000001), lambda: icfp_ants.score(WORLD, "Drop 0\n", "Drop 0\n", MOST_SEED + 1, 1),
+            lambda: icfp_ants.scores(WORLD, "Drop 0\n", "Drop 0\n", [0, -1], 1), lambda: icfp_ants.run(WORLD, "Drop 0\n", "Drop 0\n", 1, 1, [MOST_SEED + 1]),
+            lambda: icfp_ants.gen(1, width=2), lambda: icfp_ants.gen(1, height=513), lambda: icfp_ants.gen(1, rocks=256), lambda: icfp_ants.resume("", 1000001),
         ):
             with self.assertRaises(ValueError) as caught:
                 call()
-            self.assertNotIsInstance(caught.exception, ants.Refused)
-        self.assertRaises(TypeError, lambda: ants.score(WORLD, "Drop 0\n", "Drop 0\n", 1.5, 1))
+            self.assertNotIsInstance(caught.exception, icfp_ants.Refused)
+        self.assertRaises(TypeError, lambda: icfp_ants.score(WORLD, "Drop 0\n", "Drop 0\n", 1.5, 1))
 
 
 class WhatIsNoText(unittest.TestCase):
@@ -245,101 +286,70 @@ class WhatIsNoText(unittest.TestCase):
         numbers = [68, 114, 111, 112, 32, 48, 10]  # "Drop 0", as a list of its bytes
         for wrong in (pathlib.Path("contest.world"), 5, 5000000, True, 1.5, None, numbers, tuple(numbers), iter(numbers), {}, array.array("I", numbers)):
             for call in (
-                lambda: ants.score(wrong, "", "", 1, 1), lambda: ants.scores(wrong, "", "", [1], 1), lambda: ants.run(wrong, "", "", 1, 1),
-                lambda: ants.save(wrong, "", "", 1, 1),
+                lambda: icfp_ants.score(wrong, "", "", 1, 1), lambda: icfp_ants.scores(wrong, "", "", [1], 1), lambda: icfp_ants.run(wrong, "", "", 1, 1),
+                lambda: icfp_ants.save(wrong, "", "", 1, 1),
             ):
                 self.assertRaisesRegex(TypeError, "^world: a text is wanted, as str or bytes, and not a file's name", call)
-            for call in (lambda: ants.brain(wrong), lambda: ants.minimise(wrong)):
+            for call in (lambda: icfp_ants.brain(wrong), lambda: icfp_ants.minimise(wrong)):
                 self.assertRaisesRegex(TypeError, "^brain: a text is wanted", call)
-            self.assertRaisesRegex(TypeError, "^red: a text is wanted", lambda: ants.score(WORLD, wrong, "", 1, 1))
-            self.assertRaisesRegex(TypeError, "^program: a text is wanted", lambda: ants.asm(wrong))
-            self.assertRaisesRegex(TypeError, "^second: a text is wanted", lambda: ants.same("Drop 0\n", wrong))
-            self.assertRaisesRegex(TypeError, "^save: a text is wanted", lambda: ants.resume(wrong, 1))
+            self.assertRaisesRegex(TypeError, "^red: a text is wanted", lambda: icfp_ants.score(WORLD, wrong, "", 1, 1))
+            self.assertRaisesRegex(TypeError, "^program: a text is wanted", lambda: icfp_ants.asm(wrong))
+            self.assertRaisesRegex(TypeError, "^second: a text is wanted", lambda: icfp_ants.same("Drop 0\n", wrong))
+            self.assertRaisesRegex(TypeError, "^save: a text is wanted", lambda: icfp_ants.resume(wrong, 1))
 
     def test_each_sort_of_bytes_is_a_text(self):
         text = b"drop 00\n"
         for right in (text, text.decode(), bytearray(text), memoryview(text), memoryview(b"x" + text)[1:], array.array("B", text)):
-            self.assertEqual(ants.brain(right), "Drop 0\n")
+            self.assertEqual(icfp_ants.brain(right), "Drop 0\n")
 
 
 class Memory(unittest.TestCase):
     """What a call takes, in a process of its own."""
 
     def python(self, lines, **more):
-        environ = {**os.environ, "PYTHONPATH": os.path.dirname(os.path.abspath(ants.__file__)), **more}
+        environ = {**os.environ, "PYTHONPATH": os.path.dirname(os.path.dirname(os.path.abspath(icfp_ants.__file__))), **more}
         ran = subprocess.run([sys.executable, "-c", lines], env=environ, stdout=subprocess.PIPE, stderr=subprocess.PIPE, universal_newlines=True)
         return ran.stdout, ran.stderr
 
     def game(self):
-        return "import ants, resource\nworld = open(%r).read()\n" % os.path.join(TOP, "examples", "contest.world")
+        return "import icfp_ants, resource\nworld = open(%r).read()\n" % os.path.join(TOP, "examples", "contest.world")
 
     def test_a_dump_that_is_asked_for_again_costs_nothing(self):
         limit = "resource.setrlimit(resource.RLIMIT_AS, (1 << 29, 1 << 29))\n"
-        call = "once, often = [ants.run(world, 'Drop 0', 'Drop 0', 1, 2, [2] * count) for count in (1, 100000)]\nprint(once == often)\n"
+        call = "once, often = [icfp_ants.run(world, 'Drop 0', 'Drop 0', 1, 2, [2] * count) for count in (1, 100000)]\nprint(once == often)\n"
         self.assertEqual(self.python(self.game() + limit + call), ("True\n", ""))
 
     def test_too_many_rounds_are_refused_before_their_dumps(self):
-        self.assertRaisesRegex(ValueError, "^rounds: 1000001 is not 0 to 1000000$", lambda: ants.run(WORLD, "Drop 0", "Drop 0", 1, 1000001, iter(self.fail, 0)))
-        self.assertRaisesRegex(ValueError, "^rounds: ", lambda: ants.resume("", 2 ** 32 - 1, range(10 ** 12)))
+        self.assertRaisesRegex(ValueError, "^rounds: 1000001 is not 0 to 1000000$", lambda: icfp_ants.run(WORLD, "Drop 0", "Drop 0", 1, 1000001, iter(self.fail, 0)))
+        self.assertRaisesRegex(ValueError, "^rounds: ", lambda: icfp_ants.resume("", 2 ** 32 - 1, range(10 ** 12)))
 
     def test_a_text_costs_twice_its_bytes(self):
         peak = "resource.getrusage(resource.RUSAGE_SELF).ru_maxrss * 1024"
-        call = "before = %s\ntext = ants.run(world, 'Drop 0', 'Drop 0', 1, 160, range(160))\nprint(len(text), %s - before)\n" % (peak, peak)
+        call = "before = %s\ntext = icfp_ants.run(world, 'Drop 0', 'Drop 0', 1, 160, range(160))\nprint(len(text), %s - before)\n" % (peak, peak)
         said, faults = self.python(self.game() + call)
         self.assertEqual(faults, "")
         size, cost = map(int, said.split())
         self.assertGreater(size, 60000000)
         self.assertLess(cost, 2.2 * size)
 
-    def test_another_library_is_an_import_error(self):
+    def test_a_call_without_its_library_is_an_import_error(self):
+        call = "import icfp_ants\nfor _ in range(2):\n    try:\n        icfp_ants.brain('Drop 0')\n    except ImportError as fault:\n        print(fault)\n"
         with tempfile.TemporaryDirectory(prefix="ants-") as folder:
             source, other = os.path.join(folder, "other.c"), os.path.join(folder, "other.so")
-            for version, names, words in (("0.9.0", ants._DECLARED, "of version 0.9.0, and ants.py is of "), (ants.__version__, ["ants_version"], "no ants_score in it")):
+            for version, names, words in (("0.9.0", FUNCTIONS, "of version 0.9.0, and icfp_ants is of "), (icfp_ants.__version__, ["ants_version"], "no ants_score in it")):
                 with open(source, "w", encoding="ascii") as file:
                     file.write("#include <string.h>\nunsigned ants_version(char *out, unsigned long room, unsigned long *used)\n")
                     file.write('{ *used = strlen("%s"); memcpy(out, "%s", *used); return room == 0; }\n' % (version, version))
                     file.writelines("void %s(void) {}\n" % name for name in names if name != "ants_version")
                 subprocess.run(["cc", "-shared", "-fPIC", source, "-o", other], check=True)
-                said, faults = self.python("try:\n    import ants\nexcept ImportError as fault:\n    print(fault)\n", ANTS_LIBRARY=other)
-                self.assertTrue(said.startswith(other + ": " + words), said + faults)
-            said, faults = self.python("try:\n    import ants\nexcept ImportError as fault:\n    print(fault)\n", ANTS_LIBRARY=os.path.join(folder, "none"))
-            self.assertIn("ANTS_LIBRARY may name libants.so", said, faults)
+                said, faults = self.python(call, ANTS_LIBRARY=other)
+                self.assertEqual((said.count(other + ": " + words), faults), (2, ""), said)
+            said, faults = self.python(call, ANTS_LIBRARY=os.path.join(folder, "none"))
+            self.assertEqual((said.count("ANTS_LIBRARY may name libants.so"), faults), (2, ""), said)
 
     def test_the_version_is_that_of_the_program(self):
         printed = subprocess.run([PROGRAM, "--version"], stdout=subprocess.PIPE, check=True).stdout.decode()
-        self.assertEqual(printed, "ants %s\n" % ants.__version__)
-
-
-class Commands(Beside):
-    def test_each_is_as_the_program(self):
-        files = dict(zip(("w", "r", "b", "x"), map(example, ("heap.world", "bring_home.brain", "trail.brain", "contest.world"))))
-        for line in (
-            "show w 7", "brain r", "minimise b --states", "same r b", "gen 12345", "--version", "--help", "",
-            "run w r b --seed 7 --rounds 50 --dump 0,50 --stats --workers 4 --window 64", "trace w r b 0 --seed 7 --rounds 20",
-            "cup --worlds w x --brains r b --seed 7 --rounds 20 --games --workers 3", "save x r b --seed 7 --rounds 20",
-            "run w r b --seed 7 --rounds 1000001", "run w r none --seed 7", "run w r w --seed 7", "turn w",
-        ):
-            words = line.split(" ") if line else []
-            self.assertEqual(ants.call(words, files), self.program(*words, **files), line)
-
-    def test_one_longer_than_the_first_room(self):
-        files = {"w": WORLD, "b": "Drop 0\n"}
-        words = ["run", "w", "b", "b", "--seed", "7", "--rounds", "0"]
-        room, ants._MOST_GUESSED = ants._MOST_GUESSED, 64
-        try:
-            self.assertEqual(ants.call(["--help"]), self.program("--help"))
-            self.assertEqual(ants.call(words, files), self.program(*words, **files))
-        finally:
-            ants._MOST_GUESSED = room
-        self.assertEqual(ants.call(["brain", "n" * 2000]).fault, "ants: %s: not read\n" % ("n" * 2000))
-
-    def test_what_the_program_is_not_given(self):
-        self.assertEqual(ants.call(["run", "w", "b", "b", "--far"], {"w": WORLD, "b": "Drop 0\n"}), (2, "", "ants: word 5 refused\n"))
-        self.assertEqual(ants.call(["brain", "-"], {"-": "drop 0"}), (0, "Drop 0\n", ""))
-        self.assertEqual(ants.call(["brain", "\u00fc"], {"\u00fc": "Drop 0\n"}), (0, "Drop 0\n", ""))
-        for words, files in ((["brain", "a\nb"], {}), (["brain", "a"], {"a\n": ""}), (["brain", "\udcff"], {})):
-            with self.assertRaises(ValueError):
-                ants.call(words, files)
+        self.assertEqual(printed, "ants %s\n" % icfp_ants.__version__)
 
 
 if __name__ == "__main__":

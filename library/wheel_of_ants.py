@@ -1,4 +1,4 @@
-"""Makes the wheel that `pip install ./library` installs: ants.py and libants.so. It needs Python alone, and no network."""
+"""Makes the wheel that `pip install ./library` installs: the package icfp_ants, with libants.so in it. It needs Python alone, and no network."""
 import base64
 import hashlib
 import os
@@ -6,7 +6,7 @@ import re
 import zipfile
 
 HERE = os.path.dirname(os.path.abspath(__file__))
-FILES = ("ants.py", "libants.so")
+PACKAGE = "icfp_ants"
 TAG = "py3-none-linux_x86_64"
 METADATA = "Metadata-Version: 2.1\nName: %(name)s\nVersion: %(version)s\nSummary: %(description)s\nRequires-Python: %(requires-python)s\n"
 WHEEL = "Wheel-Version: 1.0\nGenerator: wheel_of_ants\nRoot-Is-Purelib: false\nTag: %s\n" % TAG
@@ -30,8 +30,10 @@ def build_wheel(wheel_directory, config_settings=None, metadata_directory=None):
     """Writes the wheel into a folder, and gives its name: what pip calls."""
     project = dict(re.findall(r'^([a-z-]+) = "(.*)"$', content("pyproject.toml").decode().partition("[project]")[2], re.M))
     project["version"] = project["version"].replace("-dev", ".dev0")  # as Python spells it
-    stem = "%(name)s-%(version)s" % project
-    files = {name: content(name) for name in FILES}
+    stem = "%s-%s" % (project["name"].replace("-", "_"), project["version"])
+    sources = sorted(it for it in os.listdir(os.path.join(HERE, PACKAGE)) if it.endswith(".py") or it == "py.typed")
+    files = {PACKAGE + "/" + it: content(os.path.join(PACKAGE, it)) for it in sources}
+    files[PACKAGE + "/libants.so"] = content("libants.so")
     files[stem + ".dist-info/METADATA"] = (METADATA % project).encode()
     files[stem + ".dist-info/WHEEL"] = WHEEL.encode()
     record = stem + ".dist-info/RECORD"

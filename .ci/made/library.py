@@ -6,7 +6,7 @@ import textwrap
 from tree import Unknown, read, source_files
 
 SOURCE = "crates/ants_c/src"
-STATUSES, VERSION = SOURCE + "/status.rt", SOURCE + "/version.rt"
+STATUSES, VERSION, NUMBERS = SOURCE + "/status.rt", SOURCE + "/version.rt", "crates/ants_c/specs/Numbers.antt"
 HEAD = "library/ants.h.in"
 PLAIN = {"u8": "uint8_t", "u16": "uint16_t", "u32": "uint32_t", "u64": "uint64_t", "usize": "size_t"}
 WIDTH, RUST_WIDTH = 120, 150
@@ -24,6 +24,13 @@ FRONT_HEAD = """/* What stands between a caller in C and the proved functions; m
 static _Alignas(16) uint8_t none[16];
 #define PLACE(elements) (elements##_len ? elements : (void *)none)
 """
+PYTHON_HEAD = '''"""What libants.so declares, as library/ants.h has it; made of the same source by `make documents`."""
+import ctypes
+import enum
+from ctypes import %s
+
+'''
+KINDS = " The kinds are"  # what a list of kinds stands below
 
 
 class Struct:
@@ -35,12 +42,22 @@ class Struct:
     @property
     def c_name(self):
         # a struct's tag is a type of its own in C, but not in C++, where a function of that name would hide it
-        return re.sub(r"(?<!^)([A-Z])", r"_\1", self.name).lower() + "_data"
+        return snake(self.name) + "_data"
 
     @property
     def plain_name(self):
         return re.sub("^Ants", "", self.name)
 
+    def docs_without_kinds(self, instead):
+        """The docs, with another text in the place of the list of kinds that ends them."""
+        for place, line in enumerate(self.docs):
+            if line.endswith(KINDS):
+                return self.docs[:place] + [line + instead]
+        return self.docs
+
+
+# A kind of fault: its number, its name, and what is wrong, in words.
+Kind = collections.namedtuple("Kind", "number name says")
 
 # As a caller in C gives it: whether behind a pointer, whether that is written through, and the type in the source.
 Parameter = collections.namedtuple("Parameter", "name behind changes kind")
@@ -62,6 +79,11 @@ class Export:
             yield Parameter(name, bool(it[1]), it[1] == "&mut ", it[3])
             if it[2]:
                 yield Parameter(name + "_len", False, False, "usize")
+
+
+def snake(name):
+    """A name of Rust's types as C writes it."""
+    return re.sub(r"(?<!^)([A-Z])", r"_\1", name).lower()
 
 
 def docs_above(text, at):
@@ -119,6 +141,20 @@ def statuses():
     return [(name, " ".join(docs_above(docs, len(docs))), number) for docs, name, number in rows]
 
 
+def kinds(structs):
+    """The kinds of faults: named as the definition of their numbers names them, in the words of the list in the docs of a struct."""
+    named = dict(reversed(it) for it in re.findall(r"^\w*numbers\w* .*?([A-Z]\w*)[^A-Z]* = (?:bare|at_line|record \{ kind =) ([1-9]\d*)", read(NUMBERS), re.M))
+    found = []
+    for item in " ".join(" ".join(line for it in structs for line in it.docs).partition(KINDS)[2].split()).split("- ")[1:]:
+        of = re.match(r"of a (?:\w+ )?(\w+), ", item)
+        for number, says in re.findall(r"(\d+): (.*?)[;.](?: |$)", item):
+            name = snake((of[1].title() if of else "") + named.pop(number, "")).upper()
+            found.append(Kind(number, name, says))
+    if named or not found or not all(it.name for it in found):
+        raise Unknown("%s: other kinds than the docs of their struct list" % NUMBERS)
+    return found
+
+
 class Library:
     """The exports and the structs, and how each language declares them."""
 
@@ -126,6 +162,7 @@ class Library:
         texts = sources()
         self.structs, self.exports, self.statuses = {it.name: it for it in structs(texts)}, list(exports(texts)), statuses()
         self.version_says, self.version = version()
+        self.kinds = kinds(self.structs.values())
         if not self.exports or not self.statuses:
             raise Unknown("%s: no exports, or no statuses" % SOURCE)
 
@@ -143,11 +180,15 @@ class Library:
         lines = ["    ANTS_%s = %s, // %s" % (name, number, docs) for name, docs, number in self.statuses]
         return "// What a call answers.\nenum ants_status {\n" + "\n".join(lines) + "\n};\n"
 
+    def c_kinds(self):
+        lines = ["    ANTS_KIND_%s = %s, // %s" % (it.name, it.number, it.says) for it in self.kinds]
+        return "// The kinds of faults.\nenum ants_kind {\n" + "\n".join(lines) + "\n};\n"
+
     def c_struct(self, struct):
         lines = ["struct %s {" % struct.c_name]
         for name, kind, docs in struct.fields:
             lines += ["    // " + line for line in docs] + ["    %s %s;" % (self.c_type(kind), name)]
-        return comment(struct.docs, "// ") + "\n".join(lines) + "\n};\n"
+        return comment(struct.docs_without_kinds(" those of enum ants_kind."), "// ") + "\n".join(lines) + "\n};\n"
 
     def c_export(self, export):
         return comment(export.docs, "// ") + self.c_signature(export.name, export) + ";\n"
@@ -168,7 +209,7 @@ class Library:
 
     def header(self):
         """library/ants.h: the head, which says what a caller owes, and the declarations."""
-        declared = [self.c_version(), self.c_statuses()] + [self.c_struct(it) for it in self.structs.values()] + [self.c_export(it) for it in self.exports]
+        declared = [self.c_version(), self.c_statuses(), self.c_kinds()] + [self.c_struct(it) for it in self.structs.values()] + [self.c_export(it) for it in self.exports]
         head = read(HEAD)
         if head.count("@declarations@\n") != 1:
             raise Unknown("%s: no one place for the declarations" % HEAD)
@@ -177,9 +218,10 @@ class Library:
     def rust(self):
         """library/rust/src/raw.rs: the same for Rust, and each function over slices and references, which have all that it asks of a pointer."""
         out = [RUST_HEAD, '/// %s\npub const VERSION: &str = "%s";\n' % (self.version_says, self.version), "\n".join("/// %s\npub const %s: u32 = %s;" % (docs, name, number) for name, docs, number in self.statuses) + "\n"]
+        out.append("/// The kinds of faults.\npub mod kind {\n%s}\n" % "".join("    /// %s\n    pub const %s: u32 = %s;\n" % (it.says[0].upper() + it.says[1:] + ".", it.name, it.number) for it in self.kinds))
         for it in self.structs.values():
             fields = "".join("%s    pub %s: %s,\n" % (comment(docs, "    /// "), name, kind) for name, kind, docs in it.fields)
-            out.append("%s#[repr(C)]\n#[derive(Clone, Copy, Debug, Default, PartialEq, Eq)]\npub struct %s {\n%s}\n" % (comment(it.docs, "/// "), it.plain_name, fields))
+            out.append("%s#[repr(C)]\n#[derive(Clone, Copy, Debug, Default, PartialEq, Eq)]\npub struct %s {\n%s}\n" % (comment(it.docs_without_kinds(" those of [`kind`]."), "/// "), it.plain_name, fields))
         out += [self.rust_export(it) for it in self.exports]
         declared = "".join(self.rust_declaration(it) for it in self.exports)
         return "\n".join(out) + "\nmod c {\n    use super::{%s};\n\n    extern \"C\" {\n%s    }\n}\n" % (", ".join(it.plain_name for it in self.structs.values()), declared)
@@ -203,21 +245,24 @@ class Library:
         return comment(export.docs, "/// ") + rust_call("pub fn ", export.name, given, " -> u32 {\n") + body + "}\n"
 
     def python(self):
-        """The made part of library/ants.py: the structs, and the types of what each function is given."""
-        out = ['__version__ = "%s"' % self.version]
-        out += ["_%s = %s  # %s" % (name, number, docs) for name, docs, number in self.statuses] + ["", ""]
+        """library/icfp_ants/_declared.py: the statuses, the kinds of faults, the structs, and the types of what each function is given."""
+        out = ['VERSION = "%s"' % self.version]
+        out += ["%s = %s  # %s" % (name, number, docs) for name, docs, number in self.statuses] + ["", ""]
+        out += ["class Kind(enum.IntEnum):", '    """What is wrong with a text, or with none. The numbers stay."""']
+        out += ["    %s = %s  # %s" % (it.name, it.number, it.says) for it in self.kinds] + ["", ""]
         for it in self.structs.values():
             fields = ", ".join('("%s", %s)' % (name, c_types(kind)) for name, kind, _ in it.fields)
-            out += ["class _%s(ctypes.Structure):" % it.plain_name] + wrapped("_fields_ = [%s]" % fields, "    ") + ["", ""]
-        out.append("_DECLARED = {")
+            out += ["class %s(ctypes.Structure):" % it.plain_name] + wrapped("_fields_ = [%s]" % fields, "    ") + ["", ""]
+        out.append("FUNCTIONS = {")
         for it in self.exports:
             given = ", ".join(map(self.python_type, it.parameters))
             out += wrapped('"%s": [%s],' % (it.name, given), "    ")
-        return "\n".join(out + ["}"]) + "\n"
+        text = "\n".join(out + ["}"]) + "\n"
+        return PYTHON_HEAD % ", ".join(sorted(set(re.findall(r"POINTER|\bc_\w+", text)))) + text
 
     def python_type(self, parameter):
         kind = parameter.kind
-        of = "_" + self.structs[kind].plain_name if kind in self.structs else c_types(kind)
+        of = self.structs[kind].plain_name if kind in self.structs else c_types(kind)
         return "c_char_p" if parameter.behind and kind == "u8" else "POINTER(%s)" % of if parameter.behind else of
 
 
@@ -248,17 +293,9 @@ def comment(docs, mark):
     return "".join((mark + line).rstrip() + "\n" for line in docs)
 
 
-def python_page(library):
-    """library/ants.py with its declarations in their place."""
-    page, count = re.subn(r"(# made: declarations\n).*?(# end\n)", lambda it: it[1] + library.python() + it[2], read("library/ants.py"), flags=re.S)
-    if count != 1:
-        raise Unknown("library/ants.py: no one place for the declarations")
-    return page
-
-
 def pages():
     library = Library()
     yield "library/ants.h", library.header()
     yield "library/front.c", library.front()
     yield "library/rust/src/raw.rs", library.rust()
-    yield "library/ants.py", python_page(library)
+    yield "library/icfp_ants/_declared.py", library.python()

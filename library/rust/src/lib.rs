@@ -16,7 +16,7 @@
 
 pub mod raw;
 
-pub use raw::{Fault, Score};
+pub use raw::{kind, Fault, Score};
 use std::collections::BTreeSet;
 use std::fmt;
 
@@ -26,7 +26,7 @@ use std::fmt;
 /// let stop = ants::minimise("Move 0 7\n").unwrap_err();
 /// assert_eq!(stop.to_string(), "brain: line 1: no such state 7");
 /// let ants::Stop::Refused { name, fault, .. } = stop else { panic!("{stop}") };
-/// assert_eq!((name, fault.kind, fault.line, fault.number), ("brain", 27, 1, 7));
+/// assert_eq!((name, fault.kind, fault.line, fault.number), ("brain", ants::kind::BRAIN_NO_SUCH_STATE, 1, 7));
 /// ```
 #[derive(Clone, Debug, PartialEq, Eq)]
 #[non_exhaustive]

@@ -21,6 +21,82 @@ pub const REFUSED: u32 = 5;
 /// Memory could not be had.
 pub const MEMORY: u32 = 6;
 
+/// The kinds of faults.
+pub mod kind {
+    /// A text has more than 4,194,304 bytes.
+    pub const TOO_LONG: u32 = 1;
+    /// Bad width.
+    pub const WORLD_BAD_WIDTH: u32 = 10;
+    /// Bad height.
+    pub const WORLD_BAD_HEIGHT: u32 = 11;
+    /// A row is missing.
+    pub const WORLD_MISSING_ROW: u32 = 12;
+    /// A bad cell.
+    pub const WORLD_BAD_CELL: u32 = 13;
+    /// A row is short.
+    pub const WORLD_SHORT_ROW: u32 = 14;
+    /// A row is long.
+    pub const WORLD_LONG_ROW: u32 = 15;
+    /// A row more.
+    pub const WORLD_EXTRA_ROW: u32 = 16;
+    /// The rim is open.
+    pub const WORLD_OPEN_RIM: u32 = 17;
+    /// Too many ants.
+    pub const WORLD_TOO_MANY_ANTS: u32 = 18;
+    /// A bad byte.
+    pub const BRAIN_BAD_BYTE: u32 = 20;
+    /// An unknown word.
+    pub const BRAIN_UNKNOWN_WORD: u32 = 21;
+    /// A token is missing.
+    pub const BRAIN_MISSING_TOKEN: u32 = 22;
+    /// A bad number.
+    pub const BRAIN_BAD_NUMBER: u32 = 23;
+    /// A token more.
+    pub const BRAIN_EXTRA_TOKEN: u32 = 24;
+    /// Too many instructions.
+    pub const BRAIN_TOO_MANY: u32 = 25;
+    /// No instruction.
+    pub const BRAIN_EMPTY: u32 = 26;
+    /// No such state.
+    pub const BRAIN_NO_SUCH_STATE: u32 = 27;
+    /// A bad byte.
+    pub const PROGRAM_BAD_BYTE: u32 = 30;
+    /// An unknown word.
+    pub const PROGRAM_UNKNOWN_WORD: u32 = 31;
+    /// A token is missing.
+    pub const PROGRAM_MISSING_TOKEN: u32 = 32;
+    /// A bad number.
+    pub const PROGRAM_BAD_NUMBER: u32 = 33;
+    /// A token more.
+    pub const PROGRAM_EXTRA_TOKEN: u32 = 34;
+    /// A bad name.
+    pub const PROGRAM_BAD_NAME: u32 = 35;
+    /// Misplaced.
+    pub const PROGRAM_MISPLACED: u32 = 36;
+    /// A name is taken.
+    pub const PROGRAM_TWICE: u32 = 37;
+    /// No such block.
+    pub const PROGRAM_NO_BLOCK: u32 = 38;
+    /// Another number of labels.
+    pub const PROGRAM_WRONG_COUNT: u32 = 39;
+    /// Too many.
+    pub const PROGRAM_TOO_MANY: u32 = 40;
+    /// An empty block.
+    pub const PROGRAM_EMPTY_BLOCK: u32 = 41;
+    /// No instruction.
+    pub const PROGRAM_EMPTY: u32 = 42;
+    /// No such label.
+    pub const PROGRAM_NO_LABEL: u32 = 43;
+    /// A line isn't in its form.
+    pub const SAVE_BAD_LINE: u32 = 50;
+    /// No state of a game.
+    pub const SAVE_BAD_STATE: u32 = 51;
+    /// More rounds are done than are asked for.
+    pub const SAVE_ALREADY_AT: u32 = 52;
+    /// An element of a world to be generated has no room.
+    pub const NO_ROOM: u32 = 60;
+}
+
 /// An ant: 16 bytes. Of one that is dead all numbers are 0.
 #[repr(C)]
 #[derive(Clone, Copy, Debug, Default, PartialEq, Eq)]
@@ -43,17 +119,7 @@ pub struct Ant {
     pub laden: u8,
 }
 
-/// Why a text was refused, in numbers (this project's own). The kinds are
-/// - 1: a text has more than 4,194,304 bytes;
-/// - of a world, 10: bad width; 11: bad height; 12: a row is missing; 13: a bad cell; 14: a row is short; 15: a row is long; 16: a row more;
-///   17: the rim is open; 18: too many ants;
-/// - of a brain, 20: a bad byte; 21: an unknown word; 22: a token is missing; 23: a bad number; 24: a token more; 25: too many instructions;
-///   26: no instruction; 27: no such state;
-/// - of a labelled program, 30: a bad byte; 31: an unknown word; 32: a token is missing; 33: a bad number; 34: a token more; 35: a bad name;
-///   36: misplaced; 37: a name is taken; 38: no such block; 39: another number of labels; 40: too many; 41: an empty block; 42: no
-///   instruction; 43: no such label;
-/// - of a save, 50: a line isn't in its form; 51: no state of a game; 52: more rounds are done than are asked for;
-/// - of no text, 60: an element of a world to be generated has no room.
+/// Why a text was refused, in numbers (this project's own). The kinds are those of [`kind`].
 #[repr(C)]
 #[derive(Clone, Copy, Debug, Default, PartialEq, Eq)]
 pub struct Fault {

@@ -1,0 +1,35 @@
+"""The ant world of the ICFP Programming Contest 2004: games, brains and worlds as texts in memory, by the proved library libants.so.
+
+    import icfp_ants
+    world, brain = open("contest.world").read(), open("sample.brain").read()
+    red, black = icfp_ants.score(world, brain, brain, seed=12345, rounds=1000)
+
+Each command of the program is a function with its options as keywords, but for those that change nothing that is printed (`--workers`, `--far`), and
+`call` takes the words of any. What a command prints comes as str; where it prints lines that tell of something, as `trace`, `labels` or `cup`, they come as
+named tuples, with the `text` as the program writes it. `score_of`, `counts_of` and `cells` read what stands in the texts of games.
+
+A text is given as str or bytes. What is neither, as a file's name in a Path, is a TypeError. A text that is refused raises `Refused`, with the program's
+words; a number beyond its limits raises ValueError, and memory that could not be had MemoryError. Any threads may call at once: while a call runs, other
+threads of Python run too. No call is made in a forked child of a process with threads: `multiprocessing` begins its processes by "spawn".
+
+The library is the file that the variable ANTS_LIBRARY names; else libants.so in this package, in the folder that the package is in, in a folder `lib`
+beside it or around it, or in that of Python; else the one that the system finds. Where it is not there, or of another version than this package, each
+call is an ImportError.
+"""
+from ._brains import Difference, asm, brain, difference, gen, minimise, same
+from ._calling import Called, call
+from ._commands import cup, events, labels, lines, profile, show, states, trace, view, way, workload
+from ._declared import VERSION as __version__
+from ._declared import Kind
+from ._games import Counts, Score, advance, counts_of, resume, run, save, score, score_of, scores, scores_of_pairs
+from ._library import Refused
+from ._printed import (
+    Ant, Cell, Colour, Cup, Death, Event, Executed, Label, Line, Played, Printed, Renumbered, Standing, Step, Stop, Traced, Use, Workload, cells,
+)
+
+__all__ = [
+    "Ant", "Called", "Cell", "Colour", "Counts", "Cup", "Death", "Difference", "Event", "Executed", "Kind", "Label", "Line", "Played", "Printed",
+    "Refused", "Renumbered", "Score", "Standing", "Step", "Stop", "Traced", "Use", "Workload", "__version__", "advance", "asm", "brain", "call",
+    "cells", "counts_of", "cup", "difference", "events", "gen", "labels", "lines", "minimise", "profile", "resume", "run", "same", "save", "score",
+    "score_of", "scores", "scores_of_pairs", "show", "states", "trace", "view", "way", "workload",
+]

@@ -1,0 +1,53 @@
+"""Brains, programs with labels that become brains, and generated worlds."""
+import re
+from typing import NamedTuple, Optional
+
+from ._library import Text, number_of, text_of, texts_of
+
+
+class Difference(NamedTuple):
+    """Where two brains first differ: after how many answers, and in which state each is then, with its instruction there.
+
+    An answer is what an instruction comes to: met, or unmet where it names two states.
+    """
+    answers: int
+    first_state: int
+    first: str
+    second_state: int
+    second: str
+
+
+def brain(brain: Text) -> str:
+    """The canonical text of a brain."""
+    return text_of("ants_brain", texts_of(brain=brain))
+
+
+def minimise(brain: Text) -> str:
+    """The canonical text of the brain with equivalent states merged and unreached ones dropped: what `ants minimise` prints below its first line."""
+    return text_of("ants_minimise", texts_of(brain=brain))
+
+
+def asm(program: Text) -> str:
+    """The canonical text of the brain that a program with labels and blocks becomes."""
+    return text_of("ants_asm", texts_of(program=program))
+
+
+def same(first: Text, second: Text) -> bool:
+    """Whether two brains are the same but for the numbers of their states."""
+    return difference(first, second) is None
+
+
+def difference(first: Text, second: Text) -> Optional[Difference]:
+    """Where two brains first differ, or None where they are the same but for the numbers of their states."""
+    text = text_of("ants_same", texts_of(first=first, second=second))
+    if text == "same\n":
+        return None
+    found = re.fullmatch(r"different after (\d+) answers\nfirst (\d+): (.*)\nsecond (\d+): (.*)\n", text)
+    assert found, text
+    return Difference(int(found[1]), int(found[2]), found[3], int(found[4]), found[5])
+
+
+def gen(seed: int, width: int = 150, height: int = 150, rocks: int = 14, blobs: int = 11) -> str:
+    """A world in the contest's manner, as `ants gen` prints it."""
+    sides = number_of("width", width, 3, 512), number_of("height", height, 3, 512)
+    return text_of("ants_gen", {}, number_of("seed", seed), *sides, number_of("rocks", rocks, most=255), number_of("blobs", blobs, most=255))

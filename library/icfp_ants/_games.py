@@ -1,0 +1,198 @@
+"""Games of two brains on a world, and their saves."""
+import concurrent.futures
+import ctypes
+import re
+import struct
+from ctypes import byref, c_uint32
+from typing import Callable, Dict, Iterable, List, NamedTuple, Tuple
+
+from . import _declared
+from ._calling import output_of, read_game
+from ._library import MOST_ROUNDS, Answer, Text, Texts, bytes_of, is_done, library, number_of, numbers_of, passed, text_of, texts_of
+
+_MOST_CELLS = 512 * 512
+_MOST_GUESSED = 1 << 28  # bytes of a room for a text whose length isn't known; only those that are written take memory
+_MOST_WORKERS = 256
+_MOST_WINDOW = 16384
+_SHEET = 5, 3, 14  # the contest's numbers of the rules: foes that surround, food of a corpse, turns of rest
+_PARTS = 8  # of the games for each worker, so that all end at much the same time
+
+
+class Score(NamedTuple):
+    """The food on the cells of each hill."""
+    red: int
+    black: int
+
+
+class Counts(NamedTuple):
+    """Of all turns of a game, how many were taken as they were looked at, and how many were made anew."""
+    turns: int
+    taken: int
+    redone: int
+
+
+def _rounds(value: int) -> int:
+    return number_of("rounds", value, most=MOST_ROUNDS)
+
+
+def _dumped(dumps: Iterable[int], rounds: int) -> List[int]:
+    """The rounds after which a dump comes, each once: none comes after the last round."""
+    return sorted({it for it in (number_of("dumps", it) for it in dumps) if it <= rounds})
+
+
+def _cells(world: bytes) -> int:
+    """How many cells a world's text has, or some more."""
+    return min(len(world) - world.count(b" "), _MOST_CELLS)
+
+
+def _room_of_run(dumps: int, cells: int) -> int:
+    """A guess of how long the text of a game is, so that it is seldom played twice: a cell of a dump has some 20 to 25 bytes, and at most 150."""
+    return min((1 << 12) + dumps * cells * 40, _MOST_GUESSED)
+
+
+def game_output(command: str, game: Texts, places: Iterable[int], seed: int, rounds: int, sheet: Tuple[int, ...], *options: object) -> str:
+    """What a command prints of a game, with the numbers that stand behind its files, the numbers of the rules where they are given, and more options."""
+    words = [command, *game, *places, "--seed", number_of("seed", seed), "--rounds", _rounds(rounds), *options]
+    for name, value, least, most in zip(("surround", "corpse", "rest"), sheet, (4, 0, 0), (6, 9, 255)):
+        words += ["--" + name, number_of(name, value, least, most)]
+    return output_of(words, game, lambda: read_game(game))
+
+
+def _window(value: int) -> Tuple[str, int]:
+    return "--window", number_of("window", value, 1, _MOST_WINDOW)
+
+
+def _dump(rounds: List[int]) -> List[str]:
+    return ["--dump", ",".join(map(str, rounds))] if rounds else []
+
+
+def score(world: Text, red: Text, black: Text, seed: int, rounds: int) -> Score:
+    """The score of a game after this number of rounds."""
+    game = texts_of(world=world, red=red, black=black)
+    found = _declared.Score()
+    is_done("ants_score", game, number_of("seed", seed), _rounds(rounds), byref(found))
+    return Score(found.red, found.black)
+
+
+def scores(world: Text, red: Text, black: Text, seeds: Iterable[int], rounds: int, workers: int = 1) -> List[Score]:
+    """The score of a game for each of these seeds, by so many threads; one thread reads the texts once."""
+    game = texts_of(world=world, red=red, black=black)
+    return _scores_of_games([passed(game.values())], lambda place: list(game), seeds, rounds, workers)[0]
+
+
+def scores_of_pairs(world: Text, pairs: Iterable[Tuple[Text, Text]], seeds: Iterable[int], rounds: int, workers: int = 1) -> List[List[Score]]:
+    """For each pair of a red and a black brain the scores of its games for each of these seeds, by so many threads.
+
+    A text that is refused is named by its place, as "pairs[3][1]" for the black brain of the fourth pair; that of the first pair, where there are more.
+    """
+    ground, listed = bytes_of("world", world), [_pair(place, pair) for place, pair in enumerate(pairs)]
+    held: Dict[int, bytes] = {}  # by the text, so that one of many pairs is held once
+    for place, pair in enumerate(listed):
+        for side, text in enumerate(pair):
+            if id(text) not in held:
+                held[id(text)] = bytes_of("pairs[%d][%d]" % (place, side), text)
+    games = [passed((ground, held[id(red)], held[id(black)])) for red, black in listed]
+    return _scores_of_games(games, lambda place: ["world", "pairs[%d][0]" % place, "pairs[%d][1]" % place], seeds, rounds, workers)
+
+
+def _pair(place: int, pair: Tuple[Text, Text]) -> Tuple[Text, Text]:
+    """The two brains of a pair."""
+    try:
+        red, black = pair
+    except (TypeError, ValueError):
+        raise TypeError("pairs[%d]: a red and a black brain are wanted" % place) from None
+    return red, black
+
+
+def _scores_of_games(games: List[List[object]], names: Callable[[int], List[str]], seeds: Iterable[int], rounds: int, workers: int) -> List[List[Score]]:
+    """The scores of each game for each seed. They are dealt out in parts, of some seeds of one game up to all seeds of some games."""
+    rounds, workers = _rounds(rounds), number_of("workers", workers, 1, _MOST_WORKERS)
+    numbers = numbers_of("seeds", seeds)
+    count = len(numbers) - 1
+    row = max(count, 1)  # without a seed each game is one of none: its texts are read
+    total = len(games) * row
+    size = total if workers == 1 else max(1, total // (workers * _PARTS))
+    found = (_declared.Score * (total + 1))()
+    function, first_number, first_score = library().ants_scores, c_uint32.from_buffer(numbers), _declared.Score.from_buffer(found)
+
+    def play(begin: int) -> None:
+        """Plays a part, with little besides the calls, since threads of Python wait for each other there."""
+        answer, end = Answer(), min(begin + size, total)
+        while begin < end:
+            place, first = divmod(begin, row)
+            some = min(row - first, end - begin)
+            given, room = byref(first_number, first * ctypes.sizeof(c_uint32)), byref(first_score, begin * ctypes.sizeof(_declared.Score))
+            status = function(*games[place], given, min(some, count), rounds, room, some, *answer.passed)
+            if status != _declared.DONE:
+                answer.is_done(status, names(place))
+            begin += some
+
+    if workers == 1:
+        play(0)
+    else:
+        with concurrent.futures.ThreadPoolExecutor(workers) as threads:
+            list(threads.map(play, range(0, total, size)))  # raises what the first part that raises anything does
+    flat = [Score(*it) for it in struct.iter_unpack("=II", found)]
+    return [flat[begin:begin + count] for begin in range(0, total, row)]
+
+
+def run(
+    world: Text, red: Text, black: Text, seed: int, rounds: int, dumps: Iterable[int] = (), stats: bool = False, window: int = _MOST_WINDOW,
+    surround: int = 5, corpse: int = 3, rest: int = 14,
+) -> str:
+    """What `ants run` prints of a game, with a dump after each of these rounds, and its counts at the end where `stats` says so."""
+    game = texts_of(world=world, red=red, black=black)
+    seed, rounds = number_of("seed", seed), _rounds(rounds)
+    dumped, sheet = _dumped(dumps, rounds), (surround, corpse, rest)
+    if stats or sheet != _SHEET:
+        return game_output("run", game, (), seed, rounds, sheet, *_dump(dumped), *_window(window), *(["--stats"] if stats else []))
+    room = _room_of_run(len(dumped), _cells(game["world"]))
+    return text_of("ants_run", game, seed, rounds, byref(c_uint32.from_buffer(numbers_of("dumps", dumped))), len(dumped), room=room)
+
+
+def save(
+    world: Text, red: Text, black: Text, seed: int, rounds: int, window: int = _MOST_WINDOW, surround: int = 5, corpse: int = 3, rest: int = 14,
+) -> str:
+    """The game as it stands after this number of rounds, as `ants save` prints it."""
+    game = texts_of(world=world, red=red, black=black)
+    seed, rounds, sheet = number_of("seed", seed), _rounds(rounds), (surround, corpse, rest)
+    if sheet != _SHEET or window != _MOST_WINDOW:
+        return game_output("save", game, (), seed, rounds, sheet, *_window(window))
+    room = (1 << 12) + 8 * _cells(game["world"]) + 4 * (len(game["red"]) + len(game["black"]))  # a cell has four bytes of a save
+    return text_of("ants_save", game, seed, rounds, room=min(room, _MOST_GUESSED))
+
+
+def resume(save: Text, rounds: int, dumps: Iterable[int] = (), stats: bool = False) -> str:
+    """What `ants resume` prints of a saved game that goes on to this number of rounds in all, with the counts of all of them where `stats` says so."""
+    saved = texts_of(save=save)
+    rounds = _rounds(rounds)
+    dumped = _dumped(dumps, rounds)
+    if stats:
+        words = ["resume", "save", "--rounds", rounds, *_dump(dumped), "--stats"]
+        return output_of(words, saved, lambda: resume(saved["save"], rounds))
+    room = _room_of_run(len(dumped), min(len(saved["save"]) // 4, _MOST_CELLS))
+    return text_of("ants_resume", saved, rounds, byref(c_uint32.from_buffer(numbers_of("dumps", dumped))), len(dumped), room=room)
+
+
+def advance(save: Text, rounds: int) -> str:
+    """The save of a saved game that goes on to this number of rounds in all."""
+    saved = texts_of(save=save)
+    return output_of(["advance", "save", "--rounds", _rounds(rounds)], saved, lambda: resume(saved["save"], rounds))
+
+
+def score_of(text: str) -> Score:
+    """The score that a game's text tells, as `run` and `resume` give it."""
+    return Score(*_last_numbers(r"score: red (\d+) black (\d+)", text))
+
+
+def counts_of(text: str) -> Counts:
+    """The counts that a game's text tells, as `run` and `resume` give it with `stats`."""
+    return Counts(*_last_numbers(r"turns (\d+) taken (\d+) redone (\d+)", text))
+
+
+def _last_numbers(form: str, text: str) -> List[int]:
+    """The numbers of the line of a text that has this form."""
+    found = re.search("^%s$" % form, text[-200:], re.M)
+    if not found:
+        raise ValueError("no such line ends the text: %s" % form)
+    return [*map(int, found.groups())]

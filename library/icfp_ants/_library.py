@@ -1,0 +1,154 @@
+"""The library libants.so, as Python calls it: where it is found, what it is given, and what it refuses."""
+import ctypes
+import functools
+import mmap
+import operator
+import os
+import pathlib
+import sys
+from array import array
+from ctypes import byref, c_char, c_size_t, c_uint32
+from typing import Dict, Iterable, Iterator, List, Union
+
+from . import _declared
+from ._declared import Kind
+
+Text = Union[str, bytes, bytearray, memoryview]
+Texts = Dict[str, bytes]  # the bytes of texts by their names, in the order in which they are passed
+
+MOST_NUMBER = 2 ** 32 - 1
+MOST_ROUNDS = 10 ** 6
+_WORDS = 1024  # bytes for the words of a fault, which have some dozens
+
+
+class Refused(ValueError):
+    """A text is refused, or an element of a generated world has no room. It reads as the program's line does, with the text's name for a file's.
+
+    name: which text, as the parameter is called, or "" where it is none. words: the program's words, as "line 3: unknown word".
+    kind: what is wrong, a `Kind`. line: the line, from 1, or the row of a world, from 0. column: the column of a world, from 0. number: how many ants
+    there are (WORLD_TOO_MANY_ANTS), the state that is not there (BRAIN_NO_SUCH_STATE), the round of the save (SAVE_ALREADY_AT), or the number of the
+    element (NO_ROOM). Each is 0 where the kind has none.
+    """
+
+    def __init__(self, name: str, words: str, kind: Kind, line: int, column: int, number: int) -> None:
+        super().__init__(name, words, kind, line, column, number)
+        self.name, self.words, self.kind, self.line, self.column, self.number = name, words, kind, line, column, number
+
+    def __str__(self) -> str:
+        return self.name + ": " + self.words if self.name else self.words
+
+
+def _places() -> Iterator[str]:
+    """Where the library may be, the first place first."""
+    here = pathlib.Path(__file__).resolve().parent
+    if "ANTS_LIBRARY" in os.environ:
+        yield os.environ["ANTS_LIBRARY"]
+        return
+    for folder in (here, here.parent, here.parent / "lib", *(it for it in here.parents if it.name == "lib"), pathlib.Path(sys.prefix, "lib")):
+        for name in ("libants.so", "libants.so.1"):
+            if (folder / name).exists():
+                yield str(folder / name)
+    yield "libants.so.1"
+
+
+@functools.lru_cache(maxsize=None)
+def library() -> ctypes.CDLL:
+    """The library, of this version, with the types of its functions. Where it is not there, or is another one, it is an ImportError."""
+    place = next(_places())
+    try:
+        found = ctypes.CDLL(place)
+    except OSError as fault:
+        raise ImportError("%s; ANTS_LIBRARY may name libants.so, which `make library` makes" % fault) from None
+    for name, given in _declared.FUNCTIONS.items():
+        try:
+            function = getattr(found, name)
+        except AttributeError:
+            raise ImportError("%s: no %s in it, so it is not libants.so of version %s" % (place, name, _declared.VERSION)) from None
+        function.argtypes, function.restype = given, c_uint32
+    out, used = ctypes.create_string_buffer(64), c_size_t()
+    found.ants_version(out, len(out), byref(used))
+    version = out.value.decode("ascii", "replace")
+    if version != _declared.VERSION:
+        raise ImportError("%s: of version %s, and icfp_ants is of %s" % (place, version, _declared.VERSION))
+    return found
+
+
+def bytes_of(name: str, text: Text) -> bytes:
+    """The bytes of the text of this name."""
+    if isinstance(text, str):
+        return text.encode("utf-8", "surrogateescape")
+    try:
+        view = memoryview(text)
+        is_text = view.ndim == 1 and view.format in ("B", "b", "c")
+    except TypeError:
+        is_text = False
+    if not is_text:
+        raise TypeError("%s: a text is wanted, as str or bytes, and not a file's name or anything else: %s" % (name, type(text).__name__))
+    return text if isinstance(text, bytes) else view.tobytes()
+
+
+def texts_of(**texts: Text) -> Texts:
+    """The bytes of texts by their names."""
+    return {name: bytes_of(name, text) for name, text in texts.items()}
+
+
+def number_of(name: str, value: int, least: int = 0, most: int = MOST_NUMBER) -> int:
+    """A number within its limits, which ctypes would take modulo 2^32."""
+    number = operator.index(value)
+    if not least <= number <= most:
+        raise ValueError("%s: %d is not %d to %d" % (name, number, least, most))
+    return number
+
+
+def numbers_of(name: str, values: Iterable[int]) -> "array[int]":
+    """Numbers as C has them, with one behind them, so that their place is no null."""
+    return array("I", [*(number_of(name, it) for it in values), 0])
+
+
+class Answer:
+    """What a call of the library writes where it refuses a text, and what that comes to."""
+
+    def __init__(self) -> None:
+        self.fault, self.words = _declared.Fault(), ctypes.create_string_buffer(_WORDS)
+        self.passed = byref(self.fault), self.words, _WORDS
+
+    def is_done(self, status: int, names: Iterable[str]) -> bool:
+        """Whether there was room enough; what is wrong otherwise is raised, where the texts have these names."""
+        if status == _declared.NUMBER:
+            raise ValueError("a number is beyond its limits")
+        if status == _declared.REFUSED:
+            fault, line = self.fault, self.words.raw[:self.fault.words].decode("utf-8", "replace")
+            raise Refused(["", *names][fault.text], line, Kind(fault.kind), fault.line, fault.column, fault.number)
+        if status == _declared.MEMORY:
+            raise MemoryError("memory could not be had")
+        return status == _declared.DONE
+
+
+def passed(texts: Iterable[bytes]) -> List[object]:
+    """Texts as C is given them, each with its length."""
+    return [it for text in texts for it in (text, len(text))]
+
+
+def is_done(function: str, texts: Texts, *more: object) -> bool:
+    """Calls a function of the library; whether it had room enough."""
+    answer = Answer()
+    return answer.is_done(getattr(library(), function)(*passed(texts.values()), *more, *answer.passed), texts)
+
+
+def area_of(room: int) -> mmap.mmap:
+    """A room of so many bytes, at least 1, of which only those that are written take memory."""
+    try:
+        return mmap.mmap(-1, room, flags=mmap.MAP_PRIVATE | mmap.MAP_ANONYMOUS)
+    except OSError:
+        raise MemoryError("memory could not be had") from None
+
+
+def text_of(function: str, texts: Texts, *more: object, room: int = 1 << 16) -> str:
+    """Calls a function that writes a text, once more where the text turns out to be longer than the room."""
+    while True:
+        area = area_of(room)
+        out, used = c_char.from_buffer(area), c_size_t()
+        if is_done(function, texts, *more, byref(out), room, byref(used)):
+            with memoryview(area) as view:
+                return str(view[:used.value], "ascii")
+        room = used.value
