@@ -1,5 +1,5 @@
 -- Each `run` keeps its promise: what its status says follows from the law `headline`, and its words from the table.
-use Rattle.std.proofs.Common.{◌≡◌, ◌≢◌, ◌⊎◌, inl, inr, ℕ, Bool, true, false, List, [], ◌∷◌, ◌++◌, Option, Some, Result, Ok, Err, codes, refl, sym, ap, ◌∙◌, subst, lit<}
+use Rattle.std.proofs.Common.{◌≡◌, ◌≢◌, ◌⊎◌, inl, inr, ℕ, Bool, true, false, List, [], ◌∷◌, ◌++◌, Some, Result, Ok, Err, codes, refl, sym, ap, ◌∙◌, subst}
 use Rattle.std.specs.List.{Contains, flat_map}
 use Rattle.std.proofs.lemmas.Bool.{false≢true}
 use Rattle.std.proofs.lemmas.List.{append-nil, append_assoc}
@@ -11,11 +11,11 @@ use Rattle.ant_base.specs.declared.sink.Failed.{Failed}
 use Rattle.ant_base.specs.declared.shelf.FetchFault.{FetchFault}
 use Rattle.ant_base.specs.declared.shelf.FetchFault.TheVariants as why
 use Rattle.ant_turn.specs.Rounds.{start_of}
-use Rattle.cell_world.specs.Grid.{Grid, world_of}
+use Rattle.cell_world.specs.Grid.{world_of}
 use Rattle.command_words.proofs.SaidLemmas as said_laws
 use Rattle.command_words.proofs.TableLemmas.{command_kind_of-word}
 use Rattle.command_words.proofs.WordLaws as words_laws
-use Rattle.command_words.specs.Command.{IsCommand, IsCommandOf, IsGiven, PlainAsked, asked_in, given_words, joined}
+use Rattle.command_words.specs.Command.{IsCommand, IsCommandOf, PlainAsked, asked_in, given_words, joined}
 use Rattle.command_words.specs.Inner.Walk.{command_kind_of}
 use Rattle.command_words.specs.Table.{option_of, word_of}
 use Rattle.command_words.specs.declared.table.CommandKind.{CommandKind}
@@ -29,7 +29,7 @@ use Rattle.ant_commands.specs.declared.stop.FileFault.TheVariants.{TooLong, Worl
 use Rattle.ant_commands.specs.Endings.{IsUnsure, StopsFor}
 use Rattle.ant_commands.specs.FaultLines.{Reason, fault_line, file_fault_text}
 use Rattle.ant_commands.specs.FaultLines.Reason.{AtFile, AtInput, AtMemory, AtOutput, AtRoom}
-use Rattle.ant_commands.specs.Files.{AreAccepted, AreBegun, File, FileContent, FileKind, IsAccepted, IsFetched, IsNoText, IsRefused, Reads}
+use Rattle.ant_commands.specs.Files.{AreAccepted, AreBegun, File, FileContent, FileKind, IsFetched, IsNoText, IsRefused, Reads}
 use Rattle.ant_commands.specs.Files.FileContent.{WorldContent, BrainContent, BreakContent, LabelledContent, LabelsContent, SaveContent}
 use Rattle.ant_commands.specs.Files.FileKind.{WorldFile, BrainFile}
 use Rattle.ant_commands.specs.Files as files
@@ -38,7 +38,7 @@ use Rattle.ant_commands.specs.Job.{IsJobText}
 use Rattle.ant_commands.specs.Jobs.{job_of, run_job}
 use Rattle.ant_commands.specs.Outputs.{ReadGame, brain_file, chosen_rounds, game_contents, game_files, match_output, minds_named, sheet_named, world_file}
 use Rattle.ant_commands.specs.Outside.{Outside}
-use Rattle.ant_commands.specs.Run.{GotLine, IsNoCommand, IsRunTo}
+use Rattle.ant_commands.specs.Run.{GotLine, IsRunTo}
 use Rattle.ant_commands.specs.RunPromise.{GameSetup, HasLine, IsBrain, IsCutOff, IsNotAccepted, IsPrinted, IsRunOf, IsSomeRun, IsUnfit, IsUnread, IsWorld, Plays, RefusedWords, RunEnds, RunPromise, StopsAt, WantsMemory, fetch, game_text}
 use Rattle.ant_commands.specs.Setups.{RunSetup, setup_of}
 use Rattle.ant_commands.specs.Verdict.{IsRefusedAs}

@@ -1,30 +1,25 @@
 -- The words of a `run` are those that the table of commands has, and say the same.
-use Rattle.std.proofs.Common.{◌≡◌, ◌≢◌, ◌⊎◌, inl, inr, ℕ, ◌≤◌, nat_le, Bool, true, false, ◌&&◌, cond, List, [], ◌∷◌, ◌++◌, map, Option, Some, None, is_some, option_map, unwrap_or, codes, bytes_eq, refl, sym, ap, ◌∙◌, subst, lit<, arith}
+use Rattle.std.proofs.Common.{◌≡◌, ◌≢◌, inl, inr, ℕ, nat_le, Bool, true, false, ◌&&◌, cond, List, [], ◌∷◌, ◌++◌, map, Option, Some, None, is_some, option_map, unwrap_or, codes, bytes_eq, refl, sym, ap, ◌∙◌, subst, lit<}
 use Rattle.std.specs.List.{AllByRecursion, AllZip, Contains, flat_map}
 use Rattle.std.proofs.lemmas.Bool.{and_from, and_parts, false≢true, le-leb, leb-true}
 use Rattle.std.proofs.lemmas.List.Elements.{Contains-append_right}
 use Rattle.std.proofs.lemmas.Slice.Eq.{bytes_eq-Decides}
 use Rattle.ant_base.specs.Number.{decimal_value, number_within, within}
-use Rattle.ant_turn.specs.Sheet.{Sheet}
-use Rattle.command_words.specs.Command.{FitAll, Given, IsCommand, IsCommandOf, IsGiven, IsOptionOf, NoneTwice, PlainAsked, answers_in, asked_in, asked_of, dumps_said, first_word, given_words, is_among, joined, said}
+use Rattle.command_words.specs.Command.{FitAll, Given, IsCommand, IsCommandOf, IsGiven, IsOptionOf, NoneTwice, PlainAsked, asked_in, asked_of, dumps_said, first_word, given_words, joined, said}
 use Rattle.command_words.specs.Limits.{least_of, most_of, number_in}
 use Rattle.command_words.specs.Slots.{AllDiffer, DumpChoice, dumps_of, fits, is_dumps, is_file_name, numbers_of, pieces_of, with_number}
 use Rattle.command_words.specs.Slots.DumpChoice.{NoDump, EveryDump, ChosenDumps}
-use Rattle.command_words.specs.Table.{choices_of, is_needed, kinds, option_of, places_of, values_of, word_of}
+use Rattle.command_words.specs.Table.{choices_of, is_needed, option_of, places_of, values_of, word_of}
 use Rattle.command_words.specs.declared.limits.NumberKind.{NumberKind}
 use Rattle.command_words.specs.declared.limits.NumberKind.TheVariants.{SeedNumber, RoundCount, WorkerCount, WindowSize, FoeCount, CorpseFood, RestRounds}
-use Rattle.command_words.specs.declared.slot.Slot.{Slot}
 use Rattle.command_words.specs.declared.slot.Slot.TheVariants.{Number, Dumps}
 use Rattle.command_words.specs.declared.slot.Place.TheVariants.{Word}
-use Rattle.command_words.specs.declared.table.CommandKind.{CommandKind}
 use Rattle.command_words.specs.declared.table.CommandKind.TheVariants.{Run}
 use Rattle.command_words.specs.declared.table.Choice.{Choice}
 use Rattle.command_words.specs.declared.table.Choice.TheVariants as choice
-use Rattle.command_words.specs.Inner.Walk.{choice_of, command_kind_of}
-use Rattle.command_words.proofs.AnswersLemmas.{answers_in-of, answers_of, given-has, given_has, has_given, value_given, words_of}
-use Rattle.command_words.proofs.TableLemmas.{bytes_eq-same, choice_of-option, command_kind_of-word, same_option}
-use Rattle.command_words.proofs.WalkAmong.{is_among-given}
-use Rattle.command_words.proofs.WalkSearch.{is_among-append}
+use Rattle.command_words.proofs.AnswersLemmas.{answers_in-of, answers_of, has_given, value_given, words_of}
+use Rattle.command_words.proofs.TableLemmas.{bytes_eq-same, same_option}
+use Rattle.list_lemmas.proofs.AllElements.{AllByRecursion-at}
 use Rattle.list_lemmas.proofs.Elements.{Contains-cases, Contains-first, Contains-later, Contains-none}
 use Rattle.ant_commands.specs.RunPromise.{AreOptions, GameSetup, IsDumps, IsNumber, IsRunOf, IsSomeRun, IsValue, RunOption, name_of, setup_said, with_option}
 use Rattle.ant_commands.specs.RunPromise.RunOption.{Seed, Rounds, Dump, Workers, Window, Surround, Corpse, Rest, Far}
@@ -65,7 +60,7 @@ known_in_table (Corpse number) = (6, lit< tt, refl)
 known_in_table (Rest number) = (7, lit< tt, refl)
 known_in_table Far = (9, lit< tt, refl)
 
--- numbers
+-- Numbers.
 
 number_said : (least greatest number : ℕ) (word : List ℕ) → IsNumber least greatest number word → number_within least greatest word ≡ Some number
 number_said least greatest number word is =
@@ -85,7 +80,7 @@ number_read least greatest number word e = go (decimal_value word) refl e where
   go None is e = (let no : ⊥ = cc in absurd no)
   go (Some n) is e = inside n (nat_le least n && nat_le n greatest) refl is e
 
--- choices of rounds
+-- Choices of rounds.
 
 numbers_said : (rounds : List ℕ) (pieces : List (List ℕ)) → AllZip (IsNumber 0 1000000) rounds pieces → numbers_of pieces ≡ Some rounds
 numbers_said [] [] are = refl
@@ -214,7 +209,7 @@ says (Rest number) (word ∷ []) values given are is =
 says (Rest number) (word ∷ other ∷ more) values given are is = absurd is
 says Far value values given are is = refl
 
--- FROM THE WORDS OF A RUN TO THE TABLE
+-- From the words of a run to the table.
 
 -- a place for each word
 abbrev parts_of : List (List ℕ) → List (List (List ℕ))
@@ -330,26 +325,14 @@ given_uncounted [] words are = refl
 given_uncounted (option ∷ options) words are =
     ap (λ b. cond b true (has_given choice.Stats (given_of options are.1 are.4))) (not_counts option) ∙ given_uncounted options are.1 are.4
 
+never : {P : Type 0} → false ≡ true → P
+never e = absurd (false≢true e)
+
 -- the options that a `run` needs are the seed and the rounds
-needs_two : (given : List Given) → IsGiven choice.Seed given → IsGiven choice.Rounds given → (of : Choice) → is_needed of ≡ true → IsGiven of given
-needs_two given seed rounds choice.Seed need = seed
-needs_two given seed rounds choice.Rounds need = rounds
-needs_two given seed rounds choice.Dump need = absurd (false≢true need)
-needs_two given seed rounds choice.Workers need = absurd (false≢true need)
-needs_two given seed rounds choice.Window need = absurd (false≢true need)
-needs_two given seed rounds choice.Surround need = absurd (false≢true need)
-needs_two given seed rounds choice.Corpse need = absurd (false≢true need)
-needs_two given seed rounds choice.Rest need = absurd (false≢true need)
-needs_two given seed rounds choice.Stats need = absurd (false≢true need)
-needs_two given seed rounds choice.Far need = absurd (false≢true need)
-needs_two given seed rounds choice.Width need = absurd (false≢true need)
-needs_two given seed rounds choice.Height need = absurd (false≢true need)
-needs_two given seed rounds choice.Rocks need = absurd (false≢true need)
-needs_two given seed rounds choice.Blobs need = absurd (false≢true need)
-needs_two given seed rounds choice.From need = absurd (false≢true need)
-needs_two given seed rounds choice.Labels need = absurd (false≢true need)
-needs_two given seed rounds choice.States need = absurd (false≢true need)
-needs_two given seed rounds choice.Games need = absurd (false≢true need)
+needs_two : (given : List Given) → IsGiven choice.Seed given → IsGiven choice.Rounds given → (of : Choice) → Contains (choices_of Run) of → is_needed of ≡ true → IsGiven of given
+needs_two given seed rounds of known =
+    AllByRecursion-at (λ of. is_needed of ≡ true → IsGiven of given) (choices_of Run) of
+    (λ e. seed, (λ e. rounds, (never, (never, (never, (never, (never, (never, (never, (never, tt)))))))))) known
 
 -- the words are a command that says these names and this setup
 pub record IsTableRun (words : List (List ℕ)) (world red black : List ℕ) (setup : GameSetup) : Type 0 where
@@ -378,7 +361,7 @@ table_run words world red black setup is =
       places = fit;
       options = options;
       once = given_once is.options is.behind is.spelled is.once;
-      needed = λ of known need. needs_two given (given_named is.options is.behind is.spelled choice.Seed is.seeded) (given_named is.options is.behind is.spelled choice.Rounds is.limited) of need;
+      needed = λ of known need. needs_two given (given_named is.options is.behind is.spelled choice.Seed is.seeded) (given_named is.options is.behind is.spelled choice.Rounds is.limited) of known need;
     } in
     let asks : asked_in Run words ≡ asked_of Run (answers_of Run front given) = ap (asked_in Run) whole ∙ ap (asked_of Run) (answers_in-of Run front given fit options) in
     record {
@@ -390,10 +373,7 @@ table_run words world red black setup is =
       said = ap game_said asks ∙ given_heard is.options is.behind is.spelled ∙ sym is.said;
     }
 
--- FROM THE TABLE TO THE WORDS OF A RUN
-
-none_some : {A : Type 0} (a : A) → None ≡ Some a → ⊥
-none_some a e = cc
+-- From the table to the words of a run.
 
 -- a number that stands at an option's place
 record HasNumber (kind : NumberKind) (values : List (List (List ℕ))) : Type 0 where
@@ -440,39 +420,57 @@ record IsOfRun (of : Choice) (values : List (List (List ℕ))) : Type 0 where
   named : in_table option ≡ of
   value : IsValue option (joined values)
 
--- an option that `run` doesn't have
-alien : {P : Type 0} (of : Choice) → Contains (choices_of Run) of → choice_of Run (option_of of) ≡ None → P
-alien of known none = absurd (none_some of (sym none ∙ choice_of-option Run of known))
+-- one whose value is a number
+number_of_run : (kind : NumberKind) (values : List (List (List ℕ))) (option : ℕ → RunOption)
+    → ((number : ℕ) (word : List ℕ) → IsNumber (least_of kind) (most_of kind) number word → IsValue (option number) (word ∷ []))
+    → (of : Choice) → ((number : ℕ) → in_table (option number) ≡ of) → FitAll (Word (Number kind) ∷ []) values → IsOfRun of values
+number_of_run kind values option spells of named fit =
+    let there = number_there kind values fit in
+    record {
+      option = option there.number;
+      named = named there.number;
+      value = subst (λ (vs : List (List (List ℕ))). IsValue (option there.number) (joined vs)) (sym there.one) (spells there.number there.word there.is);
+    }
+
+dumps_of_run : (values : List (List (List ℕ))) → FitAll (Word Dumps ∷ []) values → IsOfRun choice.Dump values
+dumps_of_run values fit =
+    let there = dumps_there values fit in
+    record {
+      option = Dump there.dumps;
+      named = refl;
+      value = subst (λ (vs : List (List (List ℕ))). IsValue (Dump there.dumps) (joined vs)) (sym there.one) there.is;
+    }
+
+far_of_run : (values : List (List (List ℕ))) → FitAll [] values → IsOfRun choice.Far values
+far_of_run values fit = record { option = Far; named = refl; value = subst (λ (vs : List (List (List ℕ))). IsValue Far (joined vs)) (sym (nothing_there values fit)) tt }
 
 of_run : (of : Choice) (values : List (List (List ℕ))) → Contains (choices_of Run) of → FitAll (values_of of) values → of ≢ choice.Stats → IsOfRun of values
-unfolding choice_of
-of_run choice.Seed values known fit other = (let there = number_there SeedNumber values fit in
-    record { option = Seed there.number; named = refl; value = subst (λ (vs : List (List (List ℕ))). IsValue (Seed there.number) (joined vs)) (sym there.one) there.is })
-of_run choice.Rounds values known fit other = (let there = number_there RoundCount values fit in
-    record { option = Rounds there.number; named = refl; value = subst (λ (vs : List (List (List ℕ))). IsValue (Rounds there.number) (joined vs)) (sym there.one) there.is })
-of_run choice.Dump values known fit other = (let there = dumps_there values fit in
-    record { option = Dump there.dumps; named = refl; value = subst (λ (vs : List (List (List ℕ))). IsValue (Dump there.dumps) (joined vs)) (sym there.one) there.is })
-of_run choice.Workers values known fit other = (let there = number_there WorkerCount values fit in
-    record { option = Workers there.number; named = refl; value = subst (λ (vs : List (List (List ℕ))). IsValue (Workers there.number) (joined vs)) (sym there.one) there.is })
-of_run choice.Window values known fit other = (let there = number_there WindowSize values fit in
-    record { option = Window there.number; named = refl; value = subst (λ (vs : List (List (List ℕ))). IsValue (Window there.number) (joined vs)) (sym there.one) there.is })
-of_run choice.Surround values known fit other = (let there = number_there FoeCount values fit in
-    record { option = Surround there.number; named = refl; value = subst (λ (vs : List (List (List ℕ))). IsValue (Surround there.number) (joined vs)) (sym there.one) there.is })
-of_run choice.Corpse values known fit other = (let there = number_there CorpseFood values fit in
-    record { option = Corpse there.number; named = refl; value = subst (λ (vs : List (List (List ℕ))). IsValue (Corpse there.number) (joined vs)) (sym there.one) there.is })
-of_run choice.Rest values known fit other = (let there = number_there RestRounds values fit in
-    record { option = Rest there.number; named = refl; value = subst (λ (vs : List (List (List ℕ))). IsValue (Rest there.number) (joined vs)) (sym there.one) there.is })
-of_run choice.Far values known fit other =
-    record { option = Far; named = refl; value = subst (λ (vs : List (List (List ℕ))). IsValue Far (joined vs)) (sym (nothing_there values fit)) tt }
-of_run choice.Stats values known fit other = absurd (other refl)
-of_run choice.Width values known fit other = alien choice.Width known refl
-of_run choice.Height values known fit other = alien choice.Height known refl
-of_run choice.Rocks values known fit other = alien choice.Rocks known refl
-of_run choice.Blobs values known fit other = alien choice.Blobs known refl
-of_run choice.From values known fit other = alien choice.From known refl
-of_run choice.Labels values known fit other = alien choice.Labels known refl
-of_run choice.States values known fit other = alien choice.States known refl
-of_run choice.Games values known fit other = alien choice.Games known refl
+of_run of values known =
+    AllByRecursion-at (λ of. FitAll (values_of of) values → of ≢ choice.Stats → IsOfRun of values) (choices_of Run) of (
+      λ fit other. number_of_run SeedNumber values Seed (λ n w is. is) choice.Seed (λ n. refl) fit,
+      (
+        λ fit other. number_of_run RoundCount values Rounds (λ n w is. is) choice.Rounds (λ n. refl) fit,
+        (
+          λ fit other. dumps_of_run values fit,
+          (
+            λ fit other. number_of_run WorkerCount values Workers (λ n w is. is) choice.Workers (λ n. refl) fit,
+            (
+              λ fit other. number_of_run WindowSize values Window (λ n w is. is) choice.Window (λ n. refl) fit,
+              (
+                λ fit other. number_of_run FoeCount values Surround (λ n w is. is) choice.Surround (λ n. refl) fit,
+                (
+                  λ fit other. number_of_run CorpseFood values Corpse (λ n w is. is) choice.Corpse (λ n. refl) fit,
+                  (
+                    λ fit other. number_of_run RestRounds values Rest (λ n w is. is) choice.Rest (λ n. refl) fit,
+                    (λ fit other. absurd (other refl), (λ fit other. far_of_run values fit, tt)),
+                  ),
+                ),
+              ),
+            ),
+          ),
+        ),
+      ),
+    ) known
 
 -- options that are given, as those of a run
 record AreOfRun (given : List Given) : Type 0 where

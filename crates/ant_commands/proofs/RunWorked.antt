@@ -1,5 +1,5 @@
 -- Words of a `run` with what they say, words that are none, and what no status says.
-use Rattle.std.proofs.Common.{◌≡◌, ◌≢◌, inl, inr, ℕ, ◌≤◌, false, true, List, [], ◌∷◌, ◌++◌, Ok, Err, codes, bytes_eq, refl, sym, ap, ◌∙◌, lit<, arith}
+use Rattle.std.proofs.Common.{◌≡◌, ◌≢◌, inl, inr, ℕ, false, true, List, [], ◌∷◌, Err, codes, bytes_eq, refl, sym, ap, ◌∙◌, lit<, arith}
 use Rattle.std.proofs.lemmas.Bool.{false≢true}
 use Rattle.ant_base.specs.Number.{decimal_value}
 use Rattle.ant_base.specs.declared.shelf.FetchFault.TheVariants.{Failed, TooLong}
@@ -12,7 +12,7 @@ use Rattle.command_words.specs.Slots.{dumps_of, is_dumps, is_file_name}
 use Rattle.command_words.specs.Slots.DumpChoice.{NoDump, EveryDump, ChosenDumps}
 use Rattle.command_words.specs.declared.table.CommandKind.TheVariants.{Run}
 use Rattle.ant_commands.specs.Outside.{Outside}
-use Rattle.ant_commands.specs.RunPromise.{GameSetup, IsRunOf, IsUnfit, IsValue, IsWorld, RunEnds, RunOption, setup_said}
+use Rattle.ant_commands.specs.RunPromise.{GameSetup, IsRunOf, IsUnfit, IsValue, IsWorld, RunEnds, setup_said}
 use Rattle.ant_commands.specs.RunPromise.RunOption.{Seed, Rounds, Dump, Workers, Window, Surround, Corpse, Rest, Far}
 use Rattle.ant_commands.proofs.RunWords.{table_run}
 

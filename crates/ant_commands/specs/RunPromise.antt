@@ -1,7 +1,7 @@
 -- The promise of one `run` without `--stats`, to be read from the top down: its words, its files, and what each exit status says (this project's
 -- own). The law `run_promise` says that each run of the program keeps it. `IsRunTo` is what the call that `main` makes ensures. The rules of the
 -- game, the texts of a world and of a brain, and what a shelf and a sink tell are definitions of other crates.
-use Rattle.std.specs.Prelude.{◌≡◌, ◌≢◌, ◌⊎◌, ℕ, ◌≤◌, true, false, ⊤, List, [], ◌∷◌, ◌++◌, map, Option, Some, Result, Ok, Err, codes}
+use Rattle.std.specs.Prelude.{◌≡◌, ◌≢◌, ◌⊎◌, ℕ, ◌≤◌, true, false, List, [], ◌∷◌, ◌++◌, map, Some, Result, Ok, Err, codes}
 use Rattle.std.specs.List.{AllByRecursion, AllZip, Contains}
 use Rattle.ant_base.specs.Faults.{Rose}
 use Rattle.ant_base.specs.Fetched.{Fetched}
