@@ -1,16 +1,16 @@
 -- The bytes of a file of each kind: they are read in one way or refused in one way, and never both.
-use Rattle.std.proofs.Common.{◌≡◌, ◌⊎◌, inl, inr, ℕ, ◌≤◌, Bool, true, false, List, Result, Ok, Err, refl, sym, ◌∙◌, ap, subst, arith}
+use Rattle.std.proofs.Common.{◌≡◌, ◌⊎◌, inl, inr, ℕ, ◌≤◌, Bool, true, false, List, Result, Ok, Err, refl, sym, ◌∙◌, ap, ap₂, subst, arith}
 use Rattle.std.proofs.lemmas.Bool.{cases_lt}
 use Rattle.ant_base.specs.Answers.{IsFaultOr}
 use Rattle.ant_asm.proofs.HasAssembled.{one-reading, some-reading}
 use Rattle.ant_asm.proofs.Expansion.{no-fault}
-use Rattle.ant_asm.proofs.LabelsRead.{has-labels, labels-fault, one-labels}
+use Rattle.ant_asm.proofs.LabelsRead.{has-labels, has-lines, labels-fault, one-labels, one-lines}
 use Rattle.ant_asm.proofs.LineLemmas.{lines_decide}
 use Rattle.ant_asm.proofs.TextLemmas as program_text
 use Rattle.ant_asm.specs.Answers as labelled_answers
-use Rattle.ant_asm.specs.Labels.{AreLabelsOf, LabelState}
 use Rattle.ant_asm.specs.Places.{Address}
-use Rattle.ant_asm.specs.Text.{IsAsmFault}
+use Rattle.ant_asm.specs.Program.{Items}
+use Rattle.ant_asm.specs.Text.{IsAsmFault, IsAsmText}
 use Rattle.ant_asm.specs.declared.fault.AsmFault.{AsmFault}
 use Rattle.ant_asm.specs.declared.fault.AsmFault.TheVariants as labelled
 use Rattle.brain_read.proofs.FaultyLemmas as whole
@@ -39,7 +39,7 @@ use Rattle.ant_commands.specs.declared.stop.FileFault.{FileFault}
 use Rattle.ant_commands.specs.declared.stop.FileFault.TheVariants.{TooLong, World, Brain, Breaks, Labelled, Save, AlreadyAt}
 use Rattle.ant_commands.specs.Files.{FileContent, FileKind, IsPast, Reads, Refuses}
 use Rattle.ant_commands.specs.Inner.Plans.{IsUpTo}
-use Rattle.ant_commands.specs.Files.FileContent.{WorldContent, BrainContent, BreakContent, LabelledContent, LabelsContent, SaveContent}
+use Rattle.ant_commands.specs.Files.FileContent.{WorldContent, BrainContent, BreakContent, LabelledContent, SourceContent, SaveContent}
 use Rattle.ant_commands.specs.Files.FileKind.{WorldFile, BrainFile, BreakFile, LabelledFile, SaveFile}
 use Rattle.ant_commands.specs.Inner.Reading.{TextStops, ReadsText, save_reason, brain_reason, break_reason, labelled_reason, world_reason}
 
@@ -65,7 +65,7 @@ never_both WorldFile bytes (WorldContent grid) (World fault) reads refuses = nev
 never_both BrainFile bytes (BrainContent list) (Brain fault) reads refuses = whole.never_both bytes list fault reads refuses
 never_both BreakFile bytes (BreakContent items) (Breaks fault) reads refuses = break_whole.never_both bytes items fault reads refuses
 never_both (LabelledFile false) bytes (LabelledContent made places) (Labelled fault) reads refuses = no-fault bytes made places reads fault refuses
-never_both (LabelledFile true) bytes (LabelsContent labels) (Labelled fault) reads refuses = labels-fault bytes labels reads fault refuses
+never_both (LabelledFile true) bytes (SourceContent labels lines) (Labelled fault) reads refuses = labels-fault bytes labels reads.0 fault refuses
 never_both (SaveFile rounds) bytes (SaveContent saved) (Save fault) reads refuses = every_verdict.never_both bytes saved fault reads.0 refuses
 never_both (SaveFile rounds) bytes (SaveContent saved) (AlreadyAt round) reads refuses = never_past bytes rounds round saved reads refuses
 never_both kind bytes content fault reads refuses = assumption
@@ -95,7 +95,8 @@ one_reading WorldFile bytes (WorldContent a) (WorldContent b) first second = ap 
 one_reading BrainFile bytes (BrainContent a) (BrainContent b) first second = ap BrainContent (whole.one_brain bytes a b first second)
 one_reading BreakFile bytes (BreakContent a) (BreakContent b) first second = ap BreakContent (break_whole.one_list bytes a b first second)
 one_reading (LabelledFile false) bytes (LabelledContent made places) (LabelledContent other others) first second = one_labelled bytes made other places others first second
-one_reading (LabelledFile true) bytes (LabelsContent labels) (LabelsContent others) first second = ap LabelsContent (one-labels bytes labels others first second)
+one_reading (LabelledFile true) bytes (SourceContent labels lines) (SourceContent others more) first second =
+    ap₂ SourceContent (one-labels bytes labels others first.0 second.0) (one-lines bytes lines more first.1 second.1)
 one_reading (SaveFile rounds) bytes (SaveContent a) (SaveContent b) first second = ap SaveContent (every_verdict.one_save bytes a b first.0 second.0)
 one_reading kind bytes a b first second = absurd assumption
 
@@ -118,9 +119,12 @@ some_world bytes = go (world_of_text bytes) refl
     go (Ok grid) is = inl (grid, told.OpensAs-known bytes grid is)
     go (Err fault) is = inr (fault, told.IsWorldFault-known bytes fault is)
 
--- the labels of a program, or its fault
-some-labels : (bytes : List ℕ) → ((labels : List LabelState) × AreLabelsOf bytes labels) ⊎ ((fault : AsmFault) × IsAsmFault bytes fault)
-some-labels bytes = elim (some-reading bytes) [ inl is ↦ inl (has-labels bytes is.2.main is.2.is) | inr wrong ↦ inr wrong ]
+-- where the labels and the states of a program stand
+source-of : (bytes : List ℕ) (main : Items) → IsAsmText bytes main → (content : FileContent) × Reads (LabelledFile true) bytes content
+source-of bytes main is =
+    let labels = has-labels bytes main is in
+    let lines = has-lines bytes main is in
+    (SourceContent labels.0 lines.0, (labels.1, lines.1))
 
 -- a save of which so many rounds are done, or too many
 some_save : (bytes : List ℕ) (rounds : ℕ) (saved : SavedValue) → IsSaveText bytes saved → ((content : FileContent) × Reads (SaveFile rounds) bytes content) ⊎ ((fault : FileFault) × Refuses (SaveFile rounds) bytes fault)
@@ -135,7 +139,7 @@ some_reading WorldFile bytes = elim (some_world bytes) [ inl opens ↦ inl (Worl
 some_reading BrainFile bytes = elim (whole.some_answer bytes) [ inl is ↦ inl (BrainContent is.0, is.1) | inr wrong ↦ inr (Brain wrong.0, wrong.1) ]
 some_reading BreakFile bytes = elim (break_whole.some_answer bytes) [ inl is ↦ inl (BreakContent is.0, is.1) | inr wrong ↦ inr (Breaks wrong.0, wrong.1) ]
 some_reading (LabelledFile false) bytes = elim (some-reading bytes) [ inl is ↦ inl (LabelledContent is.0 is.1, is.2) | inr wrong ↦ inr (Labelled wrong.0, wrong.1) ]
-some_reading (LabelledFile true) bytes = elim (some-labels bytes) [ inl are ↦ inl (LabelsContent are.0, are.1) | inr wrong ↦ inr (Labelled wrong.0, wrong.1) ]
+some_reading (LabelledFile true) bytes = elim (some-reading bytes) [ inl is ↦ inl (source-of bytes is.2.main is.2.is) | inr wrong ↦ inr (Labelled wrong.0, wrong.1) ]
 some_reading (SaveFile rounds) bytes = elim (every_verdict.some bytes) [ inl is ↦ some_save bytes rounds is.0 is.1 | inr wrong ↦ inr (Save wrong.0, wrong.1) ]
 
 -- bytes are never refused as too long: such a file gives no bytes

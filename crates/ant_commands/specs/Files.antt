@@ -3,6 +3,7 @@ use Rattle.std.specs.Prelude.{◌≡◌, ℕ, ◌<◌, ◌≤◌, Bool, true, fa
 use Rattle.ant_asm.specs.Answers.{IsAssembledText}
 use Rattle.ant_asm.specs.Labels.{AreLabelsOf, LabelState}
 use Rattle.ant_asm.specs.Places.{Address}
+use Rattle.ant_asm.specs.StateLines.{AreStateLinesOf, StateLine}
 use Rattle.ant_asm.specs.Text.{IsAsmFault}
 use Rattle.ant_base.specs.Fetched.{Fetched}
 use Rattle.ant_base.specs.declared.shelf.FetchFault.TheVariants as answer
@@ -20,12 +21,12 @@ use Rattle.world_read.specs.Opened.{OpensAs}
 use Rattle.ant_commands.specs.declared.stop.FileFault.{FileFault}
 use Rattle.ant_commands.specs.declared.stop.FileFault.TheVariants.{TooLong, World, Brain, Breaks, Labelled, Save, AlreadyAt}
 
--- what a file is read as; of a labelled program the brain is wanted, or else its labels; a save is one of which at most so many rounds are done
+-- what a file is read as; of a labelled program the brain is wanted, or else where its labels and states stand; a save is one of which at most so many rounds are done
 pub data FileKind : Type 0 where
   WorldFile : FileKind
   BrainFile : FileKind
   BreakFile : FileKind
-  LabelledFile : (labels : Bool) → FileKind
+  LabelledFile : (source : Bool) → FileKind
   SaveFile : (rounds : ℕ) → FileKind
 
 -- a file that a command names
@@ -40,8 +41,8 @@ pub data FileContent : Type 0 where
   BreakContent : List Break → FileContent
   -- of a labelled program: its brain, and the address of each of the brain's instructions
   LabelledContent : (brain : List Instr) → (places : List Address) → FileContent
-  -- or its labels, each with the state to which it leads
-  LabelsContent : List LabelState → FileContent
+  -- or its labels, each with the state to which it leads, and the line of each state
+  SourceContent : (labels : List LabelState) → (lines : List StateLine) → FileContent
   SaveContent : SavedValue → FileContent
 
 -- bytes are read as this content in a file of this kind
@@ -50,7 +51,7 @@ Reads WorldFile bytes (WorldContent grid) = OpensAs bytes grid
 Reads BrainFile bytes (BrainContent list) = IsBrainText bytes list
 Reads BreakFile bytes (BreakContent items) = IsBreakText bytes items
 Reads (LabelledFile false) bytes (LabelledContent brain places) = IsAssembledText bytes brain places
-Reads (LabelledFile true) bytes (LabelsContent labels) = AreLabelsOf bytes labels
+Reads (LabelledFile true) bytes (SourceContent labels lines) = AreLabelsOf bytes labels × AreStateLinesOf bytes lines
 Reads (SaveFile rounds) bytes (SaveContent saved) = IsSaveText bytes saved × (saved.round ≤ rounds)
 Reads kind bytes content = ⊥
 
@@ -66,7 +67,7 @@ abbrev pub Refuses : FileKind → List ℕ → FileFault → Type 0
 Refuses WorldFile bytes (World fault) = IsWorldFault bytes fault
 Refuses BrainFile bytes (Brain fault) = IsBrainFault bytes fault
 Refuses BreakFile bytes (Breaks fault) = IsBreakFault bytes fault
-Refuses (LabelledFile labels) bytes (Labelled fault) = IsAsmFault bytes fault
+Refuses (LabelledFile source) bytes (Labelled fault) = IsAsmFault bytes fault
 Refuses (SaveFile rounds) bytes (Save fault) = IsSaveFault bytes fault
 Refuses (SaveFile rounds) bytes (AlreadyAt round) = IsPast bytes rounds round
 Refuses kind bytes fault = ⊥

@@ -1,5 +1,10 @@
 // The files of a command, fetched and read one after another.
-ghost use Rattle.std.specs.Prelude.{◌≡◌, ◌≤◌, [], ◌∷◌, length, map};
+ghost use Rattle.std.specs.Prelude.{◌≡◌, ◌≤◌, [], ◌∷◌, length, map, IfErr, IfOk};
+ghost use Rattle.ant_asm.specs.Labels.{AreLabelsOf};
+ghost use Rattle.ant_asm.specs.StateLines.{AreStateLinesOf};
+ghost use Rattle.ant_asm.specs.Text.{IsAsmFault};
+ghost use Rattle.ant_asm.specs.declared.fault.AsmFault.TheVariants.{OutOfMemory};
+ghost use Rattle.ant_base.specs.Answers.{IsFaultOr};
 ghost use Rattle.ant_base.specs.Shelf.{longest};
 ghost use Rattle.command_words.specs.Words.{texts};
 ghost use Rattle.ant_commands.specs.Files.{FileContent, FileKind};
@@ -8,7 +13,7 @@ ghost use Rattle.ant_commands.specs.Inner.Reading.{FetchesFile, ReadsFiles, Read
 ghost use Rattle.ant_commands.specs.FaultLines.{reason_of};
 
 use crate::stop::{CommandStop, FileFault};
-use ant_asm::{AsmFault, Assembled, Labels, assemble, read_labels};
+use ant_asm::{AsmFault, Assembled, Labels, StateLines, assemble, read_labels, read_state_lines};
 use ant_base::{FetchFault, Shelf};
 use brain_read::{Brain, BrainFault, read_brain};
 use break_view::{BreakFault, Breaks, read_breaks};
@@ -95,21 +100,39 @@ impl FileText for Assembled {
     }
 }
 
-impl FileText for Labels {
+/// Where the labels and the states of a labelled program stand.
+#[derive(Drop)]
+pub struct Source {
+    pub labels: Labels,
+    pub lines: StateLines,
+}
+
+impl FileText for Source {
     ghost use Rattle.std.specs.Prelude.{true};
     ghost use Rattle.ant_commands.specs.Files.FileKind.{LabelledFile};
-    ghost use Rattle.ant_commands.specs.Files.FileContent.{LabelsContent};
+    ghost use Rattle.ant_commands.specs.Files.FileContent.{SourceContent};
 
     ghost kind = { LabelledFile true };
 
-    ghost content = { LabelsContent };
+    ghost content = { λ source. SourceContent source.labels source.lines };
 
-    fn read<'w>(alloc: Global, name: &'w str, bytes: &[u8]) -> Result<Labels, CommandStop<'w>> {
-        match read_labels(alloc, bytes) {
-            Ok(labels) => Ok(labels),
+    fn read<'w>(alloc: Global, name: &'w str, bytes: &[u8]) -> Result<Source, CommandStop<'w>> {
+        match read_source(alloc, bytes) {
+            Ok(source) => Ok(source),
             Err(fault) => Err(labelled_stop(name, fault)),
         }
     }
+}
+
+// Where the labels and the states of a text's program stand.
+fn read_source(alloc: Global, text: &[u8]) -> Result<Source, AsmFault>
+    requires { length text.now ≤ longest }
+    ensures source { IfOk result (λ source. AreLabelsOf text.now source.labels × AreStateLinesOf text.now source.lines) }
+    ensures fault { IfErr result (IsFaultOr OutOfMemory (IsAsmFault text.now)) }
+{
+    let labels = read_labels(alloc, text)?;
+    let lines = read_state_lines(alloc, text)?;
+    Ok(Source { labels, lines })
 }
 
 /// Fetches a file: its bytes, which are at most 4,194,304.
