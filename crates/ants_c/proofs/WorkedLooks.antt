@@ -1,5 +1,5 @@
 -- What is seen of an ant, and which rounds are looked at, worked out.
-use Rattle.std.proofs.Common.{◌≡◌, true, [], ◌∷◌, Some, None, refl, tt, arith}
+use Rattle.std.proofs.Common.{◌≡◌, true, [], ◌∷◌, Some, None, refl, arith}
 use Rattle.cell_world.specs.declared.ant.Colour.TheVariants.{Black}
 use Rattle.cell_world.specs.World.{Cells}
 use Rattle.hex_geometry.specs.declared.direction.Dir.TheVariants.{SouthWest}
@@ -16,7 +16,7 @@ dead_seen cells = refl
 
 -- the start and the last round are looked at; none twice, and none beyond the last
 all_rise : AreRising 0 (0 ∷ 5 ∷ 1000000 ∷ [])
-all_rise = (omega arith, omega arith, omega arith, omega arith, omega arith, omega arith, tt)
+all_rise = (omega arith, omega arith, (omega arith, omega arith, (omega arith, omega arith, tt)))
 
 never_twice : AreRising 0 (5 ∷ 5 ∷ []) → ⊥
 never_twice rising = let twice = rising.2.0 in omega (arith, twice)
