@@ -5,13 +5,14 @@ _ants() {
     local word=${COMP_WORDS[COMP_CWORD]} before=${COMP_WORDS[COMP_CWORD-1]} options=
     COMPREPLY=()
     if [ "$COMP_CWORD" -eq 1 ]; then
-        COMPREPLY=($(compgen -W 'run save resume view trace events profile cup workload show gen brain minimise same asm help --help --version' -- "$word"))
+        COMPREPLY=($(compgen -W 'run save resume advance view trace events profile cup workload show gen brain minimise same asm help --help --version' -- "$word"))
         return
     fi
     case ${COMP_WORDS[1]} in
     run) options='--seed --rounds --dump --workers --window --surround --corpse --rest --stats --far' ;;
     save) options='--seed --rounds --workers --window --surround --corpse --rest' ;;
     resume) options='--rounds --dump --workers --stats' ;;
+    advance) options='--rounds --workers' ;;
     view) options='--seed --rounds' ;;
     trace) options='--seed --rounds --from --surround --corpse --rest' ;;
     events) options='--seed --rounds --surround --corpse --rest' ;;
@@ -19,7 +20,8 @@ _ants() {
     cup) options='--worlds --brains --seed --rounds --workers --games' ;;
     gen) options='--width --height --rocks --blobs' ;;
     minimise) options='--states' ;;
-    asm) options='--labels' ;;
+    same) options='--way' ;;
+    asm) options='--labels --lines' ;;
     esac
     case $before in
     --seed | --rounds | --workers | --window | --surround | --corpse | --rest | --width | --height | --rocks | --blobs | --from) return ;;

@@ -1,7 +1,9 @@
 -- What is kept of each command's job: its text ends in LF, is one, and is there.
-use Rattle.std.proofs.Common.{Bool, List, [], ap, ap₂, arith, false, inl, inr, length, refl, subst, sym, true, ℕ, ◌++◌, ◌∙◌, ◌∷◌, ◌≡◌, ◌≤◌, ◌⊎◌}
-use Rattle.ant_asm.proofs.HasAssembled.{assembled-some}
+use Rattle.std.proofs.Common.{Bool, List, [], ap, ap₂, append-nil, arith, false, inl, inr, length, refl, subst, sym, true, ℕ, ◌++◌, ◌∙◌, ◌∷◌, ◌≡◌, ◌≤◌, ◌⊎◌, ◌||◌}
+use Rattle.ant_asm.proofs.HasAssembled.{assembled-some, has_assembled}
+use Rattle.ant_asm.proofs.LineInstructions.{line-for-each}
 use Rattle.ant_asm.specs.Labels.{labels_text}
+use Rattle.ant_asm.specs.StateLines.{AreStateLinesOf, StateLine, state_lines_text}
 use Rattle.ant_base.specs.Fetched.{Fetched}
 use Rattle.ant_base.specs.Lines.{ends_in_lf}
 use Rattle.ant_turn.specs.Minds.{contest_minds}
@@ -11,12 +13,13 @@ use Rattle.brain_read.proofs.SoundnessLemmas.{brain_of}
 use Rattle.brain_read.specs.declared.instr.Instr.{Instr}
 use Rattle.brain_same.proofs.HasComparison.{has_comparison}
 use Rattle.brain_same.proofs.SameLaws.{one_comparison}
-use Rattle.brain_same.specs.Text.{comparison_text}
+use Rattle.brain_same.proofs.WayLemmas.{has_way, one_way}
+use Rattle.brain_same.specs.Text.{comparison_text, way_text}
 use Rattle.break_view.proofs.ViewLaws.{one_first_stop}
 use Rattle.break_view.specs.Texts.{view_of}
 use Rattle.cell_world.specs.Grid.{Grid, world_of}
 use Rattle.ant_commands.specs.Setups.{CupWithin, ResumeSetup, RunSetup, ShapeWithin, resume_of, save_setup_of, setup_of, shape_of, told_of, trace_of}
-use Rattle.ant_commands.specs.Jobs.{asm_job, brain_job, cup_job, gen_job, help_job, job_by, job_of, minimise_job, resume_job, run_job, same_job, save_job, show_job, version_job, view_job, workload_job}
+use Rattle.ant_commands.specs.Jobs.{advance_job, asm_job, brain_job, cup_job, gen_job, help_job, job_by, job_of, minimise_job, resume_job, run_job, same_job, save_job, show_job, version_job, view_job, workload_job}
 use Rattle.ant_commands.specs.declared.commands.setups.GenShape.{GenShape}
 use Rattle.match_run.specs.Counts.{whole_text}
 use Rattle.tournament.proofs.LawsLemmas.{standing_law}
@@ -33,18 +36,18 @@ use Rattle.world_read.specs.Canonical.{canonical_text}
 use Rattle.world_read.specs.Opened.{kinds_of}
 use Rattle.ant_commands.specs.Files.{AreAccepted, FileContent}
 use Rattle.ant_commands.specs.Help.{help_text, version_text}
-use Rattle.ant_commands.specs.Outputs.{IsAsmOutput, IsCupOutput, IsViewOutput, ReadCup, ReadGame, ReadPair, ReadProgram, ReadView, Tells, TellsGenerated, TellsMinimised, TellsSame, TellsWorkload, brain_contents, brain_file, pair_contents, contest_shape, roster_contents, cup_files, events_output, game_contents, game_files, is_text_of, labelled_file, match_output, minimise_output, profile_output, program_contents, resume_output, save_output, score_between, shape_named, show_output, summary_of, trace_output, workload_text}
+use Rattle.ant_commands.specs.Outputs.{IsAsmOutput, IsCupOutput, IsViewOutput, ReadCup, ReadGame, ReadPair, ReadProgram, ReadSource, ReadView, Tells, TellsGenerated, TellsMinimised, TellsSame, TellsWorkload, advance_output, brain_contents, brain_file, pair_contents, contest_shape, roster_contents, cup_files, events_output, game_contents, game_files, is_text_of, labelled_file, match_output, minimise_output, profile_output, program_contents, resume_output, save_output, score_between, shape_named, show_output, source_contents, source_text, summary_of, trace_output, workload_text}
 use Rattle.ant_commands.specs.Job.{Job, plain_job}
 use Rattle.command_words.specs.Command.{AskedWithin, PlainAsked}
 use Rattle.command_words.specs.declared.table.CommandKind.{CommandKind}
-use Rattle.command_words.specs.declared.table.CommandKind.TheVariants.{Asm, Brain, Cup, Events, Gen, Help, HelpWord, Minimise, Profile, Resume, Run, Same, Save, Show, Trace, Version, View, Workload}
-use Rattle.command_words.specs.declared.table.Choice.TheVariants.{Seed, Rounds, Workers, Labels, States, Games}
+use Rattle.command_words.specs.declared.table.CommandKind.TheVariants.{Advance, Asm, Brain, Cup, Events, Gen, Help, HelpWord, Minimise, Profile, Resume, Run, Same, Save, Show, Trace, Version, View, Workload}
+use Rattle.command_words.specs.declared.table.Choice.TheVariants.{Seed, Rounds, Workers, Labels, Lines, Way, States, Games}
 use Rattle.command_words.specs.declared.table.NameList.TheVariants.{Worlds, Brains}
 use Rattle.ant_commands.proofs.SetupLemmas.{cup-within, shape-within}
 use Rattle.ant_commands.specs.Laws.{HasOutput, OneText, TellsNoLabel, TextsEndInLf, WindowsChangeCountsAlone}
 use Rattle.ant_commands.proofs.Cups.{players_counted}
-use Rattle.ant_commands.proofs.ReadContents.{has_text_of, has_told, one_text_of, one_told, read_brain, read_cup, read_game, read_labels, read_none, read_pair, read_program, read_save, read_view, read_world}
-use Rattle.ant_commands.proofs.TextEnds.{EndsInLf, lf_brain, lf_canonical, lf_comparison, lf_events, lf_help, lf_match, lf_minimised, lf_profile, lf_rest, lf_save, lf_show, lf_standing, lf_states, lf_told, lf_trace, lf_version, lf_view, lf_workload, lines_labels}
+use Rattle.ant_commands.proofs.ReadContents.{has_text_of, has_told, one_text_of, one_told, read_brain, read_cup, read_game, read_none, read_pair, read_program, read_save, read_source, read_view, read_world}
+use Rattle.ant_commands.proofs.TextEnds.{EndsInLf, lf_advance, lf_brain, lf_canonical, lf_comparison, lf_difference, lf_events, lf_last, lf_help, lf_match, lf_minimised, lf_profile, lf_rest, lf_save, lf_show, lf_standing, lf_state_lines, lf_states, lf_told, lf_trace, lf_version, lf_view, lf_workload, lines_labels}
 use Rattle.ant_commands.proofs.Viewed.{view_of-view}
 
 -- what is told ends in LF
@@ -80,14 +83,37 @@ minimise-ends true name fetches old text are told =
     let each : length told.numbers ≡ length old = told.minimised.each in
     ends told.told (lf_states told.numbers (omega (arith, each, some)))
 
-asm-ends : (a : PlainAsked) → a.kind ≡ Asm → (labels : Bool) → a.has Labels ≡ labels → (file : List ℕ) (fetches : List Fetched) (contents : List FileContent) (text : List ℕ)
-    → AreAccepted (labelled_file labels file ∷ []) fetches contents → IsAsmOutput labels contents text → (ends_in_lf text ≡ true) ⊎ TellsNoLabel a text
-asm-ends a kind false off file fetches contents text are is =
+-- so have the lines of its states
+lines-some : (text : List ℕ) (lines : List StateLine) → AreStateLinesOf text lines → 1 ≤ length lines
+lines-some text lines are =
+    let made = has_assembled text are.main are.is in
+    let some = assembled-some text made.0 made.1 (record { main = are.main; is = are.is; assembled = made.2 }) in
+    let many = line-for-each.as_many text made.0 made.1 lines (record { main = are.main; is = are.is; assembled = made.2 }) are in
+    omega (arith, some, many)
+
+source-some : (name : List ℕ) (fetches : List Fetched) (source : ReadSource) → AreAccepted (labelled_file true name ∷ []) fetches (source_contents source) → 1 ≤ length source.lines
+source-some name [] source are = absurd are
+source-some name (fetch ∷ fetches) source are = lines-some are.0.bytes source.lines are.0.reads.1
+
+-- what ends with the lines of states
+lines-end : (labels : Bool) (file : List ℕ) (fetches : List Fetched) (source : ReadSource) (text : List ℕ) → AreAccepted (labelled_file true file ∷ []) fetches (source_contents source)
+    → text ≡ source_text labels true source → ends_in_lf text ≡ true
+lines-end labels file fetches source text are told = ends told (lf_last _ (state_lines_text source.lines) (lf_state_lines source.lines (source-some file fetches source are)))
+
+asm-ends : (a : PlainAsked) → a.kind ≡ Asm → (labels lines : Bool) → a.has Labels ≡ labels → a.has Lines ≡ lines → (file : List ℕ) (fetches : List Fetched) (contents : List FileContent) (text : List ℕ)
+    → AreAccepted (labelled_file (labels || lines) file ∷ []) fetches contents → IsAsmOutput labels lines contents text → (ends_in_lf text ≡ true) ⊎ TellsNoLabel a text
+asm-ends a kind false true off on file fetches contents text are is = inl (lines-end false file fetches is.value text (subst (AreAccepted (labelled_file true file ∷ []) fetches) is.read are) is.told)
+asm-ends a kind true true on too file fetches contents text are is = inl (lines-end true file fetches is.value text (subst (AreAccepted (labelled_file true file ∷ []) fetches) is.read are) is.told)
+asm-ends a kind false false off none file fetches contents text are is =
     inl (ends is.told (lf_brain is.value.brain (program-some file fetches is.value (subst (AreAccepted (labelled_file false file ∷ []) fetches) is.read are))))
-asm-ends a kind true on file fetches contents text are is = elim (lines_labels is.value) [
-  | inl none ↦ inr (record { is = kind; labels = on; empty = is.told ∙ none })
-  | inr last ↦ inl (ends is.told last)
+asm-ends a kind true false on off file fetches contents text are is = elim (lines_labels is.value.labels) [
+  | inl none ↦ inr (record { is = kind; labels = on; no_lines = off; empty = is.told ∙ append-nil (labels_text is.value.labels) ∙ none })
+  | inr last ↦ inl (ends (is.told ∙ append-nil (labels_text is.value.labels)) last)
 ]
+
+same-ends : (way : Bool) (pair : ReadPair) (text : List ℕ) → TellsSame way pair text → ends_in_lf text ≡ true
+same-ends false pair text told = ends told.told (lf_comparison told.comparison)
+same-ends true pair text told = ends told.told (lf_difference told.comparison told.steps)
 
 -- what is told of one value is one text
 one-minimised : (states : Bool) (list : List Instr) (text other : List ℕ) → TellsMinimised states list text → TellsMinimised states list other → text ≡ other
@@ -117,12 +143,16 @@ one-workload : (seed rounds : ℕ) (text other : List ℕ) → TellsWorkload see
 one-workload seed rounds text other a b =
     a.told ∙ ap (λ (w : Grid). workload_text seed rounds (summary_of seed rounds (world_of w))) (one_outcome.world seed contest_shape a.world b.world a.generated b.generated) ∙ sym b.told
 
-one-same : (pair : ReadPair) (text other : List ℕ) → TellsSame pair text → TellsSame pair other → text ≡ other
-one-same pair text other a b = a.told ∙ ap comparison_text (one_comparison pair.first pair.second a.comparison b.comparison a.is b.is) ∙ sym b.told
+one-same : (way : Bool) (pair : ReadPair) (text other : List ℕ) → TellsSame way pair text → TellsSame way pair other → text ≡ other
+one-same true pair text other a b =
+    let same = one_way pair.first pair.second a.comparison b.comparison a.steps b.steps a.is b.is in
+    a.told ∙ ap₂ way_text same.0 same.1 ∙ sym b.told
+one-same false pair text other a b = a.told ∙ ap comparison_text (one_comparison pair.first pair.second a.comparison b.comparison a.is b.is) ∙ sym b.told
 
-one-asm : (labels : Bool) (file : List ℕ) (contents : List FileContent) (text other : List ℕ) → IsAsmOutput labels contents text → IsAsmOutput labels contents other → text ≡ other
-one-asm false file contents text other a b = one_told (read_program file) contents text other (λ program x y. x ∙ sym y) a b
-one-asm true file contents text other a b = one_text_of (read_labels file) labels_text contents text other a b
+one-asm : (labels lines : Bool) (file : List ℕ) (contents : List FileContent) (text other : List ℕ) → IsAsmOutput labels lines contents text → IsAsmOutput labels lines contents other → text ≡ other
+one-asm false false file contents text other a b = one_told (read_program file) contents text other (λ program x y. x ∙ sym y) a b
+one-asm false true file contents text other a b = one_text_of (read_source file) (source_text false true) contents text other a b
+one-asm true lines file contents text other a b = one_text_of (read_source file) (source_text true lines) contents text other a b
 
 -- what is told of each value is told
 has-minimised : (states : Bool) (name : List ℕ) (fetches : List Fetched) (list : List Instr) → AreAccepted (brain_file name ∷ []) fetches (brain_contents list) → (text : List ℕ) × TellsMinimised states list text
@@ -131,10 +161,13 @@ has-minimised states name (fetch ∷ fetches) list are =
     let minimised = has_minimised list (brain_of are.0.bytes list are.0.reads) in
     (minimise_output states list minimised.0 minimised.1, record { new = minimised.0; numbers = minimised.1; minimised = minimised.2; told = refl })
 
-has-same : (one two : List ℕ) (fetches : List Fetched) (pair : ReadPair) → AreAccepted (brain_file one ∷ brain_file two ∷ []) fetches (pair_contents pair) → (text : List ℕ) × TellsSame pair text
-has-same one two [] pair are = absurd are
-has-same one two (first ∷ []) pair are = absurd are.1
-has-same one two (first ∷ second ∷ fetches) pair are =
+has-same : (way : Bool) (one two : List ℕ) (fetches : List Fetched) (pair : ReadPair) → AreAccepted (brain_file one ∷ brain_file two ∷ []) fetches (pair_contents pair) → (text : List ℕ) × TellsSame way pair text
+has-same way one two [] pair are = absurd are
+has-same way one two (first ∷ []) pair are = absurd are.1
+has-same true one two (first ∷ second ∷ fetches) pair are =
+    let found = has_way pair.first pair.second (brain_of are.0.bytes pair.first are.0.reads) (brain_of are.1.0.bytes pair.second are.1.0.reads) in
+    (way_text found.0 found.1, record { comparison = found.0; steps = found.1; is = found.2; told = refl })
+has-same false one two (first ∷ second ∷ fetches) pair are =
     let found = has_comparison pair.first pair.second (brain_of are.0.bytes pair.first are.0.reads) (brain_of are.1.0.bytes pair.second are.1.0.reads) in
     (comparison_text found.0, record { comparison = found.0; is = found.1; told = refl })
 
@@ -172,9 +205,11 @@ has-workload seed rounds room =
     let world = has_world seed contest_shape is_shape_contest room in
     (workload_text seed rounds (summary_of seed rounds (world_of world.0)), record { world = world.0; generated = world.1; told = refl })
 
-has-asm : (labels : Bool) (file : List ℕ) (fetches : List Fetched) (contents : List FileContent) → AreAccepted (labelled_file labels file ∷ []) fetches contents → (text : List ℕ) × IsAsmOutput labels contents text
-has-asm false file fetches contents are = has_told (read_program file) fetches contents are (λ program accepted. (_, refl))
-has-asm true file fetches contents are = has_text_of (read_labels file) labels_text fetches contents are
+has-asm : (labels lines : Bool) (file : List ℕ) (fetches : List Fetched) (contents : List FileContent) → AreAccepted (labelled_file (labels || lines) file ∷ []) fetches contents
+    → (text : List ℕ) × IsAsmOutput labels lines contents text
+has-asm false false file fetches contents are = has_told (read_program file) fetches contents are (λ program accepted. (_, refl))
+has-asm false true file fetches contents are = has_text_of (read_source file) (source_text false true) fetches contents are
+has-asm true lines file fetches contents are = has_text_of (read_source file) (source_text true lines) fetches contents are
 
 -- what holds of a command's job, whatever its line says
 pub record JobLaws (a : PlainAsked) (job : Job) : Type 0 where
@@ -269,11 +304,11 @@ version-laws a = record {
   crowded = λ element lacks. absurd lacks;
 }
 
-asm-laws : (a : PlainAsked) → a.kind ≡ Asm → (file : List ℕ) → JobLaws a (asm_job file (a.has Labels))
+asm-laws : (a : PlainAsked) → a.kind ≡ Asm → (file : List ℕ) → JobLaws a (asm_job file (a.has Labels) (a.has Lines))
 asm-laws a kind file = record {
-  ends = λ within fetches contents text are is. asm-ends a kind (a.has Labels) refl file fetches contents text are is;
-  one = λ contents text other x y. one-asm (a.has Labels) file contents text other x y;
-  has = λ within fetches contents are room. has-asm (a.has Labels) file fetches contents are;
+  ends = λ within fetches contents text are is. asm-ends a kind (a.has Labels) (a.has Lines) refl refl file fetches contents text are is;
+  one = λ contents text other x y. one-asm (a.has Labels) (a.has Lines) file contents text other x y;
+  has = λ within fetches contents are room. has-asm (a.has Labels) (a.has Lines) file fetches contents are;
   crowded = λ element lacks. absurd lacks;
 }
 
@@ -293,6 +328,14 @@ resume-laws a save setup = record {
   crowded = λ element lacks. absurd lacks;
 }
 
+advance-laws : (a : PlainAsked) (save : List ℕ) (rounds workers : ℕ) → JobLaws a (advance_job save rounds workers)
+advance-laws a save rounds workers = record {
+  ends = λ within fetches contents text are is. inl (ends is.told (lf_advance rounds is.value));
+  one = λ contents text other x y. one_text_of (read_save save rounds) (advance_output rounds) contents text other x y;
+  has = λ within fetches contents are room. has_text_of (read_save save rounds) (advance_output rounds) fetches contents are;
+  crowded = λ element lacks. absurd lacks;
+}
+
 -- a text of a game that is just played
 told-laws : (a : PlainAsked) (world red black : List ℕ) (text_of : ReadGame → List ℕ) → ((game : ReadGame) → EndsInLf (text_of game))
     → JobLaws a (plain_job (game_files world red black) (Tells game_contents (is_text_of text_of)))
@@ -303,11 +346,11 @@ told-laws a world red black text_of lf = record {
   crowded = λ element lacks. absurd lacks;
 }
 
-same-laws : (a : PlainAsked) (first second : List ℕ) → JobLaws a (same_job first second)
-same-laws a first second = record {
-  ends = λ within fetches contents text are is. inl (ends is.told.told (lf_comparison is.told.comparison));
-  one = λ contents text other x y. one_told (read_pair first second) contents text other (λ pair. one-same pair text other) x y;
-  has = λ within fetches contents are room. has_told (read_pair first second) fetches contents are (λ pair accepted. has-same first second fetches pair accepted);
+same-laws : (a : PlainAsked) (first second : List ℕ) (way : Bool) → JobLaws a (same_job first second way)
+same-laws a first second way = record {
+  ends = λ within fetches contents text are is. inl (same-ends way is.value text is.told);
+  one = λ contents text other x y. one_told (read_pair first second) contents text other (λ pair. one-same way pair text other) x y;
+  has = λ within fetches contents are room. has_told (read_pair first second) fetches contents are (λ pair accepted. has-same way first second fetches pair accepted);
   crowded = λ element lacks. absurd lacks;
 }
 
@@ -328,9 +371,10 @@ laws_by Asm a is = asm-laws a is (a.file 0)
 laws_by Save a is = save-laws a (a.file 0) (a.file 1) (a.file 2) (save_setup_of a)
 laws_by Resume a is = resume-laws a (a.file 0) (resume_of a)
 laws_by Trace a is = told-laws a (a.file 0) (a.file 1) (a.file 2) (trace_output (a.number 3) (trace_of a)) (lf_trace (a.number 3) (trace_of a))
-laws_by Same a is = same-laws a (a.file 0) (a.file 1)
+laws_by Same a is = same-laws a (a.file 0) (a.file 1) (a.has Way)
 laws_by Events a is = told-laws a (a.file 0) (a.file 1) (a.file 2) (events_output (told_of a)) (lf_events (told_of a))
 laws_by Profile a is = told-laws a (a.file 0) (a.file 1) (a.file 2) (profile_output (told_of a)) (lf_profile (told_of a))
+laws_by Advance a is = advance-laws a (a.file 0) (a.option Rounds) (a.option Workers)
 
 pub laws_of : (a : PlainAsked) → JobLaws a (job_of a)
 laws_of a = laws_by a.kind a refl

@@ -15,18 +15,19 @@ use Rattle.dump_print.specs.Texts.{seed_text}
 use Rattle.line_tokens.specs.TokenLines.{TokenLine, lines_with_tokens}
 use Rattle.match_run.specs.Counts.{whole_text}
 use Rattle.match_run.specs.Run.{dumps_text}
-use Rattle.match_save.proofs.AfterRounds.{games_are_saved}
+use Rattle.match_save.proofs.AfterRounds.{games_are_advanced, games_are_saved}
 use Rattle.match_save.proofs.ResumedGames.{saves_go_on}
 use Rattle.match_save.proofs.SaveVerdicts.{every_verdict}
 use Rattle.match_save.proofs.TextLength.{saves_are_short}
+use Rattle.match_save.specs.Advanced.{advanced}
 use Rattle.match_save.specs.Resumed.{IsOfGame, resumed_text}
-use Rattle.match_save.specs.Saved.{IsSaveText, IsSaved, SavedValue}
+use Rattle.match_save.specs.Saved.{IsSaveText, IsSaved, SavedValue, save_text}
 use Rattle.match_save.specs.Saves.{Starts, saved_after}
 use Rattle.world_read.specs.Opened.{OpensAs}
 use Rattle.ant_commands.specs.Files.{AreAccepted, Reads}
 use Rattle.ant_commands.specs.Files.FileContent.{SaveContent}
 use Rattle.ant_commands.specs.Files.FileKind.{SaveFile}
-use Rattle.ant_commands.specs.Outputs.{ReadGame, Tells, chosen_rounds, game_contents, game_files, is_text_of, match_output, minds_named, resume_output, save_contents, save_output}
+use Rattle.ant_commands.specs.Outputs.{ReadGame, Tells, advance_output, chosen_rounds, game_contents, game_files, is_text_of, match_output, minds_named, resume_output, save_contents, save_output}
 use Rattle.ant_commands.specs.Job.{files_of}
 use Rattle.ant_commands.specs.Verdict.{IsJudged}
 use Rattle.ant_commands.specs.Verdict.FilesVerdict.{AllAccepted}
@@ -119,6 +120,18 @@ module _ (setup : RunSetup) (game : ReadGame) (round : ℕ) (is : Begins setup g
       ∙ ap (λ (t : List ℕ). seed_text setup.seed +++ front +++ t) (sym is_rest)
       ∙ sym (append_assoc (seed_text setup.seed) front rest)
 
+  -- advanced, it is the save after the later round
+  again : (workers others later : ℕ) (saved : List ℕ) (found : SavedValue) (text : List ℕ) → round ≤ later → later ≤ setup.rounds
+      → saved ≡ save_output (saved_setup setup round workers) game → IsSaveText saved found → text ≡ advance_output later found
+      → text ≡ save_output (saved_setup setup later others) game
+  unfolding save_output advance_output
+  again workers others later saved found text ordered within told is_found is_text =
+      let one : saved_after (minds_named setup game.red game.black) setup.seed setup.window (world_of game.world) round ≡ found =
+      every_verdict.one_save saved (saved_after (minds_named setup game.red game.black) setup.seed setup.window (world_of game.world) round) found (kept-text workers saved told) is_found in
+      is_text
+      ∙ ap (λ (s : SavedValue). save_text (advanced s later)) (sym one)
+      ∙ ap save_text (games_are_advanced.game (minds_named setup game.red game.black) setup.seed setup.window round later game.world (starts setup game later is within) ordered)
+
 -- the game of accepted files
 begins : (world red black : List ℕ) (setup : RunSetup) (game : ReadGame) (fetches : List Fetched) → SetupWithin setup → AreAccepted (game_files world red black) fetches (game_contents game) → Begins setup game
 begins world red black setup game [] within are = absurd are
@@ -185,6 +198,13 @@ saves_are_resumed = record {
   goes_on = λ world red black save setup game round workers saved text rest is kept is_text is_rest.
       goes_on world red black setup game round workers saved text rest is kept (game_told world red black (match_output setup) game text is_text)
       (save_told (resume_output (resumed_setup setup workers)) saved rest is_rest);
+  advanced = λ world red black save setup game round later workers others saved text is kept ordered within is_text. record {
+    value = game;
+    read = refl;
+    told = again setup game round (begins world red black setup game is.fetches is.within is.accepted) kept.early kept.workers others later kept.text saved text ordered within
+        (game_told world red black (save_output (saved_setup setup round kept.workers)) game kept.text kept.is_text) kept.reads.0
+        (save_told (advance_output later) saved text is_text);
+  };
   any_round = λ world red black save other setup game round later workers others saved changed rest last is kept again is_rest is_last.
       sym (goes_on world red black setup game round workers saved (match_output setup game) rest is kept refl (save_told (resume_output (resumed_setup setup workers)) saved rest is_rest))
       ∙ goes_on world red black setup game later others changed (match_output setup game) last is again refl (save_told (resume_output (resumed_setup setup others)) changed last is_last);

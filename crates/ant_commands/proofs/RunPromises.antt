@@ -29,7 +29,7 @@ use Rattle.ant_commands.specs.Endings.{IsUnsure, StopsFor}
 use Rattle.ant_commands.specs.FaultLines.{Reason, fault_line, file_fault_text}
 use Rattle.ant_commands.specs.FaultLines.Reason.{AtFile, AtInput, AtMemory, AtOutput, AtRoom}
 use Rattle.ant_commands.specs.Files.{AreAccepted, AreBegun, File, FileContent, FileKind, IsFetched, IsRefused, Reads}
-use Rattle.ant_commands.specs.Files.FileContent.{WorldContent, BrainContent, BreakContent, LabelledContent, LabelsContent, SaveContent}
+use Rattle.ant_commands.specs.Files.FileContent.{WorldContent, BrainContent, BreakContent, LabelledContent, SourceContent, SaveContent}
 use Rattle.ant_commands.specs.Files.FileKind.{WorldFile, BrainFile}
 use Rattle.ant_commands.specs.Files as files
 use Rattle.ant_commands.specs.Headline.{KeepsPromise, NamesTheReason, PrintsTheGame}
@@ -127,7 +127,7 @@ a_world bytes (WorldContent grid) reads = (grid, reads)
 a_world bytes (BrainContent list) reads = absurd reads
 a_world bytes (BreakContent items) reads = absurd reads
 a_world bytes (LabelledContent brain places) reads = absurd reads
-a_world bytes (LabelsContent labels) reads = absurd reads
+a_world bytes (SourceContent labels lines) reads = absurd reads
 a_world bytes (SaveContent saved) reads = absurd reads
 
 a_brain : (bytes : List ℕ) (content : FileContent) → Reads BrainFile bytes content → IsBrain bytes
@@ -135,7 +135,7 @@ a_brain bytes (WorldContent grid) reads = absurd reads
 a_brain bytes (BrainContent list) reads = (list, reads)
 a_brain bytes (BreakContent items) reads = absurd reads
 a_brain bytes (LabelledContent brain places) reads = absurd reads
-a_brain bytes (LabelsContent labels) reads = absurd reads
+a_brain bytes (SourceContent labels lines) reads = absurd reads
 a_brain bytes (SaveContent saved) reads = absurd reads
 
 -- the last fetch of a run

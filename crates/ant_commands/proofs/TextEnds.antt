@@ -6,6 +6,7 @@ use Rattle.std.proofs.lemmas.List.Sorted.{length_permutation}
 use Rattle.std.specs.List.{flat_map}
 use Rattle.std.specs.Prelude.{◌-◌, ◌*◌, ◌%◌, ◌==◌, codes, cond, decimal, nat_lt, slice_index_or}
 use Rattle.ant_asm.specs.Labels.{LabelState, label_text, labels_text, way_text as label_way_text}
+use Rattle.ant_asm.specs.StateLines.{StateLine, state_line_text, state_lines_text, uses_text}
 use Rattle.ant_base.proofs.Numbered.{numbered-list}
 use Rattle.ant_base.proofs.Pushes.{ends_in_lf-append}
 use Rattle.ant_base.specs.Layout.{numbered, ◌+++◌}
@@ -19,10 +20,11 @@ use Rattle.brain_minimise.specs.Text.{became_text, minimised_text, state_line, s
 use Rattle.brain_read.specs.Canonical.{brain_text, instruction_text}
 use Rattle.brain_read.specs.Forms.{fields_of}
 use Rattle.brain_read.specs.declared.instr.Instr.{Instr}
-use Rattle.brain_same.specs.Text.{comparison_text, found_text}
+use Rattle.brain_same.specs.Text.{comparison_text, found_text, step_text, way_text as difference_text}
 use Rattle.brain_same.specs.declared.comparison.Comparison.{Comparison}
 use Rattle.brain_same.specs.declared.comparison.Comparison.TheVariants.{Same, Different}
 use Rattle.brain_same.specs.declared.comparison.Found.{Found}
+use Rattle.brain_same.specs.declared.way.Step.{Step}
 use Rattle.break_view.specs.Texts.{end_text, no_stop_line, stop_line, view_text}
 use Rattle.break_view.specs.declared.stop.Stop.{Stop}
 use Rattle.cell_world.specs.Grid.{Grid, world_of}
@@ -46,6 +48,7 @@ use Rattle.line_tokens.specs.Fields.{LineField, field_text, further_text, line_t
 use Rattle.match_run.specs.Counts.{counts_text, totals_of, whole_text, both}
 use Rattle.match_run.specs.Run.{dumps_text, run_text, world_after}
 use Rattle.match_run.specs.Later.{later_dumps, plain_later_text, later_text}
+use Rattle.match_save.specs.Advanced.{advanced}
 use Rattle.match_save.specs.Resumed.{moment_of, resumed_text}
 use Rattle.match_save.specs.Saved.{SavedValue, draft_of, save_text}
 use Rattle.match_save.specs.Saves.{saved_after}
@@ -62,7 +65,7 @@ use Rattle.world_read.specs.Canonical.{canonical_text, cell_text, line_of_row, s
 use Rattle.ant_commands.specs.declared.commands.workload.Summary.{Summary}
 use Rattle.ant_commands.specs.Help.{head_lines, help_text, tail_lines, version_text}
 use Rattle.command_words.specs.Help.{table_text}
-use Rattle.ant_commands.specs.Outputs.{ReadGame, traced_sheet, trace_output, chosen_rounds, events_output, match_output, minds_named, profile_output, resume_output, save_output, show_output, summary_lines, told_minds, workload_text}
+use Rattle.ant_commands.specs.Outputs.{ReadGame, advance_output, traced_sheet, trace_output, chosen_rounds, events_output, match_output, minds_named, profile_output, resume_output, save_output, show_output, summary_lines, told_minds, workload_text}
 
 -- a text that ends in LF
 pub record EndsInLf (text : List ℕ) : Type 0 where
@@ -167,6 +170,21 @@ pub lines_labels : (labels : List LabelState) → AreLines (labels_text labels)
 lines_labels [] = inl refl
 lines_labels (label ∷ labels) = inr (lf_then (label_text label) (labels_text labels) (lf_label label) (lines_labels labels))
 
+-- the lines of states; a program has some
+lf_state_line : (it : StateLine) → EndsInLf (state_line_text it)
+lf_state_line it =
+    let uses : List ℕ = uses_text (codes " ") it.way +++ codes "\n" in
+    let line : List ℕ = decimal it.line +++ uses in
+    lf_last (decimal it.state) (codes " " +++ line) (lf_last (codes " ") line (lf_last (decimal it.line) uses (lf_last (uses_text (codes " ") it.way) (codes "\n") lf_end)))
+
+lines_state_lines : (list : List StateLine) → AreLines (state_lines_text list)
+lines_state_lines [] = inl refl
+lines_state_lines (it ∷ others) = inr (lf_then (state_line_text it) (state_lines_text others) (lf_state_line it) (lines_state_lines others))
+
+pub lf_state_lines : (list : List StateLine) → 1 ≤ length list → EndsInLf (state_lines_text list)
+lf_state_lines [] some = absurd (omega arith)
+lf_state_lines (it ∷ others) some = lf_then (state_line_text it) (state_lines_text others) (lf_state_line it) (lines_state_lines others)
+
 -- a dump's lines
 lf_cell : (x y : ℕ) (cell : Cell) → EndsInLf (cell_line x y cell)
 unfolding cell_line
@@ -237,6 +255,10 @@ lf_saved s = lf_flat_map (λ (line : List ℕ). line ++ 10 ∷ []) (draft_lines 
 pub lf_save : (setup : RunSetup) (game : ReadGame) → EndsInLf (save_output setup game)
 unfolding save_output
 lf_save setup game = lf_saved (saved_after (minds_named setup game.red game.black) setup.seed setup.window (world_of game.world) setup.rounds)
+
+pub lf_advance : (rounds : ℕ) (saved : SavedValue) → EndsInLf (advance_output rounds saved)
+unfolding advance_output
+lf_advance rounds saved = lf_saved (advanced saved rounds)
 
 pub lf_rest : (setup : ResumeSetup) (saved : SavedValue) → EndsInLf (resume_output setup saved)
 unfolding resume_output resumed_text later_text plain_later_text
@@ -408,3 +430,15 @@ lf_comparison (Different answers first second) =
     let behind : List ℕ = codes " answers\nfirst " +++ one in
     lf_last (codes "different after ") (decimal answers +++ behind) (lf_last (decimal answers) behind (lf_last (codes " answers\nfirst ") one
     (lf_last (found_text first) last (lf_last (codes "second ") (found_text second) (lf_found second)))))
+
+pub lf_difference : (comparison : Comparison) (steps : List Step) → EndsInLf (difference_text comparison steps)
+unfolding difference_text
+lf_difference Same steps = record { is = refl }
+lf_difference (Different answers first second) steps =
+    let last : List ℕ = codes "second " +++ found_text second in
+    let one : List ℕ = found_text first +++ last in
+    let two : List ℕ = codes "first " +++ one in
+    let way : List ℕ = flat_map step_text steps +++ two in
+    let behind : List ℕ = codes " answers\n" +++ way in
+    lf_last (codes "different after ") (decimal answers +++ behind) (lf_last (decimal answers) behind (lf_last (codes " answers\n") way
+    (lf_last (flat_map step_text steps) two (lf_last (codes "first ") one (lf_last (found_text first) last (lf_last (codes "second ") (found_text second) (lf_found second)))))))

@@ -1,14 +1,28 @@
 -- What a command line of each command asks for, as its job: which word is which file, and which option which number.
-use Rattle.std.proofs.Common.{◌≡◌, ◌∷◌, [], codes, false, true, refl}
+use Rattle.std.proofs.Common.{◌≡◌, ◌∷◌, [], Some, ap, codes, false, true, refl, ◌∙◌}
+use Rattle.std.specs.Fmt.{digits}
+use Rattle.ant_base.specs.Layout.{◌+++◌}
 use Rattle.ant_base.specs.Number.{decimal_value}
+use Rattle.cell_world.specs.Cell.{rock}
+use Rattle.cell_world.specs.Grid.{cell_in}
+use Rattle.cell_world.specs.Opening.{floor}
+use Rattle.cell_world.specs.World.{place_in}
+use Rattle.cell_world.specs.declared.ant.Colour.TheVariants.{Red}
+use Rattle.hex_geometry.specs.declared.direction.Dir.TheVariants.{West}
+use Rattle.match_save.proofs.AdvancedWorked.{row_advanced}
+use Rattle.match_save.proofs.SaveWorked.{hill, saved}
+use Rattle.match_save.specs.Saved.{SavedValue, draft_of, save_text}
+use Rattle.match_save.specs.Text.{draft_lines, draft_text, instruction_line}
 use Rattle.command_words.specs.Command.{asked_in, is_among, rest_after}
 use Rattle.command_words.specs.Slots.{dumps_of, is_dumps, is_file_name}
 use Rattle.command_words.specs.Slots.DumpChoice.{EveryDump, NoDump}
-use Rattle.command_words.specs.declared.table.CommandKind.TheVariants.{Asm, Brain, Cup, Events, Gen, Help, HelpWord, Minimise, Profile, Resume, Run, Same, Save, Show, Trace, Version, View, Workload}
+use Rattle.command_words.specs.declared.table.CommandKind.TheVariants.{Advance, Asm, Brain, Cup, Events, Gen, Help, HelpWord, Minimise, Profile, Resume, Run, Same, Save, Show, Trace, Version, View, Workload}
 use Rattle.command_words.proofs.WorkedLines.{words_of}
-use Rattle.ant_commands.specs.Outputs.{ReadGame, told_minds}
+use Rattle.ant_commands.specs.Files.FileKind.{LabelledFile, SaveFile}
+use Rattle.ant_commands.specs.Job.{files_of}
+use Rattle.ant_commands.specs.Outputs.{ReadGame, ReadSource, advance_output, source_text, told_minds}
 use Rattle.ant_commands.specs.Setups.{told_of}
-use Rattle.ant_commands.specs.Jobs.{asm_job, brain_job, cup_job, events_job, gen_job, help_job, job_of, minimise_job, profile_job, resume_job, run_job, same_job, save_job, show_job, trace_job, version_job, view_job, workload_job}
+use Rattle.ant_commands.specs.Jobs.{advance_job, asm_job, brain_job, cup_job, events_job, gen_job, help_job, job_of, minimise_job, profile_job, resume_job, run_job, same_job, save_job, show_job, trace_job, version_job, view_job, workload_job}
 
 pub show_asked : job_of (asked_in Show (words_of (codes "show w 7"))) ≡ show_job (codes "w") 7
 unfolding is_among rest_after is_file_name is_dumps dumps_of decimal_value
@@ -54,9 +68,30 @@ pub version_asked : job_of (asked_in Version (words_of (codes "--version"))) ≡
 unfolding is_among rest_after is_file_name is_dumps dumps_of decimal_value
 version_asked = refl
 
-pub asm_asked : job_of (asked_in Asm (words_of (codes "asm p --labels"))) ≡ asm_job (codes "p") true
+pub asm_asked : job_of (asked_in Asm (words_of (codes "asm p --labels"))) ≡ asm_job (codes "p") true false
 unfolding is_among rest_after is_file_name is_dumps dumps_of decimal_value
 asm_asked = refl
+
+pub asm_lines_asked : job_of (asked_in Asm (words_of (codes "asm p --lines"))) ≡ asm_job (codes "p") false true
+unfolding is_among rest_after is_file_name is_dumps dumps_of decimal_value
+asm_lines_asked = refl
+
+-- by either option the file is read as where its labels and states stand
+pub asm_reads : (files_of (asm_job (codes "p") true false) ≡ record { name = codes "p"; kind = LabelledFile true } ∷ [])
+    × (files_of (asm_job (codes "p") false true) ≡ record { name = codes "p"; kind = LabelledFile true } ∷ [])
+    × (files_of (asm_job (codes "p") false false) ≡ record { name = codes "p"; kind = LabelledFile false } ∷ [])
+asm_reads = (refl, refl, refl)
+
+-- go: / use back, below a block in whose second line an instruction stands
+abbrev source : ReadSource
+source = record {
+  labels = record { way = []; name = codes "go"; state = 0 } ∷ [];
+  lines = record { state = 0; line = 2; way = record { name = codes "back"; line = 5 } ∷ [] } ∷ [];
+}
+
+pub source_told : (source_text true true source ≡ codes "0 go\n0 2 back@5\n") × (source_text true false source ≡ codes "0 go\n") × (source_text false true source ≡ codes "0 2 back@5\n")
+unfolding digits
+source_told = (refl, refl, refl)
 
 pub save_asked : job_of (asked_in Save (words_of (codes "save w r b --rest 1 --corpse 2 --surround 6 --window 3 --workers 4 --rounds 5 --seed 7"))) ≡ save_job (codes "w") (codes "r") (codes "b") (record { seed = 7; rounds = 5; dumps = NoDump; workers = 4; window = 3; surround = 6; corpse = 2; rest = 1; stats = false; far = false })
 unfolding is_among rest_after is_file_name is_dumps dumps_of decimal_value
@@ -66,13 +101,47 @@ pub resume_asked : job_of (asked_in Resume (words_of (codes "resume s --stats --
 unfolding is_among rest_after is_file_name is_dumps dumps_of decimal_value
 resume_asked = refl
 
+pub advance_asked : job_of (asked_in Advance (words_of (codes "advance s --workers 4 --rounds 5"))) ≡ advance_job (codes "s") 5 4
+unfolding is_among rest_after is_file_name is_dumps dumps_of decimal_value
+advance_asked = refl
+
+-- its save is one of at most so many rounds
+pub advance_reads : files_of (advance_job (codes "s") 5 4) ≡ record { name = codes "s"; kind = SaveFile 5 } ∷ []
+advance_reads = refl
+
+-- the save of one ant after its first turn to the left, two turns later
+abbrev later : SavedValue
+later = record saved {
+  round = 3;
+  totals = record { turns = 3; taken = 3; redone = 0 };
+  world = record { width = 3; height = 3; ids = 1; cells = rock ∷ rock ∷ rock ∷ rock ∷ record hill { ant = Some (record { id = 0; colour = Red; state = 0; resting = 0; facing = West; laden = false }) } ∷ rock ∷ rock ∷ rock ∷ rock ∷ [] };
+}
+
+later_text : save_text later ≡
+    codes "ants save 1\nseed 12345\nsheet 5 3 14\nwindow 16384\nround 3\nplace 0\ntaken 3 redone 0\nsize 3 3\n"
+    +++ codes "red 1\nTurn Left 0\nblack 1\nTurn Left 0\n###\n#+#\n###\n000\n000\n000\n000\n000\n000\n000\n000\n000\n"
+    +++ codes "ant 0 red 1 1 3 0 0 0\nend\n"
+unfolding save_text draft_text draft_lines draft_of instruction_line digits rock floor place_in cell_in
+later_text = refl
+
+pub advance_told : advance_output 3 saved ≡
+    codes "ants save 1\nseed 12345\nsheet 5 3 14\nwindow 16384\nround 3\nplace 0\ntaken 3 redone 0\nsize 3 3\n"
+    +++ codes "red 1\nTurn Left 0\nblack 1\nTurn Left 0\n###\n#+#\n###\n000\n000\n000\n000\n000\n000\n000\n000\n000\n"
+    +++ codes "ant 0 red 1 1 3 0 0 0\nend\n"
+unfolding advance_output
+advance_told = ap save_text row_advanced ∙ later_text
+
 pub trace_asked : job_of (asked_in Trace (words_of (codes "trace w r b 8 --rest 1 --corpse 2 --surround 6 --from 3 --rounds 5 --seed 7"))) ≡ trace_job (codes "w") (codes "r") (codes "b") 8 (record { seed = 7; rounds = 5; from = 3; surround = 6; corpse = 2; rest = 1 })
 unfolding is_among rest_after is_file_name is_dumps dumps_of decimal_value
 trace_asked = refl
 
-pub same_asked : job_of (asked_in Same (words_of (codes "same a b"))) ≡ same_job (codes "a") (codes "b")
+pub same_asked : job_of (asked_in Same (words_of (codes "same a b"))) ≡ same_job (codes "a") (codes "b") false
 unfolding is_among rest_after is_file_name is_dumps dumps_of decimal_value
 same_asked = refl
+
+pub same_way_asked : job_of (asked_in Same (words_of (codes "same a b --way"))) ≡ same_job (codes "a") (codes "b") true
+unfolding is_among rest_after is_file_name is_dumps dumps_of decimal_value
+same_way_asked = refl
 
 pub events_asked : job_of (asked_in Events (words_of (codes "events w r b --rest 1 --corpse 2 --surround 6 --rounds 5 --seed 7"))) ≡ events_job (codes "w") (codes "r") (codes "b") (record { seed = 7; rounds = 5; surround = 6; corpse = 2; rest = 1 })
 unfolding is_among rest_after is_file_name is_dumps dumps_of decimal_value

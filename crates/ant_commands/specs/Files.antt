@@ -3,6 +3,7 @@ use Rattle.std.specs.Prelude.{◌≡◌, ℕ, Bool, true, false, List, [], ◌�
 use Rattle.ant_asm.specs.Answers.{IsAssembledText}
 use Rattle.ant_asm.specs.Labels.{AreLabelsOf, LabelState}
 use Rattle.ant_asm.specs.Places.{Address}
+use Rattle.ant_asm.specs.StateLines.{AreStateLinesOf, StateLine}
 use Rattle.ant_base.specs.Fetched.{Fetched}
 use Rattle.ant_base.specs.declared.shelf.FetchFault.TheVariants as answer
 use Rattle.brain_read.specs.declared.instr.Instr.{Instr}
@@ -19,12 +20,12 @@ use Rattle.world_read.specs.Opened.{OpensAs}
 use Rattle.ant_commands.specs.declared.stop.FileFault.{FileFault}
 use Rattle.ant_commands.specs.declared.stop.FileFault.TheVariants.{Breaks, Text}
 
--- what a file is read as; of a labelled program the brain is wanted, or else its labels; a save is one of which at most so many rounds are done
+-- what a file is read as; of a labelled program the brain is wanted, or else where its labels and states stand; a save is one of which at most so many rounds are done
 pub data FileKind : Type 0 where
   WorldFile : FileKind
   BrainFile : FileKind
   BreakFile : FileKind
-  LabelledFile : (labels : Bool) → FileKind
+  LabelledFile : (source : Bool) → FileKind
   SaveFile : (rounds : ℕ) → FileKind
 
 -- a file that a command names
@@ -39,8 +40,8 @@ pub data FileContent : Type 0 where
   BreakContent : List Break → FileContent
   -- of a labelled program: its brain, and the address of each of the brain's instructions
   LabelledContent : (brain : List Instr) → (places : List Address) → FileContent
-  -- or its labels, each with the state to which it leads
-  LabelsContent : List LabelState → FileContent
+  -- or its labels, each with the state to which it leads, and the line of each state
+  SourceContent : (labels : List LabelState) → (lines : List StateLine) → FileContent
   SaveContent : SavedValue → FileContent
 
 -- bytes are read as this content in a file of this kind
@@ -49,7 +50,7 @@ Reads WorldFile bytes (WorldContent grid) = OpensAs bytes grid
 Reads BrainFile bytes (BrainContent list) = IsBrainText bytes list
 Reads BreakFile bytes (BreakContent items) = IsBreakText bytes items
 Reads (LabelledFile false) bytes (LabelledContent brain places) = IsAssembledText bytes brain places
-Reads (LabelledFile true) bytes (LabelsContent labels) = AreLabelsOf bytes labels
+Reads (LabelledFile true) bytes (SourceContent labels lines) = AreLabelsOf bytes labels × AreStateLinesOf bytes lines
 Reads (SaveFile rounds) bytes (SaveContent saved) = IsSaveWithin rounds bytes saved
 Reads kind bytes content = ⊥
 
@@ -58,7 +59,7 @@ abbrev pub Refuses : FileKind → List ℕ → FileFault → Type 0
 Refuses WorldFile bytes (Text fault) = IsNoWorld bytes fault
 Refuses BrainFile bytes (Text fault) = IsNoBrain bytes fault
 Refuses BreakFile bytes (Breaks fault) = IsBreakFault bytes fault
-Refuses (LabelledFile labels) bytes (Text fault) = IsNoProgram bytes fault
+Refuses (LabelledFile source) bytes (Text fault) = IsNoProgram bytes fault
 Refuses (SaveFile rounds) bytes (Text fault) = IsNoSave rounds bytes fault
 Refuses kind bytes fault = ⊥
 

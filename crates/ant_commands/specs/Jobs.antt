@@ -1,16 +1,16 @@
 -- The job of each command.
-use Rattle.std.specs.Prelude.{ℕ, Bool, List, [], ◌∷◌, ◌++◌}
+use Rattle.std.specs.Prelude.{ℕ, Bool, ◌||◌, List, [], ◌∷◌, ◌++◌}
 use Rattle.brain_read.specs.Canonical.{brain_text}
 use Rattle.world_gen.specs.Placing.{HasNoRoom}
 use Rattle.command_words.specs.Command.{PlainAsked}
 use Rattle.command_words.specs.declared.table.CommandKind.{CommandKind}
-use Rattle.command_words.specs.declared.table.CommandKind.TheVariants.{Show, Brain, Minimise, Run, Gen, Cup, View, Workload, Help, HelpWord, Version, Asm, Save, Resume, Trace, Same, Events, Profile}
-use Rattle.command_words.specs.declared.table.Choice.TheVariants.{Seed, Rounds, Workers, Labels, States, Games}
+use Rattle.command_words.specs.declared.table.CommandKind.TheVariants.{Show, Brain, Minimise, Run, Gen, Cup, View, Workload, Help, HelpWord, Version, Asm, Save, Resume, Trace, Same, Events, Profile, Advance}
+use Rattle.command_words.specs.declared.table.Choice.TheVariants.{Seed, Rounds, Workers, Labels, Lines, Way, States, Games}
 use Rattle.command_words.specs.declared.table.NameList.TheVariants.{Worlds, Brains}
 use Rattle.ant_commands.specs.declared.commands.setups.GenShape.{GenShape}
 use Rattle.ant_commands.specs.Help.{help_text, version_text}
 use Rattle.ant_commands.specs.Job.{Job, plain_job}
-use Rattle.ant_commands.specs.Outputs.{CupInPlay, IsAsmOutput, IsCupOutput, IsViewOutput, Tells, TellsGenerated, TellsMinimised, TellsSame, TellsWorkload, brain_contents, brain_file, break_file, contest_shape, cup_files, events_output, game_contents, game_files, is_text_of, labelled_file, match_output, no_contents, pair_contents, profile_output, resume_output, roster_contents, save_contents, save_file, save_output, shape_named, show_output, trace_output, view_contents, world_contents, world_file}
+use Rattle.ant_commands.specs.Outputs.{CupInPlay, IsAsmOutput, IsCupOutput, IsViewOutput, Tells, TellsGenerated, TellsMinimised, TellsSame, TellsWorkload, advance_output, brain_contents, brain_file, break_file, contest_shape, cup_files, events_output, game_contents, game_files, is_text_of, labelled_file, match_output, no_contents, pair_contents, profile_output, resume_output, roster_contents, save_contents, save_file, save_output, shape_named, show_output, trace_output, view_contents, world_contents, world_file}
 use Rattle.ant_commands.specs.Setups.{ResumeSetup, RunSetup, ToldSetup, TraceSetup, resume_of, save_setup_of, setup_of, shape_of, told_of, trace_of}
 
 abbrev pub show_job : List ℕ → ℕ → Job
@@ -44,8 +44,8 @@ help_job = plain_job [] (Tells no_contents (is_text_of (λ nothing. help_text)))
 abbrev pub version_job : Job
 version_job = plain_job [] (Tells no_contents (is_text_of (λ nothing. version_text)))
 
-abbrev pub asm_job : List ℕ → Bool → Job
-asm_job file labels = plain_job (labelled_file labels file ∷ []) (IsAsmOutput labels)
+abbrev pub asm_job : List ℕ → Bool → Bool → Job
+asm_job file labels lines = plain_job (labelled_file (labels || lines) file ∷ []) (IsAsmOutput labels lines)
 
 abbrev pub save_job : List ℕ → List ℕ → List ℕ → RunSetup → Job
 save_job world red black setup = record (plain_job (game_files world red black) (Tells game_contents (is_text_of (save_output setup)))) { workers = setup.workers }
@@ -53,11 +53,14 @@ save_job world red black setup = record (plain_job (game_files world red black) 
 abbrev pub resume_job : List ℕ → ResumeSetup → Job
 resume_job save setup = record (plain_job (save_file save setup.rounds ∷ []) (Tells save_contents (is_text_of (resume_output setup)))) { InPlay = λ contents front. Unit {0}; workers = setup.workers }
 
+abbrev pub advance_job : List ℕ → ℕ → ℕ → Job
+advance_job save rounds workers = record (plain_job (save_file save rounds ∷ []) (Tells save_contents (is_text_of (advance_output rounds)))) { workers = workers }
+
 abbrev pub trace_job : List ℕ → List ℕ → List ℕ → ℕ → TraceSetup → Job
 trace_job world red black id setup = plain_job (game_files world red black) (Tells game_contents (is_text_of (trace_output id setup)))
 
-abbrev pub same_job : List ℕ → List ℕ → Job
-same_job first second = plain_job (brain_file first ∷ brain_file second ∷ []) (Tells pair_contents TellsSame)
+abbrev pub same_job : List ℕ → List ℕ → Bool → Job
+same_job first second way = plain_job (brain_file first ∷ brain_file second ∷ []) (Tells pair_contents (TellsSame way))
 
 abbrev pub events_job : List ℕ → List ℕ → List ℕ → ToldSetup → Job
 events_job world red black setup = plain_job (game_files world red black) (Tells game_contents (is_text_of (events_output setup)))
@@ -78,13 +81,14 @@ job_by Workload a = workload_job (a.number 0) (a.number 1) (a.number 2)
 job_by Help a = help_job
 job_by HelpWord a = help_job
 job_by Version a = version_job
-job_by Asm a = asm_job (a.file 0) (a.has Labels)
+job_by Asm a = asm_job (a.file 0) (a.has Labels) (a.has Lines)
 job_by Save a = save_job (a.file 0) (a.file 1) (a.file 2) (save_setup_of a)
 job_by Resume a = resume_job (a.file 0) (resume_of a)
 job_by Trace a = trace_job (a.file 0) (a.file 1) (a.file 2) (a.number 3) (trace_of a)
-job_by Same a = same_job (a.file 0) (a.file 1)
+job_by Same a = same_job (a.file 0) (a.file 1) (a.has Way)
 job_by Events a = events_job (a.file 0) (a.file 1) (a.file 2) (told_of a)
 job_by Profile a = profile_job (a.file 0) (a.file 1) (a.file 2) (told_of a)
+job_by Advance a = advance_job (a.file 0) (a.option Rounds) (a.option Workers)
 
 abbrev pub job_of : PlainAsked → Job
 job_of asked = job_by asked.kind asked

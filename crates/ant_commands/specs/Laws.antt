@@ -24,9 +24,9 @@ use Rattle.command_words.specs.declared.limits.NumberKind.TheVariants.{WorkerCou
 use Rattle.command_words.specs.declared.table.Choice.{Choice}
 use Rattle.command_words.specs.declared.table.NameList.{NameList}
 use Rattle.command_words.specs.declared.table.CommandKind.TheVariants.{Asm}
-use Rattle.command_words.specs.declared.table.Choice.TheVariants.{Far, Labels, Workers}
+use Rattle.command_words.specs.declared.table.Choice.TheVariants.{Far, Labels, Lines, Workers}
 use Rattle.ant_commands.specs.Setups.{ResumeSetup, RunSetup, SetupWithin}
-use Rattle.ant_commands.specs.Jobs.{job_of, resume_job, run_job, save_job}
+use Rattle.ant_commands.specs.Jobs.{advance_job, job_of, resume_job, run_job, save_job}
 use Rattle.command_words.specs.Slots.DumpChoice.{NoDump}
 use Rattle.dump_print.specs.Texts.{seed_text}
 use Rattle.match_run.specs.Run.{dumps_text}
@@ -39,10 +39,11 @@ use Rattle.ant_commands.specs.Outputs.{ReadGame, chosen_rounds, game_contents, g
 use Rattle.ant_commands.specs.Verdict.{IsJudged}
 use Rattle.ant_commands.specs.Verdict.FilesVerdict.{AllAccepted}
 
--- a text without bytes, of `asm` with `--labels`: its program has no labels
+-- a text without bytes, of `asm` with `--labels` and without `--lines`: its program has no labels
 pub record TellsNoLabel (command : PlainAsked) (text : List ℕ) : Type 0 where
   pub is : command.kind ≡ Asm
   pub labels : command.has Labels ≡ true
+  pub no_lines : command.has Lines ≡ false
   pub empty : text ≡ []
 
 -- each output of a command whose numbers and names are within the limits, and whose files were accepted, ends in LF, or tells no label
@@ -145,6 +146,12 @@ pub record SavesAreResumed : Type 0 where
       → IsJobText (run_job world red black setup) (game_contents game) text
       → IsJobText (resume_job save (resumed_setup setup workers)) (save_contents saved) rest
       → text ≡ front_output setup round game ++ rest
+  -- what `advance` prints of the save up to a round is what `save` prints of the game after that round, so all of this holds of it too
+  pub advanced : (world red black save : List ℕ) (setup : RunSetup) (game : ReadGame) (round later workers others : ℕ) (saved : SavedValue) (text : List ℕ)
+      → IsGameOf world red black setup game → IsSavedAs world red black setup game round saved
+      → round ≤ later → later ≤ setup.rounds
+      → IsJobText (advance_job save later workers) (save_contents saved) text
+      → IsJobText (save_job world red black (saved_setup setup later others)) (game_contents game) text
   -- so it doesn't matter after which round it was saved
   pub any_round : (world red black save other : List ℕ) (setup : RunSetup) (game : ReadGame) (round later workers others : ℕ) (saved changed : SavedValue) (rest last : List ℕ)
       → IsGameOf world red black setup game

@@ -1,5 +1,5 @@
 -- What each command reads and writes: one equation a command.
-use Rattle.std.specs.Prelude.{◌≡◌, ℕ, ◌≤◌, Bool, true, false, List, [], ◌∷◌, ◌++◌, length, map, slice_index_or, codes, decimal, Option}
+use Rattle.std.specs.Prelude.{◌≡◌, ℕ, ◌≤◌, Bool, true, false, List, [], ◌∷◌, ◌++◌, length, map, slice_index_or, codes, decimal, Option, if◌then◌else◌}
 use Rattle.ant_base.specs.Layout.{◌+++◌}
 use Rattle.ant_trace.specs.Trace.{trace_text}
 use Rattle.ant_turn.specs.Minds.{Minds, contest_minds}
@@ -11,9 +11,12 @@ use Rattle.brain_read.specs.declared.instr.Instr.{Instr}
 use Rattle.brain_read.specs.Canonical.{brain_text}
 use Rattle.ant_asm.specs.Labels.{LabelState, labels_text}
 use Rattle.ant_asm.specs.Places.{Address}
+use Rattle.ant_asm.specs.StateLines.{StateLine, state_lines_text}
 use Rattle.brain_same.specs.Difference.{IsComparison}
-use Rattle.brain_same.specs.Text.{comparison_text}
+use Rattle.brain_same.specs.Text.{comparison_text, way_text}
+use Rattle.brain_same.specs.Way.{IsWayComparison}
 use Rattle.brain_same.specs.declared.comparison.Comparison.{Comparison}
+use Rattle.brain_same.specs.declared.way.Step.{Step}
 use Rattle.break_view.specs.Texts.{IsViewText}
 use Rattle.break_view.specs.declared.breaks.Break.{Break}
 use Rattle.cell_world.specs.Grid.{Grid, world_of}
@@ -31,6 +34,7 @@ use Rattle.game_tellings.specs.Profile.{profile_text}
 use Rattle.match_run.specs.Counts.{totals_of, whole_text}
 use Rattle.match_run.specs.Dumps.{has_round}
 use Rattle.match_run.specs.Run.{world_after}
+use Rattle.match_save.specs.Advanced.{advanced}
 use Rattle.match_save.specs.Resumed.{resumed_text}
 use Rattle.match_save.specs.Saved.{SavedValue, save_text}
 use Rattle.match_save.specs.Saves.{saved_after}
@@ -47,7 +51,7 @@ use Rattle.world_read.specs.Opened.{kinds_of}
 use Rattle.ant_commands.specs.declared.commands.workload.Summary.{Summary}
 use Rattle.ant_commands.specs.Files.{File, FileContent}
 use Rattle.ant_commands.specs.Files.FileKind.{WorldFile, BrainFile, BreakFile, LabelledFile, SaveFile}
-use Rattle.ant_commands.specs.Files.FileContent.{WorldContent, BrainContent, BreakContent, LabelledContent, LabelsContent, SaveContent}
+use Rattle.ant_commands.specs.Files.FileContent.{WorldContent, BrainContent, BreakContent, LabelledContent, SourceContent, SaveContent}
 use Rattle.ant_commands.specs.Sample.{sample_brain}
 
 -- a file with a world, one with a brain, and one with breaks
@@ -60,9 +64,9 @@ brain_file name = record { name = name; kind = BrainFile }
 abbrev pub break_file : List ℕ → File
 break_file name = record { name = name; kind = BreakFile }
 
--- a file with a labelled program, of which the brain is wanted, or else its labels
+-- a file with a labelled program, of which the brain is wanted, or else where its labels and states stand
 abbrev pub labelled_file : Bool → List ℕ → File
-labelled_file labels name = record { name = name; kind = LabelledFile labels }
+labelled_file source name = record { name = name; kind = LabelledFile source }
 
 -- a file with a save of which at most so many rounds are done
 abbrev pub save_file : List ℕ → ℕ → File
@@ -102,6 +106,11 @@ pub record ReadProgram : Type 0 where
   pub brain : List Instr
   pub places : List Address
 
+-- of where its labels and states stand
+pub record ReadSource : Type 0 where
+  pub labels : List LabelState
+  pub lines : List StateLine
+
 -- the contents of no file, of one, and of several
 abbrev pub no_contents : Unit {0} → List FileContent
 no_contents nothing = []
@@ -118,8 +127,8 @@ pair_contents pair = BrainContent pair.first ∷ BrainContent pair.second ∷ []
 abbrev pub program_contents : ReadProgram → List FileContent
 program_contents program = LabelledContent program.brain program.places ∷ []
 
-abbrev pub labels_contents : List LabelState → List FileContent
-labels_contents labels = LabelsContent labels ∷ []
+abbrev pub source_contents : ReadSource → List FileContent
+source_contents source = SourceContent source.labels source.lines ∷ []
 
 abbrev pub save_contents : SavedValue → List FileContent
 save_contents saved = SaveContent saved ∷ []
@@ -181,6 +190,10 @@ match_output setup game =
 unfoldable pub save_output : RunSetup → ReadGame → List ℕ
 save_output setup game = save_text (saved_after (minds_named setup game.red game.black) setup.seed setup.window (world_of game.world) setup.rounds)
 
+-- the output of `advance`: the save of a saved game once so many rounds are done in all
+unfoldable pub advance_output : ℕ → SavedValue → List ℕ
+advance_output rounds saved = save_text (advanced saved rounds)
+
 -- the output of `resume`: the rest of a saved game's text
 unfoldable pub resume_output : ResumeSetup → SavedValue → List ℕ
 resume_output setup saved = resumed_text saved setup.rounds (chosen_rounds setup.dumps) setup.stats
@@ -202,11 +215,23 @@ events_output setup game = events_text (told_minds setup game) setup.seed (world
 unfoldable pub profile_output : ToldSetup → ReadGame → List ℕ
 profile_output setup game = profile_text (told_minds setup game) setup.seed (world_of game.world) setup.rounds
 
--- the output of `same`: what the two brains come to
-pub record TellsSame (pair : ReadPair) (text : List ℕ) : Type 0 where
+-- what the two brains come to
+pub record TellsComparison (pair : ReadPair) (text : List ℕ) : Type 0 where
   pub comparison : Comparison
   pub is : IsComparison pair.first pair.second comparison
   pub told : text ≡ comparison_text comparison
+
+-- that, with the way there
+pub record TellsWay (pair : ReadPair) (text : List ℕ) : Type 0 where
+  pub comparison : Comparison
+  pub steps : List Step
+  pub is : IsWayComparison pair.first pair.second comparison steps
+  pub told : text ≡ way_text comparison steps
+
+-- the output of `same`: the one or the other
+abbrev pub TellsSame : Bool → ReadPair → List ℕ → Type 0
+TellsSame false = TellsComparison
+TellsSame true = TellsWay
 
 -- what `minimise` tells: the brain after a line of comment, or else what became of each old state
 abbrev pub minimise_output : Bool → List Instr → List Instr → List (Option ℕ) → List ℕ
@@ -297,10 +322,15 @@ pub record TellsWorkload (seed rounds : ℕ) (text : List ℕ) : Type 0 where
   pub generated : IsGenerated seed contest_shape world
   pub told : text ≡ workload_text seed rounds (summary_of seed rounds (world_of world))
 
--- the output of `asm`: the brain, or what the labels lead to
-abbrev pub IsAsmOutput : Bool → List FileContent → List ℕ → Type 0
-IsAsmOutput false = Tells program_contents (is_text_of (λ program. brain_text program.brain))
-IsAsmOutput true = Tells labels_contents (is_text_of labels_text)
+-- what `asm` prints in place of the brain: the labels where they are asked for, and after them the line of each state where those are
+abbrev pub source_text : Bool → Bool → ReadSource → List ℕ
+source_text labels lines source =
+    (if labels then labels_text source.labels else []) +++ (if lines then state_lines_text source.lines else [])
+
+-- the output of `asm`: the brain, or the labels, the lines of the states, or both
+abbrev pub IsAsmOutput : Bool → Bool → List FileContent → List ℕ → Type 0
+IsAsmOutput false false = Tells program_contents (is_text_of (λ program. brain_text program.brain))
+IsAsmOutput labels lines = Tells source_contents (is_text_of (source_text labels lines))
 
 -- what a `cup` has written that tells its games: the lines of all games on its first worlds
 abbrev pub CupInPlay : Bool → List (List ℕ) → List (List ℕ) → ℕ → ℕ → List FileContent → List ℕ → Type 0

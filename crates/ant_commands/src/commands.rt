@@ -8,6 +8,7 @@ ghost use Rattle.ant_commands.specs.Inner.Reading.{CarriesOut, ending_of};
 ghost use Rattle.ant_commands.specs.Job.{workers_named};
 ghost use Rattle.ant_commands.specs.Jobs.{job_of};
 
+mod advance;
 mod asm;
 mod brain;
 pub mod cup;
@@ -29,6 +30,7 @@ mod trace;
 mod view;
 mod workload;
 
+use crate::commands::advance::advance;
 use crate::commands::asm::asm;
 use crate::commands::brain::brain;
 use crate::commands::cup::{Games, cup};
@@ -101,7 +103,14 @@ pub fn dispatch<
         ),
         CommandKind::Help | CommandKind::HelpWord => help(shelf, out),
         CommandKind::Version => version(shelf, out),
-        CommandKind::Asm => asm(alloc, asked.file(0), asked.has(Choice::Labels), shelf, out),
+        CommandKind::Asm => asm(
+            alloc,
+            asked.file(0),
+            asked.has(Choice::Labels),
+            asked.has(Choice::Lines),
+            shelf,
+            out,
+        ),
         CommandKind::Save => save(alloc, crew, AskedGame::of_save(asked), shelf, out),
         CommandKind::Resume => resume(
             alloc,
@@ -112,9 +121,24 @@ pub fn dispatch<
             out,
         ),
         CommandKind::Trace => trace(alloc, TracedGame::of(asked), shelf, out),
-        CommandKind::Same => same(alloc, asked.file(0), asked.file(1), shelf, out),
+        CommandKind::Same => same(
+            alloc,
+            asked.file(0),
+            asked.file(1),
+            asked.has(Choice::Way),
+            shelf,
+            out,
+        ),
         CommandKind::Events => events(alloc, ToldGame::of_events(asked), shelf, out),
         CommandKind::Profile => profile(alloc, ToldGame::of_profile(asked), shelf, out),
+        CommandKind::Advance => advance(
+            alloc,
+            crew,
+            asked.file(0),
+            asked.option(Choice::Rounds),
+            shelf,
+            out,
+        ),
     }
 }
 
@@ -125,7 +149,9 @@ pub fn workers_in(asked: Asked<'_>) -> u32
     ensures within { IsWithin WorkerCount result }
 {
     match asked.kind {
-        CommandKind::Run | CommandKind::Save | CommandKind::Resume => asked.option(Choice::Workers),
+        CommandKind::Run | CommandKind::Save | CommandKind::Resume | CommandKind::Advance => {
+            asked.option(Choice::Workers)
+        }
         CommandKind::Workload => asked.number(2),
         _ => 1,
     }

@@ -8,13 +8,13 @@ ghost use Rattle.ant_commands.specs.Inner.Reading.{FetchesFile, IsNamed, ReadsFi
 ghost use Rattle.ant_commands.specs.FaultLines.{reason_of};
 
 use crate::stop::{CommandStop, FileFault};
-use ant_asm::{Assembled, Labels};
+use ant_asm::Assembled;
 use ant_base::{FetchFault, Shelf};
 use brain_read::Brain;
 use break_view::{BreakFault, Breaks, read_breaks};
 use cell_world::World;
 use std::alloc::Global;
-use text_fault::{TextFault, TextStop, open_brain, open_labels, open_program, open_world};
+use text_fault::{Source, TextFault, TextStop, open_brain, open_program, open_source, open_world};
 
 /// What the bytes of a file can be read as.
 pub trait FileText: Sized {
@@ -90,18 +90,18 @@ impl FileText for Assembled {
     }
 }
 
-impl FileText for Labels {
+impl FileText for Source {
     ghost use Rattle.std.specs.Prelude.{true};
     ghost use Rattle.ant_commands.specs.Files.FileKind.{LabelledFile};
-    ghost use Rattle.ant_commands.specs.Files.FileContent.{LabelsContent};
+    ghost use Rattle.ant_commands.specs.Files.FileContent.{SourceContent};
 
     ghost kind = { LabelledFile true };
 
-    ghost content = { LabelsContent };
+    ghost content = { λ source. SourceContent source.labels source.lines };
 
     #[tactic(auto, using(crate::proofs::Texts::text_read))]
-    fn read<'w>(alloc: Global, name: &'w str, bytes: &[u8]) -> Result<Labels, CommandStop<'w>> {
-        named(name, open_labels(alloc, bytes))
+    fn read<'w>(alloc: Global, name: &'w str, bytes: &[u8]) -> Result<Source, CommandStop<'w>> {
+        named(name, open_source(alloc, bytes))
     }
 }
 

@@ -29,7 +29,7 @@ pub fn contents_judge_once()
 {}
 
 /// Each output of a command whose numbers and names are within the limits, and whose files were accepted, ends in LF; or it has no bytes, and
-/// is that of `asm` with `--labels`, whose program has no label. So where the output can tell, nothing of it waits to be flushed once all of it
+/// is that of `asm` with `--labels` and without `--lines`, whose program has no label. So where the output can tell, nothing of it waits to be flushed once all of it
 /// was written.
 pub fn texts_end_in_lf()
     ensures { TextsEndInLf }
@@ -62,7 +62,8 @@ pub fn assembled_and_minimised()
 
 /// Where `run` prints a text, `save` after as many rounds of the same game or fewer prints a save that is no longer than a file may be and that `resume` accepts, and what `resume` prints of it is
 /// the rest of that text: before it stand the line of the seed and the chosen dumps up to the saved round. The seed, the window, the sheet, the
-/// dumps and the counts are those of `run`; each of the three may have any number of workers. So it is after whichever round the game is saved.
+/// dumps and the counts are those of `run`; each of the three may have any number of workers. So it is after whichever round the game is saved. What `advance` prints of
+/// such a save is what `save` prints of the game after the later round, byte for byte, so all of this holds of it too.
 pub fn saves_are_resumed()
     ensures { SavesAreResumed }
 {}

@@ -1,10 +1,9 @@
 -- What is seen of an ant, and which rounds are looked at, worked out.
-use Rattle.std.proofs.Common.{◌≡◌, ℕ, true, [], ◌∷◌, Some, None, refl, tt, arith}
-use Rattle.cell_world.specs.declared.ant.Colour.TheVariants.{Red, Black}
+use Rattle.std.proofs.Common.{◌≡◌, true, [], ◌∷◌, Some, None, refl, arith}
+use Rattle.cell_world.specs.declared.ant.Colour.TheVariants.{Black}
 use Rattle.cell_world.specs.World.{Cells}
-use Rattle.hex_geometry.specs.declared.direction.Dir.TheVariants.{East, SouthWest}
+use Rattle.hex_geometry.specs.declared.direction.Dir.TheVariants.{SouthWest}
 use Rattle.ants_c.specs.Looked.{AreRising, seen_at, seen_from}
-use Rattle.ants_c.specs.declared.ant.AntsAnt.{AntsAnt}
 
 -- a black ant on (4, 2) that carries food southwest, and rests
 laden_seen : seen_at (record { x = 4; y = 2 }) (Some (record { id = 3; colour = Black; state = 7; resting = 14; facing = SouthWest; laden = true }))
@@ -17,7 +16,7 @@ dead_seen cells = refl
 
 -- the start and the last round are looked at; none twice, and none beyond the last
 all_rise : AreRising 0 (0 ∷ 5 ∷ 1000000 ∷ [])
-all_rise = (omega arith, omega arith, omega arith, omega arith, omega arith, omega arith, tt)
+all_rise = (omega arith, omega arith, (omega arith, omega arith, (omega arith, omega arith, tt)))
 
 never_twice : AreRising 0 (5 ∷ 5 ∷ []) → ⊥
 never_twice rising = let twice = rising.2.0 in omega (arith, twice)

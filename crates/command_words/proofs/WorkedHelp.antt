@@ -9,9 +9,9 @@ use Rattle.command_words.specs.declared.slot.Slot.TheVariants.{FileName, Number,
 use Rattle.command_words.specs.declared.slot.Place.{Place}
 use Rattle.command_words.specs.declared.slot.Place.TheVariants.{Word, Names}
 use Rattle.command_words.specs.declared.table.Choice.{Choice}
-use Rattle.command_words.specs.declared.table.Choice.TheVariants.{Dump, From, Seed, Stats, Surround}
+use Rattle.command_words.specs.declared.table.Choice.TheVariants.{Dump, From, Lines, Seed, Stats, Surround, Way}
 use Rattle.command_words.specs.declared.table.CommandKind.{CommandKind}
-use Rattle.command_words.specs.declared.table.CommandKind.TheVariants.{Cup, Events, Help, Profile, Run, Trace}
+use Rattle.command_words.specs.declared.table.CommandKind.TheVariants.{Advance, Cup, Events, Help, Profile, Run, Trace}
 use Rattle.command_words.specs.Help.{command_text, free_texts, has_free, more_text, needed_texts, option_line, place_lines, takes_line}
 use Rattle.command_words.specs.Limits.{name_of}
 use Rattle.command_words.specs.Table.{help_row, keyword_of, list_name, options, places_of}
@@ -63,6 +63,11 @@ pub profile_help : command_text Profile ≡ codes
 unfolding command_text needed_texts more_text place_lines has_free takes_line free_texts numbered digits
 profile_help = refl
 
+pub advance_help : command_text Advance ≡ codes
+    "  advance SAVE --rounds N [OPTION]..\n      goes on with a saved game up to a round, and prints a save of it there\n      takes --workers\n"
+unfolding command_text needed_texts more_text place_lines has_free takes_line free_texts numbered digits
+advance_help = refl
+
 pub cup_help : command_text Cup ≡ codes
     "  cup --worlds WORLD.. --brains BRAIN.. --seed N --rounds N [OPTION]..\n      plays all games between brains on worlds, and prints their standing\n      WORLD.., 1 to 16 names\n      BRAIN.., 2 to 16 names\n      takes --workers --games\n"
 unfolding command_text needed_texts more_text place_lines has_free takes_line free_texts numbered digits
@@ -91,3 +96,11 @@ dump_help = refl
 pub stats_help : option_line Stats ≡ codes "  --stats       adds the counts of turns and looks\n"
 unfolding option_line numbered
 stats_help = refl
+
+pub lines_help : option_line Lines ≡ codes "  --lines       prints which line each state comes from, not the brain\n"
+unfolding option_line numbered
+lines_help = refl
+
+pub way_help : option_line Way ≡ codes "  --way         prints each answer on the way to the states that differ\n"
+unfolding option_line numbered
+way_help = refl

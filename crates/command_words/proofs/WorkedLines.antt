@@ -3,9 +3,9 @@ use Rattle.std.proofs.Common.{◌≡◌, ℕ, Bool, true, false, List, [], ◌�
 use Rattle.std.specs.List.{slice_split}
 use Rattle.ant_base.specs.Number.{decimal_value}
 use Rattle.command_words.specs.declared.table.CommandKind.{CommandKind}
-use Rattle.command_words.specs.declared.table.CommandKind.TheVariants.{Show, Brain, Minimise, Run, Gen, Cup, View, Workload, Help, HelpWord, Version, Asm, Save, Resume, Trace, Same, Events, Profile}
+use Rattle.command_words.specs.declared.table.CommandKind.TheVariants.{Show, Brain, Minimise, Run, Gen, Cup, View, Workload, Help, HelpWord, Version, Asm, Save, Resume, Trace, Same, Events, Profile, Advance}
 use Rattle.command_words.specs.declared.table.Choice.{Choice}
-use Rattle.command_words.specs.declared.table.Choice.TheVariants.{Seed, Rounds, Workers, Window, Surround, Corpse, Rest, Stats, Far, Width, Height, Rocks, Blobs, From, Labels, States, Games}
+use Rattle.command_words.specs.declared.table.Choice.TheVariants.{Seed, Rounds, Workers, Window, Surround, Corpse, Rest, Stats, Far, Width, Height, Rocks, Blobs, From, Labels, States, Games, Lines, Way}
 use Rattle.command_words.specs.declared.table.NameList.{NameList}
 use Rattle.command_words.specs.declared.table.NameList.TheVariants.{Worlds, Brains}
 use Rattle.command_words.specs.Slots.{is_file_name, is_dumps, dumps_of, DumpChoice}
@@ -69,9 +69,9 @@ minimise_command = says _ _ _ refl (refl, (refl, tt))
 
 -- `asm`
 pub asm_command : Says Asm (codes "asm p")
-    (AtFile 0 (codes "p") ∷ IsGivenAs Labels false ∷ [])
+    (AtFile 0 (codes "p") ∷ IsGivenAs Labels false ∷ IsGivenAs Lines false ∷ [])
 unfolding command_kind_of choice_of is_among rest_after is_file_name is_dumps dumps_of decimal_value
-asm_command = says _ _ _ refl (refl, (refl, tt))
+asm_command = says _ _ _ refl (refl, (refl, (refl, tt)))
 
 -- the new numbers of its states
 pub minimise_states : Says Minimise (codes "minimise b --states")
@@ -86,9 +86,25 @@ states_with_a_value = read-refuses (words_of (codes "minimise b --states 1")) 4 
 
 -- what its labels lead to
 pub asm_labels : Says Asm (codes "asm p --labels")
-    (AtFile 0 (codes "p") ∷ IsGivenAs Labels true ∷ [])
+    (AtFile 0 (codes "p") ∷ IsGivenAs Labels true ∷ IsGivenAs Lines false ∷ [])
 unfolding command_kind_of choice_of is_among rest_after is_file_name is_dumps dumps_of decimal_value
-asm_labels = says _ _ _ refl (refl, (refl, tt))
+asm_labels = says _ _ _ refl (refl, (refl, (refl, tt)))
+
+-- which lines its states come from, alone or with its labels
+pub asm_lines : Says Asm (codes "asm p --lines")
+    (AtFile 0 (codes "p") ∷ IsGivenAs Labels false ∷ IsGivenAs Lines true ∷ [])
+unfolding command_kind_of choice_of is_among rest_after is_file_name is_dumps dumps_of decimal_value
+asm_lines = says _ _ _ refl (refl, (refl, (refl, tt)))
+
+pub asm_lines_and_labels : Says Asm (codes "asm p --lines --labels")
+    (AtFile 0 (codes "p") ∷ IsGivenAs Labels true ∷ IsGivenAs Lines true ∷ [])
+unfolding command_kind_of choice_of is_among rest_after is_file_name is_dumps dumps_of decimal_value
+asm_lines_and_labels = says _ _ _ refl (refl, (refl, (refl, tt)))
+
+-- `--lines` stands twice
+pub lines_given_twice : IsRefusedAt (words_of (codes "asm p --lines --labels --lines")) 5
+unfolding command_kind_of choice_of is_among rest_after is_file_name is_dumps dumps_of decimal_value
+lines_given_twice = read-refuses (words_of (codes "asm p --lines --labels --lines")) 5 refl
 
 -- `--labels` stands twice
 pub labels_given_twice : IsRefusedAt (words_of (codes "asm p --labels --labels")) 4
@@ -204,6 +220,26 @@ resume_without_rounds = read-refuses (words_of (codes "resume s")) 3 refl
 pub resume_with_a_seed : IsRefusedAt (words_of (codes "resume s --seed 1")) 3
 unfolding command_kind_of choice_of is_among rest_after is_file_name is_dumps dumps_of decimal_value
 resume_with_a_seed = read-refuses (words_of (codes "resume s --seed 1")) 3 refl
+
+-- without its free option a saved game goes on with one worker
+pub advance_defaults : Says Advance (codes "advance s --rounds 2")
+    (AtFile 0 (codes "s") ∷ OptionIs Rounds 2 ∷ OptionIs Workers 1 ∷ [])
+unfolding command_kind_of choice_of is_among rest_after is_file_name is_dumps dumps_of decimal_value
+advance_defaults = says _ _ _ refl (refl, (refl, (refl, tt)))
+
+pub advance_all : Says Advance (codes "advance - --workers 16 --rounds 1000000")
+    (AtFile 0 (codes "-") ∷ OptionIs Rounds 1000000 ∷ OptionIs Workers 16 ∷ [])
+unfolding command_kind_of choice_of is_among rest_after is_file_name is_dumps dumps_of decimal_value
+advance_all = says _ _ _ refl (refl, (refl, (refl, tt)))
+
+-- it needs its rounds, and has one file
+pub advance_without_rounds : IsRefusedAt (words_of (codes "advance s --workers 2")) 5
+unfolding command_kind_of choice_of is_among rest_after is_file_name is_dumps dumps_of decimal_value
+advance_without_rounds = read-refuses (words_of (codes "advance s --workers 2")) 5 refl
+
+pub advance_two_files : IsRefusedAt (words_of (codes "advance s k --rounds 2")) 3
+unfolding command_kind_of choice_of is_among rest_after is_file_name is_dumps dumps_of decimal_value
+advance_two_files = read-refuses (words_of (codes "advance s k --rounds 2")) 3 refl
 
 -- the words that ask for the commands, and for the version
 pub help_command : Says Help (codes "--help")
@@ -349,9 +385,20 @@ profile_surround_too_great = read-refuses (words_of (codes "profile w r b --surr
 
 -- two brains
 pub same_command : Says Same (codes "same a -")
-    (AtFile 0 (codes "a") ∷ AtFile 1 (codes "-") ∷ [])
+    (AtFile 0 (codes "a") ∷ AtFile 1 (codes "-") ∷ IsGivenAs Way false ∷ [])
 unfolding command_kind_of choice_of is_among rest_after is_file_name is_dumps dumps_of decimal_value
-same_command = says _ _ _ refl (refl, (refl, tt))
+same_command = says _ _ _ refl (refl, (refl, (refl, tt)))
+
+-- the way to the difference
+pub same_way : Says Same (codes "same a b --way")
+    (AtFile 0 (codes "a") ∷ AtFile 1 (codes "b") ∷ IsGivenAs Way true ∷ [])
+unfolding command_kind_of choice_of is_among rest_after is_file_name is_dumps dumps_of decimal_value
+same_way = says _ _ _ refl (refl, (refl, (refl, tt)))
+
+-- not before the second file
+pub way_before_a_file : IsRefusedAt (words_of (codes "same a --way b")) 3
+unfolding command_kind_of choice_of is_among rest_after is_file_name is_dumps dumps_of decimal_value
+way_before_a_file = read-refuses (words_of (codes "same a --way b")) 3 refl
 
 -- one brain is a beginning
 pub same_one : IsRefusedAt (words_of (codes "same a")) 3

@@ -44,7 +44,7 @@ abbrev shared_options : List (List ℕ)
 shared_options = game_options ++ shape_options ++ common_options
 
 abbrev own_options : List (List ℕ)
-own_options = (codes "--from") ∷ (codes "--labels") ∷ (codes "--states") ∷ (codes "--games") ∷ []
+own_options = (codes "--from") ∷ (codes "--labels") ∷ (codes "--lines") ∷ (codes "--states") ∷ (codes "--way") ∷ (codes "--games") ∷ []
 
 -- all options
 abbrev all_options : List (List ℕ)
@@ -54,31 +54,31 @@ all_options = shared_options ++ own_options
 pub show_takes_none : AreRefusedAfter (codes "show w 1") 4 all_options
 unfolding command_kind_of choice_of is_among rest_after is_file_name is_dumps dumps_of decimal_value
 show_takes_none = refused_after (codes "show w 1") 4 all_options
-    (refl, (refl, (refl, (refl, (refl, (refl, (refl, (refl, (refl, (refl, (refl, (refl, (refl, (refl, (refl, (refl, (refl, (refl, tt))))))))))))))))))
+    (refl, (refl, (refl, (refl, (refl, (refl, (refl, (refl, (refl, (refl, (refl, (refl, (refl, (refl, (refl, (refl, (refl, (refl, (refl, (refl, tt))))))))))))))))))))
 
 -- `brain` takes no option
 pub brain_takes_none : AreRefusedAfter (codes "brain b") 3 all_options
 unfolding command_kind_of choice_of is_among rest_after is_file_name is_dumps dumps_of decimal_value
 brain_takes_none = refused_after (codes "brain b") 3 all_options
-    (refl, (refl, (refl, (refl, (refl, (refl, (refl, (refl, (refl, (refl, (refl, (refl, (refl, (refl, (refl, (refl, (refl, (refl, tt))))))))))))))))))
+    (refl, (refl, (refl, (refl, (refl, (refl, (refl, (refl, (refl, (refl, (refl, (refl, (refl, (refl, (refl, (refl, (refl, (refl, (refl, (refl, tt))))))))))))))))))))
 
 -- `minimise` takes `--states` alone
-pub minimise_takes_one : AreRefusedAfter (codes "minimise b") 3 (shared_options ++ (codes "--from") ∷ (codes "--labels") ∷ (codes "--games") ∷ [])
+pub minimise_takes_one : AreRefusedAfter (codes "minimise b") 3 (shared_options ++ (codes "--from") ∷ (codes "--labels") ∷ (codes "--lines") ∷ (codes "--way") ∷ (codes "--games") ∷ [])
 unfolding command_kind_of choice_of is_among rest_after is_file_name is_dumps dumps_of decimal_value
-minimise_takes_one = refused_after (codes "minimise b") 3 (shared_options ++ (codes "--from") ∷ (codes "--labels") ∷ (codes "--games") ∷ [])
-    (refl, (refl, (refl, (refl, (refl, (refl, (refl, (refl, (refl, (refl, (refl, (refl, (refl, (refl, (refl, (refl, (refl, tt)))))))))))))))))
+minimise_takes_one = refused_after (codes "minimise b") 3 (shared_options ++ (codes "--from") ∷ (codes "--labels") ∷ (codes "--lines") ∷ (codes "--way") ∷ (codes "--games") ∷ [])
+    (refl, (refl, (refl, (refl, (refl, (refl, (refl, (refl, (refl, (refl, (refl, (refl, (refl, (refl, (refl, (refl, (refl, (refl, (refl, tt)))))))))))))))))))
 
--- `asm` takes `--labels` alone
-pub asm_takes_one : AreRefusedAfter (codes "asm p") 3 (shared_options ++ (codes "--from") ∷ (codes "--states") ∷ (codes "--games") ∷ [])
+-- `asm` takes `--labels` and `--lines` alone
+pub asm_takes_two : AreRefusedAfter (codes "asm p") 3 (shared_options ++ (codes "--from") ∷ (codes "--states") ∷ (codes "--way") ∷ (codes "--games") ∷ [])
 unfolding command_kind_of choice_of is_among rest_after is_file_name is_dumps dumps_of decimal_value
-asm_takes_one = refused_after (codes "asm p") 3 (shared_options ++ (codes "--from") ∷ (codes "--states") ∷ (codes "--games") ∷ [])
-    (refl, (refl, (refl, (refl, (refl, (refl, (refl, (refl, (refl, (refl, (refl, (refl, (refl, (refl, (refl, (refl, (refl, tt)))))))))))))))))
+asm_takes_two = refused_after (codes "asm p") 3 (shared_options ++ (codes "--from") ∷ (codes "--states") ∷ (codes "--way") ∷ (codes "--games") ∷ [])
+    (refl, (refl, (refl, (refl, (refl, (refl, (refl, (refl, (refl, (refl, (refl, (refl, (refl, (refl, (refl, (refl, (refl, (refl, tt))))))))))))))))))
 
 -- `workload` takes no option
 pub workload_takes_none : AreRefusedAfter (codes "workload 1 2 3") 5 all_options
 unfolding command_kind_of choice_of is_among rest_after is_file_name is_dumps dumps_of decimal_value
 workload_takes_none = refused_after (codes "workload 1 2 3") 5 all_options
-    (refl, (refl, (refl, (refl, (refl, (refl, (refl, (refl, (refl, (refl, (refl, (refl, (refl, (refl, (refl, (refl, (refl, (refl, tt))))))))))))))))))
+    (refl, (refl, (refl, (refl, (refl, (refl, (refl, (refl, (refl, (refl, (refl, (refl, (refl, (refl, (refl, (refl, (refl, (refl, (refl, (refl, tt))))))))))))))))))))
 
 -- `run` takes no option of a world
 pub run_takes_no_shape : AreRefusedAfter (codes "run w r b") 5 shape_options
@@ -100,6 +100,12 @@ pub resume_takes_four : AreRefusedAfter (codes "resume k") 3 (held_options ++ (c
 unfolding command_kind_of choice_of is_among rest_after is_file_name is_dumps dumps_of decimal_value
 resume_takes_four = refused_after (codes "resume k") 3 (held_options ++ (codes "--far") ∷ shape_options)
     (refl, (refl, (refl, (refl, (refl, (refl, (refl, (refl, (refl, (refl, tt))))))))))
+
+-- nor does `advance`, and it writes no dumps and no counts
+pub advance_takes_two : AreRefusedAfter (codes "advance k") 3 (held_options ++ (codes "--dump") ∷ (codes "--stats") ∷ (codes "--far") ∷ (shape_options ++ own_options))
+unfolding command_kind_of choice_of is_among rest_after is_file_name is_dumps dumps_of decimal_value
+advance_takes_two = refused_after (codes "advance k") 3 (held_options ++ (codes "--dump") ∷ (codes "--stats") ∷ (codes "--far") ∷ (shape_options ++ own_options))
+    (refl, (refl, (refl, (refl, (refl, (refl, (refl, (refl, (refl, (refl, (refl, (refl, (refl, (refl, (refl, (refl, (refl, (refl, tt))))))))))))))))))
 
 -- `gen` takes no option of a game
 pub gen_takes_no_game : AreRefusedAfter (codes "gen 1") 3 (game_options ++ common_options)
@@ -129,24 +135,24 @@ trace_takes_few = refused_after (codes "trace w r b 1") 6 ((codes "--dump") ∷ 
 pub events_takes_few : AreRefusedAfter (codes "events w r b") 5 ((codes "--dump") ∷ (codes "--workers") ∷ (codes "--window") ∷ (codes "--stats") ∷ (codes "--far") ∷ (shape_options ++ own_options))
 unfolding command_kind_of choice_of is_among rest_after is_file_name is_dumps dumps_of decimal_value
 events_takes_few = refused_after (codes "events w r b") 5 ((codes "--dump") ∷ (codes "--workers") ∷ (codes "--window") ∷ (codes "--stats") ∷ (codes "--far") ∷ (shape_options ++ own_options))
-    (refl, (refl, (refl, (refl, (refl, (refl, (refl, (refl, (refl, (refl, (refl, (refl, (refl, tt)))))))))))))
+    (refl, (refl, (refl, (refl, (refl, (refl, (refl, (refl, (refl, (refl, (refl, (refl, (refl, (refl, (refl, tt)))))))))))))))
 
 pub profile_takes_few : AreRefusedAfter (codes "profile w r b") 5 ((codes "--dump") ∷ (codes "--workers") ∷ (codes "--window") ∷ (codes "--stats") ∷ (codes "--far") ∷ (shape_options ++ own_options))
 unfolding command_kind_of choice_of is_among rest_after is_file_name is_dumps dumps_of decimal_value
 profile_takes_few = refused_after (codes "profile w r b") 5 ((codes "--dump") ∷ (codes "--workers") ∷ (codes "--window") ∷ (codes "--stats") ∷ (codes "--far") ∷ (shape_options ++ own_options))
-    (refl, (refl, (refl, (refl, (refl, (refl, (refl, (refl, (refl, (refl, (refl, (refl, (refl, tt)))))))))))))
+    (refl, (refl, (refl, (refl, (refl, (refl, (refl, (refl, (refl, (refl, (refl, (refl, (refl, (refl, (refl, tt)))))))))))))))
 
--- `same` takes no option
-pub same_takes_none : AreRefusedAfter (codes "same a b") 4 all_options
+-- `same` takes `--way` alone
+pub same_takes_one : AreRefusedAfter (codes "same a b") 4 (shared_options ++ (codes "--from") ∷ (codes "--labels") ∷ (codes "--lines") ∷ (codes "--states") ∷ (codes "--games") ∷ [])
 unfolding command_kind_of choice_of is_among rest_after is_file_name is_dumps dumps_of decimal_value
-same_takes_none = refused_after (codes "same a b") 4 all_options
-    (refl, (refl, (refl, (refl, (refl, (refl, (refl, (refl, (refl, (refl, (refl, (refl, (refl, (refl, (refl, (refl, (refl, (refl, tt))))))))))))))))))
+same_takes_one = refused_after (codes "same a b") 4 (shared_options ++ (codes "--from") ∷ (codes "--labels") ∷ (codes "--lines") ∷ (codes "--states") ∷ (codes "--games") ∷ [])
+    (refl, (refl, (refl, (refl, (refl, (refl, (refl, (refl, (refl, (refl, (refl, (refl, (refl, (refl, (refl, (refl, (refl, (refl, (refl, tt)))))))))))))))))))
 
 -- nor does `run` take an option of one other command
 pub run_takes_no_own : AreRefusedAfter (codes "run w r b") 5 own_options
 unfolding command_kind_of choice_of is_among rest_after is_file_name is_dumps dumps_of decimal_value
 run_takes_no_own = refused_after (codes "run w r b") 5 own_options
-    (refl, (refl, (refl, (refl, tt))))
+    (refl, (refl, (refl, (refl, (refl, (refl, tt))))))
 
 -- the greatest seed of a game
 pub run_greatest_seed : Says Run (codes "run w r b --seed 4294967295 --rounds 1000000")

@@ -10,9 +10,9 @@ use Rattle.command_words.specs.declared.slot.Slot.TheVariants.{FileName, Number,
 use Rattle.command_words.specs.declared.slot.Place.{Place}
 use Rattle.command_words.specs.declared.slot.Place.TheVariants.{Word, Names}
 use Rattle.command_words.specs.declared.table.CommandKind.{CommandKind}
-use Rattle.command_words.specs.declared.table.CommandKind.TheVariants.{Show, Brain, Minimise, Run, Gen, Cup, View, Workload, Help, HelpWord, Version, Asm, Save, Resume, Trace, Same, Events, Profile}
+use Rattle.command_words.specs.declared.table.CommandKind.TheVariants.{Show, Brain, Minimise, Run, Gen, Cup, View, Workload, Help, HelpWord, Version, Asm, Save, Resume, Trace, Same, Events, Profile, Advance}
 use Rattle.command_words.specs.declared.table.Choice.{Choice}
-use Rattle.command_words.specs.declared.table.Choice.TheVariants.{Seed, Rounds, Dump, Workers, Window, Surround, Corpse, Rest, Stats, Far, Width, Height, Rocks, Blobs, From, Labels, States, Games}
+use Rattle.command_words.specs.declared.table.Choice.TheVariants.{Seed, Rounds, Dump, Workers, Window, Surround, Corpse, Rest, Stats, Far, Width, Height, Rocks, Blobs, From, Labels, States, Games, Lines, Way}
 
 -- a command: its first word, what stands after that, and its options, which follow in any order
 pub record CommandRow : Type 0 where
@@ -41,7 +41,7 @@ cup_places = Word (Keyword Worlds) ∷ Names Worlds ∷ Word (Keyword Brains) �
 
 -- all commands that are known, in the order of the page of `--help`
 abbrev pub kinds : List CommandKind
-kinds = Run ∷ Save ∷ Resume ∷ View ∷ Trace ∷ Events ∷ Profile ∷ Cup ∷ Workload ∷ Show ∷ Gen ∷ Brain ∷ Minimise ∷ Same ∷ Asm ∷ HelpWord ∷ Help ∷ Version ∷ []
+kinds = Run ∷ Save ∷ Resume ∷ Advance ∷ View ∷ Trace ∷ Events ∷ Profile ∷ Cup ∷ Workload ∷ Show ∷ Gen ∷ Brain ∷ Minimise ∷ Same ∷ Asm ∷ HelpWord ∷ Help ∷ Version ∷ []
 
 abbrev pub row_of : CommandKind → CommandRow
 row_of Show = command_row (codes "show") (Word FileName ∷ number_place SeedNumber ∷ []) []
@@ -55,13 +55,14 @@ row_of Workload = command_row (codes "workload") (number_place SeedNumber ∷ nu
 row_of Help = command_row (codes "--help") [] []
 row_of HelpWord = command_row (codes "help") [] []
 row_of Version = command_row (codes "--version") [] []
-row_of Asm = command_row (codes "asm") one_file (Labels ∷ [])
+row_of Asm = command_row (codes "asm") one_file (Labels ∷ Lines ∷ [])
 row_of Save = command_row (codes "save") game_places (Seed ∷ Rounds ∷ Workers ∷ Window ∷ Surround ∷ Corpse ∷ Rest ∷ [])
 row_of Resume = command_row (codes "resume") one_file (Rounds ∷ Dump ∷ Workers ∷ Stats ∷ [])
 row_of Trace = command_row (codes "trace") trace_places (Seed ∷ Rounds ∷ From ∷ Surround ∷ Corpse ∷ Rest ∷ [])
-row_of Same = command_row (codes "same") (Word FileName ∷ one_file) []
+row_of Same = command_row (codes "same") (Word FileName ∷ one_file) (Way ∷ [])
 row_of Events = command_row (codes "events") game_places (Seed ∷ Rounds ∷ Surround ∷ Corpse ∷ Rest ∷ [])
 row_of Profile = command_row (codes "profile") game_places (Seed ∷ Rounds ∷ Surround ∷ Corpse ∷ Rest ∷ [])
+row_of Advance = command_row (codes "advance") one_file (Rounds ∷ Workers ∷ [])
 
 -- what the page of `--help` has of a command: its places by name, each behind a space, and a sentence
 pub record CommandHelp : Type 0 where
@@ -75,6 +76,7 @@ abbrev pub help_row : CommandKind → CommandHelp
 help_row Run = command_help (codes " WORLD RED BLACK") (codes "plays a game between two brains, and prints its score")
 help_row Save = command_help (codes " WORLD RED BLACK") (codes "plays a game up to a round, and prints all that it takes to go on")
 help_row Resume = command_help (codes " SAVE") (codes "goes on with a saved game, and prints the rest of what run prints")
+help_row Advance = command_help (codes " SAVE") (codes "goes on with a saved game up to a round, and prints a save of it there")
 help_row View = command_help (codes " WORLD RED BLACK BREAKS") (codes "plays a game up to the first of its breaks, and prints the world there")
 help_row Trace = command_help (codes " WORLD RED BLACK ID") (codes "plays a game, and prints where one ant is after each round")
 help_row Events = command_help (codes " WORLD RED BLACK") (codes "plays a game, and prints who died, and how the score went")
@@ -138,6 +140,8 @@ option_row From = number_option (codes "--from") RoundCount 0
 option_row Labels = flag_option (codes "--labels")
 option_row States = flag_option (codes "--states")
 option_row Games = flag_option (codes "--games")
+option_row Lines = flag_option (codes "--lines")
+option_row Way = flag_option (codes "--way")
 
 abbrev pub option_of : Choice → List ℕ
 option_of choice = (option_row choice).word
@@ -154,7 +158,7 @@ default_of choice = (option_row choice).default
 
 -- all options, in the order of the page of `--help`
 abbrev pub options : List Choice
-options = Seed ∷ Rounds ∷ Dump ∷ Workers ∷ Window ∷ Surround ∷ Corpse ∷ Rest ∷ From ∷ Stats ∷ Far ∷ Width ∷ Height ∷ Rocks ∷ Blobs ∷ Games ∷ States ∷ Labels ∷ []
+options = Seed ∷ Rounds ∷ Dump ∷ Workers ∷ Window ∷ Surround ∷ Corpse ∷ Rest ∷ From ∷ Stats ∷ Far ∷ Width ∷ Height ∷ Rocks ∷ Blobs ∷ Games ∷ States ∷ Way ∷ Labels ∷ Lines ∷ []
 
 -- what the page says of an option
 abbrev pub about_of : Choice → List ℕ
@@ -176,6 +180,8 @@ about_of Blobs = codes "heaps of food that are placed"
 about_of Games = codes "prints the line of each game before the standing"
 about_of States = codes "prints the new number of each state, not the brain"
 about_of Labels = codes "prints which state each label leads to, not the brain"
+about_of Lines = codes "prints which line each state comes from, not the brain"
+about_of Way = codes "prints each answer on the way to the states that differ"
 
 -- a command's row has a file at a place, counted from 0, or a number
 abbrev pub is_file : Option Place → Bool

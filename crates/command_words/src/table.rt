@@ -29,7 +29,7 @@ pub enum CommandKind {
     HelpWord,
     /// `--version`: which program this is
     Version,
-    /// `asm FILE`, and its option: the brain of a labelled program, or what its labels lead to
+    /// `asm FILE`, and its options: the brain of a labelled program, or what its labels lead to and which lines its states come from
     Asm,
     /// `save WORLD RED BLACK`, and its options: a game after some rounds, to go on with
     Save,
@@ -37,12 +37,14 @@ pub enum CommandKind {
     Resume,
     /// `trace WORLD RED BLACK ID`, and its options: an ant's way, round by round
     Trace,
-    /// `same FILE FILE`: whether two brains are the same, or where they first differ
+    /// `same FILE FILE`, and its option: whether two brains are the same, or where they first differ
     Same,
     /// `events WORLD RED BLACK`, and its options: who dies in a game, and how the score goes, turn by turn
     Events,
     /// `profile WORLD RED BLACK`, and its options: how often each state of both brains is executed in a game
     Profile,
+    /// `advance SAVE`, and its options: a saved game after more rounds, saved again
+    Advance,
 }
 
 /// An option that may follow the words of a command's places, in any order and at most once.
@@ -84,6 +86,10 @@ pub enum Choice {
     States,
     /// `--games`, whether the line of each game is wanted before the standing
     Games,
+    /// `--lines`, whether the line that each state comes from is wanted in place of the brain
+    Lines,
+    /// `--way`, whether each answer on the way to the difference is wanted
+    Way,
 }
 
 /// A list of file names, after a word of its own.
@@ -107,6 +113,7 @@ pub(crate) fn kinds() -> &'static [CommandKind]
         CommandKind::Run,
         CommandKind::Save,
         CommandKind::Resume,
+        CommandKind::Advance,
         CommandKind::View,
         CommandKind::Trace,
         CommandKind::Events,
@@ -249,7 +256,7 @@ impl CommandKind {
             CommandKind::Asm => CommandRow {
                 word: "asm",
                 places: &[FILE],
-                choices: &[Choice::Labels],
+                choices: &[Choice::Labels, Choice::Lines],
                 names: " FILE",
                 says: "prints the brain of a program with labels and blocks",
             },
@@ -297,7 +304,7 @@ impl CommandKind {
             CommandKind::Same => CommandRow {
                 word: "same",
                 places: &[FILE, FILE],
-                choices: &[],
+                choices: &[Choice::Way],
                 names: " FILE FILE",
                 says: "says whether two brains are the same but for the numbers of their states",
             },
@@ -326,6 +333,13 @@ impl CommandKind {
                 ],
                 names: " WORLD RED BLACK",
                 says: "plays a game, and prints how often each state was executed",
+            },
+            CommandKind::Advance => CommandRow {
+                word: "advance",
+                places: &[FILE],
+                choices: &[Choice::Rounds, Choice::Workers],
+                names: " SAVE",
+                says: "goes on with a saved game up to a round, and prints a save of it there",
             },
         }
     }
@@ -386,7 +400,9 @@ pub(crate) fn options() -> &'static [Choice]
         Choice::Blobs,
         Choice::Games,
         Choice::States,
+        Choice::Way,
         Choice::Labels,
+        Choice::Lines,
     ]
 }
 
@@ -505,6 +521,14 @@ impl Choice {
             Choice::Games => flag(
                 "--games",
                 "prints the line of each game before the standing",
+            ),
+            Choice::Lines => flag(
+                "--lines",
+                "prints which line each state comes from, not the brain",
+            ),
+            Choice::Way => flag(
+                "--way",
+                "prints each answer on the way to the states that differ",
             ),
         }
     }

@@ -1,10 +1,9 @@
 -- That each text is read in one way, or refused in one way (this project's own).
 use Rattle.std.specs.Prelude.{◌≡◌, ◌⊎◌, ℕ, List}
-use Rattle.ant_asm.specs.Labels.{AreLabelsOf}
 use Rattle.brain_read.specs.Grammar.{IsBrainText}
 use Rattle.world_read.specs.Opened.{OpensAs}
 use Rattle.text_fault.specs.declared.fault.TextFault.{TextFault}
-use Rattle.text_fault.specs.Opens.{IsProgramOf, IsSaveWithin}
+use Rattle.text_fault.specs.Opens.{IsProgramOf, IsSaveWithin, IsSourceOf}
 use Rattle.text_fault.specs.Refusals.{IsNoBrain, IsNoProgram, IsNoSave, IsNoWorld}
 
 -- a text has exactly one value, or exactly one fault, and never both
@@ -14,10 +13,10 @@ pub record HasOneVerdict {V : Type 0} (Is : List ℕ → V → Type 0) (Wrong : 
   pub one_fault : (a b : TextFault) → Wrong text a → Wrong text b → a ≡ b
   pub never_both : (value : V) (fault : TextFault) → Is text value → Wrong text fault → ⊥
 
--- as a world's, a brain's, a labelled program's with its brain or with its labels, and as that of a save of which at most so many rounds are done
+-- as a world's, a brain's, a labelled program's with its brain or with where its labels and states stand, and as that of a save of which at most so many rounds are done
 pub record EveryTextHasOneVerdict : Type 0 where
   pub of_world : (text : List ℕ) → HasOneVerdict OpensAs IsNoWorld text
   pub of_brain : (text : List ℕ) → HasOneVerdict IsBrainText IsNoBrain text
   pub of_program : (text : List ℕ) → HasOneVerdict IsProgramOf IsNoProgram text
-  pub of_labels : (text : List ℕ) → HasOneVerdict AreLabelsOf IsNoProgram text
+  pub of_source : (text : List ℕ) → HasOneVerdict IsSourceOf IsNoProgram text
   pub of_save : (rounds : ℕ) (text : List ℕ) → HasOneVerdict (IsSaveWithin rounds) (IsNoSave rounds) text

@@ -1,17 +1,20 @@
 // Texts that are opened.
 ghost use Rattle.std.specs.Prelude.{◌≡◌, ◌<◌, ◌≤◌, IfErr, IfOk, length};
-ghost use Rattle.ant_asm.specs.Labels.{AreLabelsOf};
+ghost use Rattle.ant_asm.specs.Text.{IsAsmFault};
+ghost use Rattle.ant_asm.specs.declared.fault.AsmFault.TheVariants.{OutOfMemory};
+ghost use Rattle.ant_base.specs.Answers.{IsFaultOr};
 ghost use Rattle.ant_base.specs.Shelf.{longest};
 ghost use Rattle.brain_read.specs.Grammar.{IsBrainText};
 ghost use Rattle.world_read.specs.Opened.{IsOpeningWorld, OpensAs};
-ghost use Rattle.text_fault.specs.Opens.{IsProgramOf, IsSaveWithin, Opens};
+ghost use Rattle.text_fault.specs.Opens.{IsProgramOf, IsSaveWithin, IsSourceOf, Opens};
 ghost use Rattle.text_fault.specs.Refusals.{IsNoBrain, IsNoProgram, IsNoSave, IsNoWorld};
 ghost use Rattle.text_fault.specs.declared.fault.TextFault.TheVariants.{TooLong};
 ghost use Rattle.text_fault.specs.declared.stop.TextStop.TheVariants.{Refused};
 
 use crate::fault::TextFault;
+use crate::source::Source;
 use crate::stop::TextStop;
-use ant_asm::{AsmFault, Assembled, Labels, assemble, read_labels};
+use ant_asm::{AsmFault, Assembled, assemble, read_labels, read_state_lines};
 use ant_base::LONGEST;
 use brain_read::{Brain, BrainFault, read_brain};
 use cell_world::World;
@@ -67,16 +70,27 @@ pub fn open_program(alloc: Global, text: &[u8]) -> Result<Assembled, TextStop>
     }
 }
 
-/// The labels of a labelled program, with the state to which each leads; it has the faults of `open_program`.
-pub fn open_labels(alloc: Global, text: &[u8]) -> Result<Labels, TextStop>
-    ensures { Opens AreLabelsOf IsNoProgram text.now result }
+/// Where the labels and the states of a labelled program stand; it has the faults of `open_program`.
+pub fn open_source(alloc: Global, text: &[u8]) -> Result<Source, TextStop>
+    ensures { Opens IsSourceOf IsNoProgram text.now result }
 {
     check_length(text)?;
-    match read_labels(alloc, text) {
-        Ok(labels) => Ok(labels),
+    match read_source(alloc, text) {
+        Ok(source) => Ok(source),
         Err(AsmFault::OutOfMemory) => Err(TextStop::OutOfMemory),
         Err(fault) => Err(TextStop::Refused(TextFault::Labelled(fault))),
     }
+}
+
+// The labels of a program and the lines of its states, each read of the whole text.
+fn read_source(alloc: Global, text: &[u8]) -> Result<Source, AsmFault>
+    requires { length text.now ≤ longest }
+    ensures source { IfOk result (IsSourceOf text.now) }
+    ensures fault { IfErr result (IsFaultOr OutOfMemory (IsAsmFault text.now)) }
+{
+    let labels = read_labels(alloc, text)?;
+    let lines = read_state_lines(alloc, text)?;
+    Ok(Source { labels, lines })
 }
 
 /// The save of a text, where at most so many of its rounds are done. Lines of a fault are counted from 1; a save of which more rounds are done

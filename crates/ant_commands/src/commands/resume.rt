@@ -32,8 +32,8 @@ fn read_save<'w>(
     named(name, open_save(alloc, bytes, rounds))
 }
 
-// The save of a file, of which at most so many rounds are done.
-fn saved_in<'w, S: Shelf>(
+/// The save of a file, of which at most so many rounds are done.
+pub fn saved_in<'w, S: Shelf>(
     alloc: Global,
     shelf: &mut S,
     name: &'w str,

@@ -9,7 +9,7 @@ use crate::files::read_file;
 use crate::stop::{CommandStop, after_push};
 use ant_base::{Layout, Shelf, Sink};
 use brain_read::Brain;
-use brain_same::compare;
+use brain_same::{compare, compare_way};
 use std::alloc::Global;
 
 // What the files of two brains were read as.
@@ -34,17 +34,23 @@ fn pair_of<'w, S: Shelf>(
     Ok(Pair { first, second })
 }
 
-/// Writes whether two brains are the same but for the numbers of their states, or where they first differ.
+/// Writes whether two brains are the same but for the numbers of their states, or where they first differ; where the way is wanted, with a line
+/// for each answer that leads there.
 pub fn same<'w, S: Shelf, K: Sink>(
     alloc: Global,
     first: &'w str,
     second: &'w str,
+    way: bool,
     shelf: &mut S,
     out: &mut K,
 ) -> Result<(), CommandStop<'w>>
-    ensures { CarriesOut (same_job first.now second.now) (S.state shelf.old) (S.state shelf.new) (K.state out.old) (K.state out.new) (ending_of result) }
+    ensures { CarriesOut (same_job first.now second.now way) (S.state shelf.old) (S.state shelf.new) (K.state out.old) (K.state out.new) (ending_of result) }
 {
     let pair = pair_of(alloc, first, second, shelf)?;
+    if way {
+        let found = compare_way(alloc, &pair.first, &pair.second)?;
+        return after_push(found.push_to(out));
+    }
     let comparison = compare(alloc, &pair.first, &pair.second)?;
     after_push(comparison.push_to(out))
 }

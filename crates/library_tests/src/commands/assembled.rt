@@ -149,6 +149,86 @@ fn the_labels_are_told_in_place_of_the_brain(rt: HostRuntime) -> Result<(), Fail
     check_tables(&rt, rt.alloc(), &TOLD_LABELS)
 }
 
+// The command that tells the line of each state in place of the brain, and the one that tells the labels before.
+const LINES: Job<'static> = Job {
+    line: "asm r --lines",
+    ..NO_JOB
+};
+
+const BOTH: Job<'static> = Job {
+    line: "asm r --lines --labels",
+    ..NO_JOB
+};
+
+// Labelled programs, and the line of each state, with the uses on the way to its body, from main on.
+const STANDING: [(&str, &str); 4] = [
+    (
+        "block left on\nturn:\nTurn Left on\nend\nblock half on\nuse left next\nmid:\nuse left on\nlast:\nend\n\
+        start:\nuse half next\nuse half start\nstop:\n",
+        "0 3 half@12/left@6\n1 3 half@12/left@8\n2 3 half@13/left@6\n3 3 half@13/left@8\n",
+    ),
+    (BACK, "0 7\n1 2 back@9\n2 3 back@9\n3 4 back@9\n"),
+    ("block idle\nhere:\nDrop here\nend\nDrop next\n", "0 5\n"),
+    ("Drop next", "0 1\n"),
+];
+
+// Labelled programs, and both. The second has no label.
+const TOLD_TWICE: [(&str, &str); 2] = [
+    (
+        BACK,
+        "0 go\n1 stuck\n0 7\n1 2 back@9\n2 3 back@9\n3 4 back@9\n",
+    ),
+    ("Drop next", "0 1\n"),
+];
+
+static TOLD_LINES: [Table<'static>; 4] = [
+    Table {
+        job: LINES,
+        given: Given::Red,
+        status: Status::Done,
+        rows: &STANDING,
+    },
+    Table {
+        job: BOTH,
+        given: Given::Red,
+        status: Status::Done,
+        rows: &TOLD_TWICE,
+    },
+    Table {
+        job: LINES,
+        given: Given::Red,
+        status: Status::Input,
+        rows: &UNTOLD,
+    },
+    Table {
+        job: BOTH,
+        given: Given::Red,
+        status: Status::Input,
+        rows: &UNTOLD,
+    },
+];
+
+#[test]
+fn the_lines_of_states_are_told_behind_the_labels(rt: HostRuntime) -> Result<(), Fail> {
+    check_tables(&rt, rt.alloc(), &TOLD_LINES)
+}
+
+// The labels and the lines of a program for whose first line of a state the output has no room.
+static NO_ROOM_FOR_LINES: [CutRun<'static>; 1] = [CutRun {
+    job: Job {
+        red: BACK,
+        room: 13,
+        ..BOTH
+    },
+    held: "0 go\n1 stuck\n",
+    line: "ants: output failed\n",
+}];
+
+#[test]
+fn lines_of_states_that_are_cut_are_a_failed_output(rt: HostRuntime) -> Result<(), Fail> {
+    check_cuts(&rt, rt.alloc(), &NO_ROOM_FOR_LINES)
+}
+
 // An assembled brain for whose second line the output has no room.
 static NO_ROOM: [CutRun<'static>; 1] = [CutRun {
     job: Job {

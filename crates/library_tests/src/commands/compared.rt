@@ -1,5 +1,5 @@
 // The command `same`.
-use crate::commands::{CutRun, Given, Job, NO_JOB, Table, check_cuts, check_rows};
+use crate::commands::{CutRun, Given, Job, NO_JOB, Table, check_cuts, check_rows, check_tables};
 use ant_commands::Status;
 use std::test::Fail;
 
@@ -62,6 +62,59 @@ fn two_brains_are_compared(rt: HostRuntime) -> Result<(), Fail> {
     check_rows(&rt, rt.alloc(), &COMPARED_BRAINS)?;
     check_rows(&rt, rt.alloc(), &REFUSED_BRAINS)?;
     check_rows(&rt, rt.alloc(), &REFUSED_SECONDS)
+}
+
+// The way to a difference.
+const WAY: Job<'static> = Job {
+    line: "same r b --way",
+    ..COMPARE
+};
+
+const WAYS: [(&str, &str); 3] = [
+    ("Drop 1\nDrop 0", "same\n"),
+    (
+        "Move 0 0",
+        "different after 0 answers\nfirst 0: Move 0 0\nsecond 0: Drop 0\n",
+    ),
+    (
+        "drop 2\nDrop 0\nTurn Left 0",
+        "different after 1 answers\nfirst 0: Drop 2, second 0: Drop 0: met\nfirst 2: Turn Left 0\nsecond 0: Drop 0\n",
+    ),
+];
+
+// First brains beside one that moves: met, both move again, until both come to the other answer.
+const LONGER_WAYS: [(&str, &str); 1] = [(
+    "Move 0 1\nTurn Left 2\nDrop 0",
+    "different after 2 answers\nfirst 0: Move 0 1, second 0: Move 0 2: unmet\nfirst 1: Turn Left 2, second 2: Turn Left 1: met\nfirst 2: Drop 0\nsecond 1: Move 0 0\n",
+)];
+
+static WAYS_TO_DIFFERENCES: [Table<'static>; 3] = [
+    Table {
+        job: WAY,
+        given: Given::Red,
+        status: Status::Done,
+        rows: &WAYS,
+    },
+    Table {
+        job: Job {
+            black: "Move 0 2\nMove 0 0\nTurn Left 1",
+            ..WAY
+        },
+        given: Given::Red,
+        status: Status::Done,
+        rows: &LONGER_WAYS,
+    },
+    Table {
+        job: WAY,
+        given: Given::Red,
+        status: Status::Input,
+        rows: &REFUSED,
+    },
+];
+
+#[test]
+fn the_way_to_a_difference_is_told(rt: HostRuntime) -> Result<(), Fail> {
+    check_tables(&rt, rt.alloc(), &WAYS_TO_DIFFERENCES)
 }
 
 // A comparison of which the output has room for 17 bytes alone.

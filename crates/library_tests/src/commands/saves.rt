@@ -1,4 +1,4 @@
-// The commands `save` and `resume`.
+// The commands `save`, `resume` and `advance`.
 use crate::commands::{
     CLOSED, Given, Job, NO_JOB, Table, check_rows, check_tables, check_with, stopped,
 };
@@ -108,6 +108,43 @@ const REFUSED: [(&str, &str); 4] = [
     ),
 ];
 
+// Words that go on with it and save it again.
+const ADVANCES: [(&str, &str); 3] = [
+    (
+        "advance k --rounds 2",
+        "ants save 1\nseed 12345\nsheet 5 3 14\nwindow 16384\nround 2\nplace 0\ntaken 2 redone 0\nsize 3 3\nred 1\nTurn Left 0\nblack 1\nTurn Left 0\n###\n#+#\n###\n000\n000\n000\n000\n000\n000\n000\n000\n000\nant 0 red 1 1 4 0 0 0\nend\n",
+    ),
+    ("advance k --rounds 1", SAVED),
+    ("advance k --workers 3 --rounds 1", SAVED),
+];
+
+// Saves, and each after round 3: what was marked in between stands in it, and its rounds, draws and turns are counted beside the earlier ones.
+const ADVANCED: [(&str, &str); 4] = [
+    (
+        STANDING,
+        "ants save 1\nseed 7\nsheet 4 2 9\nwindow 50\nround 3\nplace 1\ntaken 5 redone 1\nsize 4 3\nred 1\nTurn Left 0\nblack 2\nDrop 1\nTurn Right 0\n####\n#+-#\n####\n0000\n0800\n0000\n0000\n00Q0\n0000\n0000\n0no0\n0000\nfood 2 1 63\nant 0 red 1 1 5 0 0 0\nant 1 black 2 1 3 1 1 1\nend\n",
+    ),
+    (
+        "ants save 1\nseed 12345\nsheet 4 2 9\nwindow 50\nround 1\nplace 1\ntaken 2 redone 0\nsize 4 3\nred 3\nFlip 2 1 2\nMove 0 0\nDrop 2\nblack 1\nTurn Left 0\n####\n#++#\n####\n0000\n0000\n0000\n0000\n0000\n0000\n0000\n0000\n0000\nant 0 red 1 1 0 0 0 0\nend\n",
+        "ants save 1\nseed 12345\nsheet 4 2 9\nwindow 50\nround 3\nplace 2\ntaken 6 redone 0\nsize 4 3\nred 3\nFlip 2 1 2\nMove 0 0\nDrop 2\nblack 1\nTurn Left 0\n####\n#++#\n####\n0000\n0000\n0000\n0000\n0000\n0000\n0000\n0000\n0000\nant 0 red 2 1 0 0 0 9\nend\n",
+    ),
+    (
+        "ants save 1\nseed 7\nsheet 5 3 14\nwindow 2\nround 1\nplace 0\ntaken 3 redone 0\nsize 5 3\nred 2\nMark 0 0\nSense Ahead 1 1 Marker 0\nblack 1\nTurn Left 0\n#####\n#+++#\n#####\n00000\n00000\n00000\n00000\n00000\n00000\n00000\n00000\n00000\nant 0 red 2 1 0 0 0 0\nant 1 red 1 1 0 0 1 0\nant 2 red 3 1 3 0 1 0\nend\n",
+        "ants save 1\nseed 7\nsheet 5 3 14\nwindow 2\nround 3\nplace 0\ntaken 8 redone 1\nsize 5 3\nred 2\nMark 0 0\nSense Ahead 1 1 Marker 0\nblack 1\nTurn Left 0\n#####\n#+++#\n#####\n00000\n00100\n00000\n00000\n00000\n00000\n00000\n00000\n00000\nant 0 red 2 1 0 0 0 0\nant 1 red 1 1 0 0 1 0\nant 2 red 3 1 3 0 1 0\nend\n",
+    ),
+    (
+        "ants save 1\nseed 7\nsheet 5 3 14\nwindow 1\nround 0\nplace 0\ntaken 0 redone 0\nsize 4 4\nred 1\nTurn Left 0\nblack 1\nDrop 0\n####\n#.+#\n#..#\n####\n0000\n0000\n0100\n0000\n0000\n0000\n0000\n0000\n0000\n00o0\n0o00\n0000\nfood 2 1 63\nfood 1 2 64\nant 0 red 2 1 0 0 0 0\nend\n",
+        "ants save 1\nseed 7\nsheet 5 3 14\nwindow 1\nround 3\nplace 0\ntaken 3 redone 0\nsize 4 4\nred 1\nTurn Left 0\nblack 1\nDrop 0\n####\n#.+#\n#..#\n####\n0000\n0000\n0100\n0000\n0000\n0000\n0000\n0000\n0000\n00o0\n0o00\n0000\nfood 2 1 63\nfood 1 2 64\nant 0 red 2 1 3 0 0 0\nend\n",
+    ),
+];
+
+// Saves that can't be advanced to round 0: the fault of a text comes before its round.
+const NOT_ADVANCED: [(&str, &str); 3] = [
+    (SAVED, "ants: k: already at round 1\n"),
+    (TWO_TURNS, "ants: k: no valid state\n"),
+    ("ants save 1\nseed 1\n", "ants: k: line 3: not a save\n"),
+];
+
 // The game, with its save to go on with.
 const GOING_ON: Job<'static> = Job {
     breaks: SAVED,
@@ -181,6 +218,38 @@ static REFUSED_SAVES: [Table<'static>; 2] = [
         rows: &REFUSED,
     },
 ];
+
+static ADVANCED_GAMES: [Table<'static>; 3] = [
+    Table {
+        job: GOING_ON,
+        given: Given::Line,
+        status: Status::Done,
+        rows: &ADVANCES,
+    },
+    Table {
+        job: Job {
+            line: "advance k --rounds 3",
+            ..TURNING
+        },
+        given: Given::Breaks,
+        status: Status::Done,
+        rows: &ADVANCED,
+    },
+    Table {
+        job: Job {
+            line: "advance k --rounds 0",
+            ..TURNING
+        },
+        given: Given::Breaks,
+        status: Status::Input,
+        rows: &NOT_ADVANCED,
+    },
+];
+
+#[test]
+fn a_save_goes_on_and_is_saved_again(rt: HostRuntime) -> Result<(), Fail> {
+    check_tables(&rt, rt.alloc(), &ADVANCED_GAMES)
+}
 
 #[test]
 fn a_game_is_saved_and_gone_on_with_or_its_save_refused(rt: HostRuntime) -> Result<(), Fail> {

@@ -457,8 +457,8 @@ struct Round<'t> {
     turns: usize,
 }
 
-// A workload; and a game that is saved, and one that goes on.
-static ROUNDS: [Round<'static>; 3] = [
+// A workload; and a game that is saved, one that goes on, and one that is saved again.
+static ROUNDS: [Round<'static>; 4] = [
     Round {
         job: Job {
             line: "workload 12345 1 16",
@@ -478,6 +478,15 @@ static ROUNDS: [Round<'static>; 3] = [
     Round {
         job: Job {
             line: "resume k --rounds 3 --workers 2",
+            breaks: STANDING,
+            ..KILLING
+        },
+        workers: 2,
+        turns: 2,
+    },
+    Round {
+        job: Job {
+            line: "advance k --rounds 3 --workers 2",
             breaks: STANDING,
             ..KILLING
         },
