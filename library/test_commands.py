@@ -299,6 +299,7 @@ class Faults(Beside):
             ({"window": 0}, "window: 0 is not 1 to 16384"), ({"rounds": 1000001}, "rounds: 1000001 is not"), ({"seed": -1}, "seed: -1 is not"),
         ):
             self.assertRaisesRegex(ValueError, "^" + said, lambda: icfp_ants.save(**{**AMBUSH, "seed": 1, "rounds": 1, **more}))
+        self.assertRaisesRegex(ValueError, "^window: 16385 is not", lambda: icfp_ants.run(**AMBUSH, seed=1, rounds=1, window=16385))
         self.assertRaisesRegex(ValueError, "^ant: 16384 is not 0 to 16383$", lambda: icfp_ants.trace(**AMBUSH, ant=16384, seed=1, rounds=1))
         self.assertRaisesRegex(ValueError, "^start: -1 is not", lambda: icfp_ants.trace(**AMBUSH, ant=0, seed=1, rounds=1, start=-1))
 

@@ -143,9 +143,9 @@ def run(
     """What `ants run` prints of a game, with a dump after each of these rounds, and its counts at the end where `stats` says so."""
     game = texts_of(world=world, red=red, black=black)
     seed, rounds = number_of("seed", seed), _rounds(rounds)
-    dumped, sheet = _dumped(dumps, rounds), (surround, corpse, rest)
+    dumped, sheet, windows = _dumped(dumps, rounds), (surround, corpse, rest), _window(window)
     if stats or sheet != _SHEET:
-        return game_output("run", game, (), seed, rounds, sheet, *_dump(dumped), *_window(window), *(["--stats"] if stats else []))
+        return game_output("run", game, (), seed, rounds, sheet, *_dump(dumped), *windows, *(["--stats"] if stats else []))
     room = _room_of_run(len(dumped), _cells(game["world"]))
     return text_of("ants_run", game, seed, rounds, byref(c_uint32.from_buffer(numbers_of("dumps", dumped))), len(dumped), room=room)
 
