@@ -1,4 +1,4 @@
-// Windows and their counts: the sections "What a turn reads and writes" and "Counts" of docs/RULES.md, and the definitions that they name.
+// Windows and their counts: "What a turn reads and writes" and "Counts" of docs/RULES.md, and what these name.
 #include "looks.hpp"
 
 #include <algorithm>

@@ -78,14 +78,16 @@ looked_on world red black seed rounds index game new it below played =
     let count = played.done in
     let done : new.done ≡ round = omega (arith, first, count) in
     let stood : after_rounds game.minds game.seed (standing game) (round - game.done) ≡ after_rounds minds seed start (game.done + (round - game.done)) =
-        rw (it.minds, it.same_seed, it.stands) (after_rounds-then minds seed start game.done (round - game.done)) in
-    let stands : standing new ≡ after_rounds minds seed start new.done = played.now ∙ stood ∙ ap (after_rounds minds seed start) (sym count) in
-    (record {
-      minds = played.minds ∙ it.minds;
-      same_seed = played.seed ∙ it.same_seed;
-      stands = stands;
-      later = rw done (AreRising-from round (round + 1) (drop (index + 1) rounds) (omega arith) next.2);
-    }, ap (λ (m : Moment). m.world) stands ∙ ap (λ (n : ℕ). (after_rounds minds seed start n).world) done)
+    rw (it.minds, it.same_seed, it.stands) (after_rounds-then minds seed start game.done (round - game.done)) in
+    let stands : standing new ≡ after_rounds minds seed start new.done = played.now ∙ stood ∙ ap (after_rounds minds seed start) (sym count) in (
+      record {
+        minds = played.minds ∙ it.minds;
+        same_seed = played.seed ∙ it.same_seed;
+        stands = stands;
+        later = rw done (AreRising-from round (round + 1) (drop (index + 1) rounds) (omega arith) next.2);
+      },
+      ap (λ (m : Moment). m.world) stands ∙ ap (λ (n : ℕ). (after_rounds minds seed start n).world) done,
+    )
 
 -- the first looks lie over the rooms
 pub record AreLaid (world : Grid) (red black : List Instr) (seed : ℕ) (rounds : List ℕ) (index : ℕ) (scores new_scores : List AntsScore) (ants new_ants : List AntsAnt) : Type 0 where
@@ -129,11 +131,11 @@ look_more world red black seed rounds index old piece below fits seen =
     let all : (index + 1) * world.ids ≤ length rounds * world.ids = mul-le (index + 1) world.ids (length rounds) world.ids (omega (arith, below)) (omega arith) in
     let long : length front ≡ index * world.ids = ants_after-length world red black seed (take index rounds) ∙ ap (λ n. n * world.ids) (length-take-le index rounds (omega (arith, below))) in
     let many : length piece ≡ world.ids =
-        ap length seen ∙ length-map-range_with_len (seen_ant (world_after minds seed (world_of world) round)) 0 _ ∙ after_rounds-ids minds seed (start_of (world_of world)) round in
+    ap length seen ∙ length-map-range_with_len (seen_ant (world_after minds seed (world_of world) round)) 0 _ ∙ after_rounds-ids minds seed (start_of (world_of world)) round in
     let one : (index + 1) * world.ids - index * world.ids ≡ world.ids = omega (arith, next) in
     let grown : ants_after world red black seed (take (index + 1) rounds) ≡ front ++ piece =
-        ap (ants_after world red black seed) (take_more rounds index 0 below) ∙ flat_map-append ants_of (take index rounds) (round ∷ [])
-        ∙ ap (λ x. front ++ x) (append-nil (ants_of round) ∙ sym seen) in
+    ap (ants_after world red black seed) (take_more rounds index 0 below) ∙ flat_map-append ants_of (take index rounds) (round ∷ [])
+    ∙ ap (λ x. front ++ x) (append-nil (ants_of round) ∙ sym seen) in
     rw (one, grown, next) (piece_more front old piece (index * world.ids) world.ids long many (omega (arith, next, all, fits)))
 
 -- there is room for the ants of a look more

@@ -25,8 +25,15 @@ colour_number Black = 1
 abbrev pub seen_at : Pos → Option Ant → AntsAnt
 seen_at p None = record { state = 0; resting = 0; column = 0; row = 0; alive = 0; colour = 0; direction = 0; laden = 0 }
 seen_at p (Some ant) = record {
-  state = ant.state; resting = ant.resting; column = p.x; row = p.y;
-  alive = 1; colour = colour_number ant.colour; direction = number_of ant.facing; laden = one_if ant.laden }
+  state = ant.state;
+  resting = ant.resting;
+  column = p.x;
+  row = p.y;
+  alive = 1;
+  colour = colour_number ant.colour;
+  direction = number_of ant.facing;
+  laden = one_if ant.laden;
+}
 
 -- the ant that has a place, or is dead
 abbrev pub seen_from : Cells → Option Pos → AntsAnt

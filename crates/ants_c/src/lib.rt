@@ -20,8 +20,8 @@ ghost use Rattle.ants_c.specs.Texts.{IsAssembledOf, IsCanonicalOf, IsComparisonO
 ghost use Rattle.ants_c.specs.Told.{IsTold};
 ghost use Rattle.ants_c.specs.Version.{version};
 
-mod call;
 mod ant;
+mod call;
 mod fault;
 mod look;
 mod numbers;
@@ -52,10 +52,10 @@ use crate::status::{DONE, MEMORY, NO_ROOM, NUMBER, UNREADABLE};
 use crate::tell::stopped;
 use crate::texts::{BrainText, SaveText, put, put_world};
 use crate::version::VersionText;
+pub use ant::AntsAnt;
 use ant_turn::{Brains, Sheet};
 use brain_minimise::minimise;
 use brain_same::compare;
-pub use ant::AntsAnt;
 pub use fault::AntsFault;
 use match_run::MOST_ROUNDS;
 pub use score::AntsScore;

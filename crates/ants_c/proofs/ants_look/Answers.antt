@@ -4,7 +4,9 @@ use Rattle.ants_c.proofs.ants_look.Goals as goal
 pub returns-clause-done : goal.returns-clause-done
 returns-clause-done c = λ _. record {
   game = record {
-    world = c.in-Ok.setting.world; red = c.in-Ok.setting.red; black = c.in-Ok.setting.black;
+    world = c.in-Ok.setting.world;
+    red = c.in-Ok.setting.red;
+    black = c.in-Ok.setting.black;
     is_game = record { is_world = c.in-Ok.ensures.setting.is_world; is_red = c.in-Ok.ensures.setting.is_red; is_black = c.in-Ok.ensures.setting.is_black };
     made = c.ant_count.ensures.ids;
   };

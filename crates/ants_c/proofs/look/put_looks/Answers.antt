@@ -26,7 +26,7 @@ put_ants-requires c =
     let fits = c.requires.ants in
     record {
       fits = room_for setting.world index (length c.args.rounds.now) c.ant_count-ids.result c.loop-index.ants c.ant_count-ids.ensures.ids below (omega (arith, same, fits))
-        ∙ sym kept ∙ ap (λ it. it.ids) (sym c.world-in-loop-index.ensures);
+          ∙ sym kept ∙ ap (λ it. it.ids) (sym c.world-in-loop-index.ensures);
     }
 
 pub loop-index-preserved : goal.loop-index-preserved
@@ -39,10 +39,12 @@ loop-index-preserved c =
     let on = looked_on setting.world setting.red setting.black c.args.seed rounds index c.loop-index.game c.play_on.new.self c.loop-index.invariant.0 below played in
     let laid = c.loop-index.invariant.1 in
     let score = c.score-score.ensures.score ∙ ap (λ it. score_of (world_of it)) c.world.ensures ∙ ap score_of on.1 in
-    let piece = c.put_ants.ensures ∙ ap (λ it. seen_ants (world_of it)) c.world-in-loop-index.ensures ∙ ap seen_ants on.1 in
-    (on.0, record {
-      scored = rw (laid.scored, ap seen_score score)
-        (score_more (λ (round : ℕ). game_score setting.world setting.red setting.black round c.args.seed) rounds c.args.scores.now index below c.requires.scores);
-      seen = rw (laid.seen, c.ant_count-ids.ensures.ids)
-        (look_more setting.world setting.red setting.black c.args.seed rounds index c.args.ants.now c.put_ants.new.room below c.requires.ants piece);
-    })
+    let piece = c.put_ants.ensures ∙ ap (λ it. seen_ants (world_of it)) c.world-in-loop-index.ensures ∙ ap seen_ants on.1 in (
+      on.0,
+      record {
+        scored = rw (laid.scored, ap seen_score score)
+            (score_more (λ (round : ℕ). game_score setting.world setting.red setting.black round c.args.seed) rounds c.args.scores.now index below c.requires.scores);
+        seen = rw (laid.seen, c.ant_count-ids.ensures.ids)
+            (look_more setting.world setting.red setting.black c.args.seed rounds index c.args.ants.now c.put_ants.new.room below c.requires.ants piece);
+      },
+    )
