@@ -9,10 +9,12 @@ TAKERS = [
     ['PickUp 1 1', 'Drop 2', 'Flip 4 3 0', 'Move 0 0'],
     ['Move 1 2', 'PickUp 2 0', 'Drop 3', 'PickUp 4 4', 'Drop 3'],
     ['PickUp 1 2', 'Drop 0', 'Move 0 3', 'Turn Right 0'],
+    ['PickUp 1 1', 'Move 0 2', 'Flip 2 3 4', 'Turn Left 0', 'Turn Right 1'],
 ]
 WALKERS = [
     ['Move 0 1', 'Flip 2 2 3', 'Turn Left 0', 'Turn Right 0'],
     ['Flip 2 1 2', 'Move 0 2', 'Turn Left 0'],
+    ['Flip 1 1 0', 'Move 1 2', 'Flip 2 3 4', 'Turn Left 0', 'Turn Right 0'],
     ['Sense Ahead 1 2 Foe', 'Turn Left 0', 'Move 0 3', 'Flip 3 1 4', 'Turn Right 0'],
 ]
 
@@ -20,7 +22,7 @@ WALKERS = [
 def crowded_rows(r):
     """The rows of a world with many ants and much food."""
     width, height = r.randint(5, 12), r.randint(5, 12)
-    red = r.choice([.25, .3, .35, .4, .45])
+    red = r.choice([.25, .3, .35, .4, .45, .45, .45])
     black = red * r.choice([1, 1, 1, 1, .6, .2])
     rows = [['#'] * width for _ in range(height)]
     for y in range(1, height - 1):
