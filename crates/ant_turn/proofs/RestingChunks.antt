@@ -114,12 +114,12 @@ abbrev pub TellsWhoActs : (ℕ → Bool) → World → ℕ → ℕ → Type 0
 TellsWhoActs acts w from n = (p : Pos) (ant : Ant) → (w.cells p).ant ≡ Some ant → from ≤ ant.id → ant.id < from + n → acts ant.id ≡ nat_eq ant.resting 0
 
 -- so it does after the turn of the first
-TellsWhoActs-next : (acts : ℕ → Bool) (minds : Minds) (seed : ℕ) (m : Moment) (from n : ℕ) → TellsWhoActs acts m.world from (suc n) → TellsWhoActs acts (after_turn minds seed m from).world (from + 1) n
+pub TellsWhoActs-next : (acts : ℕ → Bool) (minds : Minds) (seed : ℕ) (m : Moment) (from n : ℕ) → TellsWhoActs acts m.world from (suc n) → TellsWhoActs acts (after_turn minds seed m from).world (from + 1) n
 TellsWhoActs-next acts minds seed m from n tells p ant is late early =
     tells p ant (after_turn-others minds seed m from p ant is (λ one. let e : ant.id ≡ from = one in omega arith)) (omega arith) (omega arith)
 
 -- where the first acts, it needn't be among those with one less to rest
-rested-acting : (w : World) (from to : ℕ) → ((p : Pos) (ant : Ant) → (w.cells p).ant ≡ Some ant → ant.id ≡ from → ant.resting ≡ 0) → rested from to w ≡ rested (from + 1) to w
+pub rested-acting : (w : World) (from to : ℕ) → ((p : Pos) (ant : Ant) → (w.cells p).ant ≡ Some ant → ant.id ≡ from → ant.resting ≡ 0) → rested from to w ≡ rested (from + 1) to w
 rested-acting w from to up =
     ap (with_cells w) (fun_ext λ p. same_rest (one_less from to) (one_less (from + 1) to) (w.cells p) λ ant is.
     elim (cases_eq ant.id from) [
@@ -164,7 +164,7 @@ tired_by zero e = absurd (cc)
 tired_by (suc n) e = omega arith
 
 -- the turn of the first, where it doesn't act
-turn-resting : (acts : ℕ → Bool) (minds : Minds) (seed : ℕ) (m : Moment) (from n to : ℕ) → from < to → Valid m.world → TellsWhoActs acts m.world from (suc n) → acts from ≡ false →
+pub turn-resting : (acts : ℕ → Bool) (minds : Minds) (seed : ℕ) (m : Moment) (from n to : ℕ) → from < to → Valid m.world → TellsWhoActs acts m.world from (suc n) → acts from ≡ false →
     (place : Option Pos) → place_in m.world from ≡ place → rested_moment from to m ≡ rested_moment (from + 1) to (after_turn minds seed m from)
 turn-resting acts minds seed m from n to early valid tells rests None dead =
     ap (λ (w : World). let now : Moment = record m { world = w } in now) (rested-dead m.world from to valid dead)
@@ -177,7 +177,7 @@ turn-resting acts minds seed m from n to early valid tells rests (Some p) found 
     ∙ ap (rested_moment (from + 1) to) (sym (after_turn-rests minds seed m from p it.ant (it.ant.resting - 1) found it.is tired))
 
 -- the turn of the first, where it acts
-turn-acting : (acts : ℕ → Bool) (minds : Minds) (seed : ℕ) (m : Moment) (from n to : ℕ) → TellsWhoActs acts m.world from (suc n) → acts from ≡ true →
+pub turn-acting : (acts : ℕ → Bool) (minds : Minds) (seed : ℕ) (m : Moment) (from n to : ℕ) → TellsWhoActs acts m.world from (suc n) → acts from ≡ true →
     after_turn minds seed (rested_moment from to m) from ≡ rested_moment (from + 1) to (after_turn minds seed m from)
 turn-acting acts minds seed m from n to tells ready =
     ap (λ (w : World). let now : Moment = record m { world = w } in after_turn minds seed now from)
