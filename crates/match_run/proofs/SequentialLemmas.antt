@@ -36,7 +36,7 @@ IsTaken-ids {minds} {first} {start} {turns} {grid} {stream} taken =
     ap (λ (m : Moment). m.world.ids) taken.moment ∙ after_turns-ids minds start.seed (moment_from first start) 0 turns
 
 -- what a turn makes of a world and a stream is what it makes of their moment
-moment-turn : (minds : Minds) (grid next : Grid) (stream later : SeedAndPlace) (t : ℕ)
+pub moment-turn : (minds : Minds) (grid next : Grid) (stream later : SeedAndPlace) (t : ℕ)
     → world_of next ≡ with_cells (world_of grid) (turn minds stream.seed (world_of grid) stream.place t).cells
     → later ≡ record stream { place = stream.place + one_if (turn minds stream.seed (world_of grid) stream.place t).drew }
     → moment_from next later ≡ after_turn minds stream.seed (moment_from grid stream) t
