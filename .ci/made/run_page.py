@@ -16,7 +16,7 @@ from tree import Unknown, read
 
 ORDER, WORDS = "docs/run_page.txt", "docs/library_words.txt"
 CRATE, LAW = "ant_commands", "run_promise"
-MOST_LINES, MOST_WORDS = 930, 8500
+MOST_LINES, MOST_WORDS = 700, 8500
 PACE = 10  # lines a minute, of a reader who reads each
 
 

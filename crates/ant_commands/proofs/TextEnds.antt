@@ -233,7 +233,7 @@ unfolding show_output
 lf_show seed grid = lf_last (seed_text seed) (dump_text (world_of grid) 0) (lf_dump (world_of grid) 0)
 
 pub lf_match : (setup : RunSetup) (game : ReadGame) → EndsInLf (match_output setup game)
-unfolding match_output whole_text run_text
+unfolding match_output whole_text run_text dumps_text
 lf_match setup game =
     let minds = minds_named setup game.red game.black in
     let w : World = world_of game.world in

@@ -1,5 +1,6 @@
 -- What each command reads and writes: one equation a command.
-use Rattle.std.specs.Prelude.{◌≡◌, ℕ, ◌≤◌, Bool, true, false, List, [], ◌∷◌, ◌++◌, length, map, slice_index_or, codes, decimal, Option, if◌then◌else◌}
+use Rattle.std.specs.Prelude.{◌≡◌, ℕ, ◌≤◌, Bool, true, false, List, [], ◌∷◌, ◌++◌, length, map, nat_eq, slice_index_or, codes, decimal, Option, if◌then◌else◌}
+use Rattle.std.specs.List.{list_any}
 use Rattle.ant_base.specs.Layout.{◌+++◌}
 use Rattle.ant_trace.specs.Trace.{trace_text}
 use Rattle.ant_turn.specs.Minds.{Minds, contest_minds}
@@ -32,7 +33,6 @@ use Rattle.command_words.specs.Slots.DumpChoice.{NoDump, EveryDump, ChosenDumps}
 use Rattle.game_tellings.specs.Events.{events_text}
 use Rattle.game_tellings.specs.Profile.{profile_text}
 use Rattle.match_run.specs.Counts.{totals_of, whole_text}
-use Rattle.match_run.specs.Dumps.{has_round}
 use Rattle.match_run.specs.Run.{world_after}
 use Rattle.match_save.specs.Advanced.{advanced}
 use Rattle.match_save.specs.Resumed.{resumed_text}
@@ -163,7 +163,7 @@ show_output seed grid = seed_text seed +++ dump_text (world_of grid) 0
 abbrev pub chosen_rounds : DumpChoice → ℕ → Bool
 chosen_rounds NoDump round = false
 chosen_rounds EveryDump round = true
-chosen_rounds (ChosenDumps numbers) round = has_round numbers round
+chosen_rounds (ChosenDumps numbers) round = list_any (λ number. nat_eq number round) numbers
 
 -- the numbers of the rules that the words of a game name
 abbrev pub sheet_named : RunSetup → Sheet
