@@ -23,7 +23,7 @@ use Rattle.ant_asm.specs.Inner.Outlines.{further, lines_said, outline_size, told
 use Rattle.ant_asm.proofs.Emission.{emitted-assembled}
 use Rattle.ant_asm.proofs.Expansion.{program-assembled}
 use Rattle.ant_asm.proofs.HasAssembled.{one-assembled}
-use Rattle.ant_asm.proofs.LabelsRead.{one-lines}
+use Rattle.ant_asm.proofs.SourceRead.{one-lines}
 use Rattle.ant_asm.proofs.LineStates.{lines-are, lines_at-length, lines_at-state}
 use Rattle.ant_asm.proofs.LineLemmas.{lines_decide}
 use Rattle.ant_asm.proofs.OutlineFits.{IsTold, Tells, text-fits, text-said, text-tells}

@@ -3,6 +3,7 @@ use Rattle.std.proofs.Common.{Bool, List, [], ap, ap₂, append-nil, arith, fals
 use Rattle.ant_asm.proofs.HasAssembled.{assembled-some, has_assembled}
 use Rattle.ant_asm.proofs.LineInstructions.{line-for-each}
 use Rattle.ant_asm.specs.Labels.{labels_text}
+use Rattle.ant_asm.specs.Source.{ReadSource}
 use Rattle.ant_asm.specs.StateLines.{AreStateLinesOf, StateLine, state_lines_text}
 use Rattle.ant_base.specs.Fetched.{Fetched}
 use Rattle.ant_base.specs.Lines.{ends_in_lf}
@@ -36,7 +37,7 @@ use Rattle.world_read.specs.Canonical.{canonical_text}
 use Rattle.world_read.specs.Opened.{kinds_of}
 use Rattle.ant_commands.specs.Files.{AreAccepted, FileContent}
 use Rattle.ant_commands.specs.Help.{help_text, version_text}
-use Rattle.ant_commands.specs.Outputs.{IsAsmOutput, IsCupOutput, IsViewOutput, ReadCup, ReadGame, ReadPair, ReadProgram, ReadSource, ReadView, Tells, TellsGenerated, TellsMinimised, TellsSame, TellsWorkload, advance_output, brain_contents, brain_file, pair_contents, contest_shape, roster_contents, cup_files, events_output, game_contents, game_files, is_text_of, labelled_file, match_output, minimise_output, profile_output, program_contents, resume_output, save_output, score_between, shape_named, show_output, source_contents, source_text, summary_of, trace_output, workload_text}
+use Rattle.ant_commands.specs.Outputs.{IsAsmOutput, IsCupOutput, IsViewOutput, ReadCup, ReadGame, ReadPair, ReadProgram, ReadView, Tells, TellsGenerated, TellsMinimised, TellsSame, TellsWorkload, advance_output, brain_contents, brain_file, pair_contents, contest_shape, roster_contents, cup_files, events_output, game_contents, game_files, is_text_of, labelled_file, match_output, minimise_output, profile_output, program_contents, resume_output, save_output, score_between, shape_named, show_output, source_contents, source_text, summary_of, trace_output, workload_text}
 use Rattle.ant_commands.specs.Job.{Job, plain_job}
 use Rattle.command_words.specs.Command.{AskedWithin, PlainAsked}
 use Rattle.command_words.specs.declared.table.CommandKind.{CommandKind}

@@ -1,6 +1,7 @@
 -- What a command line of each command asks for, as its job: which word is which file, and which option which number.
 use Rattle.std.proofs.Common.{◌≡◌, ◌∷◌, [], Some, ap, codes, false, true, refl, ◌∙◌}
 use Rattle.std.specs.Fmt.{digits}
+use Rattle.ant_asm.specs.Source.{ReadSource}
 use Rattle.ant_base.specs.Layout.{◌+++◌}
 use Rattle.ant_base.specs.Number.{decimal_value}
 use Rattle.cell_world.specs.Cell.{rock}
@@ -20,7 +21,7 @@ use Rattle.command_words.specs.declared.table.CommandKind.TheVariants.{Advance, 
 use Rattle.command_words.proofs.WorkedLines.{words_of}
 use Rattle.ant_commands.specs.Files.FileKind.{LabelledFile, SaveFile}
 use Rattle.ant_commands.specs.Job.{files_of}
-use Rattle.ant_commands.specs.Outputs.{ReadGame, ReadSource, advance_output, source_text, told_minds}
+use Rattle.ant_commands.specs.Outputs.{ReadGame, advance_output, source_text, told_minds}
 use Rattle.ant_commands.specs.Setups.{told_of}
 use Rattle.ant_commands.specs.Jobs.{advance_job, asm_job, brain_job, cup_job, events_job, gen_job, help_job, job_of, minimise_job, profile_job, resume_job, run_job, same_job, save_job, show_job, trace_job, version_job, view_job, workload_job}
 

@@ -9,9 +9,10 @@ use Rattle.brain_minimise.specs.Minimised.{IsMinimised}
 use Rattle.brain_minimise.specs.Text.{minimised_text, states_text}
 use Rattle.brain_read.specs.declared.instr.Instr.{Instr}
 use Rattle.brain_read.specs.Canonical.{brain_text}
-use Rattle.ant_asm.specs.Labels.{LabelState, labels_text}
+use Rattle.ant_asm.specs.Labels.{labels_text}
 use Rattle.ant_asm.specs.Places.{Address}
-use Rattle.ant_asm.specs.StateLines.{StateLine, state_lines_text}
+use Rattle.ant_asm.specs.Source.{ReadSource}
+use Rattle.ant_asm.specs.StateLines.{state_lines_text}
 use Rattle.brain_same.specs.Difference.{IsComparison}
 use Rattle.brain_same.specs.Text.{comparison_text, way_text}
 use Rattle.brain_same.specs.Way.{IsWayComparison}
@@ -106,11 +107,6 @@ pub record ReadProgram : Type 0 where
   pub brain : List Instr
   pub places : List Address
 
--- of where its labels and states stand
-pub record ReadSource : Type 0 where
-  pub labels : List LabelState
-  pub lines : List StateLine
-
 -- the contents of no file, of one, and of several
 abbrev pub no_contents : Unit {0} → List FileContent
 no_contents nothing = []
@@ -128,7 +124,7 @@ abbrev pub program_contents : ReadProgram → List FileContent
 program_contents program = LabelledContent program.brain program.places ∷ []
 
 abbrev pub source_contents : ReadSource → List FileContent
-source_contents source = SourceContent source.labels source.lines ∷ []
+source_contents source = SourceContent source ∷ []
 
 abbrev pub save_contents : SavedValue → List FileContent
 save_contents saved = SaveContent saved ∷ []
