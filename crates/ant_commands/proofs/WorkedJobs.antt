@@ -132,7 +132,7 @@ pub advance_told : advance_output 3 saved ≡
 unfolding advance_output
 advance_told = ap save_text row_advanced ∙ later_text
 
-pub trace_asked : job_of (asked_in Trace (words_of (codes "trace w r b 8 --rest 1 --corpse 2 --surround 6 --from 3 --rounds 5 --seed 7"))) ≡ trace_job (codes "w") (codes "r") (codes "b") 8 (record { seed = 7; rounds = 5; from = 3; surround = 6; corpse = 2; rest = 1 })
+pub trace_asked : job_of (asked_in Trace (words_of (codes "trace w r b 8 --rest 1 --corpse 2 --surround 6 --from 3 --rounds 5 --seed 7"))) ≡ trace_job (codes "w") (codes "r") (codes "b") 8 (record { told = record { seed = 7; rounds = 5; surround = 6; corpse = 2; rest = 1 }; from = 3 })
 unfolding is_among rest_after is_file_name is_dumps dumps_of decimal_value
 trace_asked = refl
 

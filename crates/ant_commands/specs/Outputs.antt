@@ -165,11 +165,7 @@ chosen_rounds (ChosenDumps numbers) round = has_round numbers round
 abbrev pub sheet_named : RunSetup → Sheet
 sheet_named setup = record { surround = setup.surround; corpse = setup.corpse; rest = setup.rest }
 
--- the numbers of the rules that the words of a trace name
-abbrev pub traced_sheet : TraceSetup → Sheet
-traced_sheet setup = record { surround = setup.surround; corpse = setup.corpse; rest = setup.rest }
-
--- the numbers of the rules that the words of `events` or `profile` name
+-- the numbers of the rules that the words of `events`, `profile` or `trace` name
 abbrev pub told_sheet : ToldSetup → Sheet
 told_sheet setup = record { surround = setup.surround; corpse = setup.corpse; rest = setup.rest }
 
@@ -194,14 +190,13 @@ advance_output rounds saved = save_text (advanced saved rounds)
 unfoldable pub resume_output : ResumeSetup → SavedValue → List ℕ
 resume_output setup saved = resumed_text saved setup.rounds (chosen_rounds setup.dumps) setup.stats
 
--- the output of `trace`: the line of the seed, and the lines of one ant in the rounds from the first that is told to the last
-unfoldable pub trace_output : ℕ → TraceSetup → ReadGame → List ℕ
-trace_output id setup game =
-    trace_text (record { red = game.red; black = game.black; sheet = traced_sheet setup }) setup.seed (world_of game.world) setup.rounds id setup.from
-
--- both brains of a game of which events or a profile are told, and the numbers of its rules
+-- both brains of such a game, and the numbers of its rules
 abbrev pub told_minds : ToldSetup → ReadGame → Minds
 told_minds setup game = record { red = game.red; black = game.black; sheet = told_sheet setup }
+
+-- the output of `trace`: the line of the seed, and the lines of one ant in the rounds from the first that is told to the last
+unfoldable pub trace_output : ℕ → TraceSetup → ReadGame → List ℕ
+trace_output id setup game = trace_text (told_minds setup.told game) setup.told.seed (world_of game.world) setup.told.rounds id setup.from
 
 -- the output of `events`: the line of the seed, and the lines of the dead and of the score, turn after turn
 unfoldable pub events_output : ToldSetup → ReadGame → List ℕ
