@@ -38,15 +38,8 @@ in_table Far = choice.Far
 
 -- it has the same name
 name_in_table : (option : RunOption) → name_of option ≡ option_of (in_table option)
-name_in_table (Seed number) = refl
-name_in_table (Rounds number) = refl
-name_in_table (Dump dumps) = refl
-name_in_table (Workers number) = refl
-name_in_table (Window number) = refl
-name_in_table (Surround number) = refl
-name_in_table (Corpse number) = refl
-name_in_table (Rest number) = refl
 name_in_table Far = refl
+name_in_table option = refl
 
 -- and is an option of `run`
 known_in_table : (option : RunOption) → Contains (choices_of Run) (in_table option)
@@ -183,31 +176,20 @@ said_by kind default number word values are is = ap (λ ws. said kind default (f
 -- what one more option says
 says : (option : RunOption) (value : List (List ℕ)) (values : List (List (List ℕ))) (given : List Given) → joined values ≡ value → IsValue option value
     → heard (given_as (in_table option) values ∷ given) ≡ with_option option (heard given)
-says (Seed number) [] values given are is = absurd is
 says (Seed number) (word ∷ []) values given are is = ap (λ n. record (heard given) { seed = n }) (said_by SeedNumber 0 number word values are (number_said 0 4294967295 number word is))
-says (Seed number) (word ∷ other ∷ more) values given are is = absurd is
-says (Rounds number) [] values given are is = absurd is
 says (Rounds number) (word ∷ []) values given are is = ap (λ n. record (heard given) { rounds = n }) (said_by RoundCount 0 number word values are (number_said 0 1000000 number word is))
-says (Rounds number) (word ∷ other ∷ more) values given are is = absurd is
-says (Dump dumps) [] values given are is = absurd is
 says (Dump dumps) (word ∷ []) values given are is =
     ap (λ d. record (heard given) { dumps = d }) (ap (λ ws. dumps_said (first_word ws)) are ∙ ap (λ o. unwrap_or o NoDump) (dumps_spelled dumps word is))
-says (Dump dumps) (word ∷ other ∷ more) values given are is = absurd is
 says (Workers number) value values given are is = refl
 says (Window number) value values given are is = refl
-says (Surround number) [] values given are is = absurd is
 says (Surround number) (word ∷ []) values given are is =
     ap (λ n. record (heard given) { sheet = record (heard given).sheet { surround = n } }) (said_by FoeCount 5 number word values are (number_said 4 6 number word is))
-says (Surround number) (word ∷ other ∷ more) values given are is = absurd is
-says (Corpse number) [] values given are is = absurd is
 says (Corpse number) (word ∷ []) values given are is =
     ap (λ n. record (heard given) { sheet = record (heard given).sheet { corpse = n } }) (said_by CorpseFood 3 number word values are (number_said 0 9 number word is))
-says (Corpse number) (word ∷ other ∷ more) values given are is = absurd is
-says (Rest number) [] values given are is = absurd is
 says (Rest number) (word ∷ []) values given are is =
     ap (λ n. record (heard given) { sheet = record (heard given).sheet { rest = n } }) (said_by RestRounds 14 number word values are (number_said 0 255 number word is))
-says (Rest number) (word ∷ other ∷ more) values given are is = absurd is
 says Far value values given are is = refl
+says option value values given are is = absurd is
 
 -- From the words of a run to the table.
 
@@ -229,32 +211,16 @@ dumps_fit dumps word is = ap is_some (dumps_spelled dumps word is)
 
 -- the values of an option fit its places
 values_fit : (option : RunOption) (value : List (List ℕ)) → IsValue option value → FitAll (values_of (in_table option)) (parts_of value)
-values_fit (Seed number) [] is = absurd is
 values_fit (Seed number) (word ∷ []) is = (number_fits SeedNumber number word is, tt)
-values_fit (Seed number) (word ∷ other ∷ more) is = absurd is
-values_fit (Rounds number) [] is = absurd is
 values_fit (Rounds number) (word ∷ []) is = (number_fits RoundCount number word is, tt)
-values_fit (Rounds number) (word ∷ other ∷ more) is = absurd is
-values_fit (Dump dumps) [] is = absurd is
 values_fit (Dump dumps) (word ∷ []) is = (dumps_fit dumps word is, tt)
-values_fit (Dump dumps) (word ∷ other ∷ more) is = absurd is
-values_fit (Workers number) [] is = absurd is
 values_fit (Workers number) (word ∷ []) is = (number_fits WorkerCount number word is, tt)
-values_fit (Workers number) (word ∷ other ∷ more) is = absurd is
-values_fit (Window number) [] is = absurd is
 values_fit (Window number) (word ∷ []) is = (number_fits WindowSize number word is, tt)
-values_fit (Window number) (word ∷ other ∷ more) is = absurd is
-values_fit (Surround number) [] is = absurd is
 values_fit (Surround number) (word ∷ []) is = (number_fits FoeCount number word is, tt)
-values_fit (Surround number) (word ∷ other ∷ more) is = absurd is
-values_fit (Corpse number) [] is = absurd is
 values_fit (Corpse number) (word ∷ []) is = (number_fits CorpseFood number word is, tt)
-values_fit (Corpse number) (word ∷ other ∷ more) is = absurd is
-values_fit (Rest number) [] is = absurd is
 values_fit (Rest number) (word ∷ []) is = (number_fits RestRounds number word is, tt)
-values_fit (Rest number) (word ∷ other ∷ more) is = absurd is
 values_fit Far [] is = tt
-values_fit Far (word ∷ more) is = absurd is
+values_fit option value is = absurd is
 
 -- the options of some words as the table has them
 abbrev given_of : (options : List RunOption) (words : List (List ℕ)) → AreOptions options words → List Given
@@ -310,15 +276,8 @@ given_named (first ∷ options) words are of has = elim (Contains-cases (name_of
 
 -- none of them is `--stats`
 not_counts : (option : RunOption) → bytes_eq (option_of (in_table option)) (option_of choice.Stats) ≡ false
-not_counts (Seed number) = refl
-not_counts (Rounds number) = refl
-not_counts (Dump dumps) = refl
-not_counts (Workers number) = refl
-not_counts (Window number) = refl
-not_counts (Surround number) = refl
-not_counts (Corpse number) = refl
-not_counts (Rest number) = refl
 not_counts Far = refl
+not_counts option = refl
 
 given_uncounted : (options : List RunOption) (words : List (List ℕ)) (are : AreOptions options words) → has_given choice.Stats (given_of options words are) ≡ false
 given_uncounted [] words are = refl
