@@ -1,7 +1,7 @@
 -- What is kept of each command's job: its text ends in LF, is one, and is there.
 use Rattle.std.proofs.Common.{Bool, List, [], ap, ap₂, append-nil, arith, false, inl, inr, length, refl, subst, sym, true, ℕ, ◌++◌, ◌∙◌, ◌∷◌, ◌≡◌, ◌≤◌, ◌⊎◌, ◌||◌}
 use Rattle.ant_asm.proofs.HasAssembled.{assembled-some, has_assembled}
-use Rattle.ant_asm.proofs.LineInstructions.{line-for-each}
+use Rattle.ant_asm.proofs.LineInstructions.{line_for_each}
 use Rattle.ant_asm.specs.Labels.{labels_text}
 use Rattle.ant_asm.specs.Source.{ReadSource}
 use Rattle.ant_asm.specs.StateLines.{AreStateLinesOf, StateLine, state_lines_text}
@@ -89,7 +89,7 @@ lines-some : (text : List ℕ) (lines : List StateLine) → AreStateLinesOf text
 lines-some text lines are =
     let made = has_assembled text are.main are.is in
     let some = assembled-some text made.0 made.1 (record { main = are.main; is = are.is; assembled = made.2 }) in
-    let many = line-for-each.as_many text made.0 made.1 lines (record { main = are.main; is = are.is; assembled = made.2 }) are in
+    let many = line_for_each.as_many text made.0 made.1 lines (record { main = are.main; is = are.is; assembled = made.2 }) are in
     omega (arith, some, many)
 
 source-some : (name : List ℕ) (fetches : List Fetched) (source : ReadSource) → AreAccepted (labelled_file true name ∷ []) fetches (source_contents source) → 1 ≤ length source.lines
