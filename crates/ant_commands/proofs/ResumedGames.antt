@@ -5,7 +5,7 @@ use Rattle.ant_base.specs.Fetched.{Fetched}
 use Rattle.ant_base.specs.Layout.{◌+++◌}
 use Rattle.ant_base.specs.Shelf.{longest}
 use Rattle.brain_read.specs.declared.instr.Instr.{Instr}
-use Rattle.brain_read.specs.declared.instr.Instr.TheVariants.{Sense, Mark, Unmark, PickUp, Drop, Turn, Move, Flip}
+use Rattle.brain_read.specs.declared.instr.Instr.TheVariants.{Flip}
 use Rattle.brain_read.specs.Forms.{HasBound, InstrLine, IsInRange}
 use Rattle.brain_read.specs.Grammar.{AreLines, IsBrainText}
 use Rattle.brain_read.proofs.SoundnessLemmas.{brain_of}
@@ -38,14 +38,8 @@ use Rattle.ant_commands.specs.Laws.{IsGameOf, IsSavedAs, SavesAreResumed, front_
 
 -- the bounds of a brain that was read are at most the largest
 bound : (instruction : Instr) → IsInRange instruction → HasBound instruction
-bound (Sense s m u c) range = tt
-bound (Mark i k) range = tt
-bound (Unmark i k) range = tt
-bound (PickUp m u) range = tt
-bound (Drop k) range = tt
-bound (Turn s k) range = tt
-bound (Move m u) range = tt
 bound (Flip b m u) range = range.1
+bound instruction range = tt
 
 bounds : (lines : List TokenLine) (list : List Instr) → AreLines lines list → AllByRecursion HasBound list
 bounds lines [] are = tt

@@ -139,7 +139,7 @@ a_world bytes (WorldContent grid) reads = (grid, reads)
 a_world bytes (BrainContent list) reads = absurd reads
 a_world bytes (BreakContent items) reads = absurd reads
 a_world bytes (LabelledContent brain places) reads = absurd reads
-a_world bytes (SourceContent labels lines) reads = absurd reads
+a_world bytes (SourceContent source) reads = absurd reads
 a_world bytes (SaveContent saved) reads = absurd reads
 
 a_brain : (bytes : List ℕ) (content : FileContent) → Reads BrainFile bytes content → IsBrain bytes
@@ -147,7 +147,7 @@ a_brain bytes (WorldContent grid) reads = absurd reads
 a_brain bytes (BrainContent list) reads = (list, reads)
 a_brain bytes (BreakContent items) reads = absurd reads
 a_brain bytes (LabelledContent brain places) reads = absurd reads
-a_brain bytes (SourceContent labels lines) reads = absurd reads
+a_brain bytes (SourceContent source) reads = absurd reads
 a_brain bytes (SaveContent saved) reads = absurd reads
 
 -- the last fetch of a run
