@@ -7,7 +7,7 @@
 #include <stdlib.h>
 #include <string.h>
 
-enum { ROOM = 1 << 17, THREADS = 8, TRIALS = 400, BESIDE = 0xa5 };
+enum { ROOM = 1 << 17, ANTS = 1 << 10, LINE = 64, THREADS = 8, TRIALS = 400, BESIDE = 0xa5 };
 
 void *__real_malloc(size_t size);
 void *__real_realloc(void *old, size_t size);
@@ -48,49 +48,85 @@ struct text {
 };
 static struct text world, red, black, program, save, wrong;
 
-// All that a call may write to.
+// The files of a call of the program, one behind the other.
+static const char file_names[] = "world\nred\nblack\nprogram\nsave\nwrong\n";
+static uint32_t sizes[6];
+static struct text files;
+
+// All that a call may write to, and a little more.
 struct rooms {
-    uint8_t out[ROOM];
-    size_t used;
-    struct ants_score_data scores[3];
+    uint8_t out[ROOM], said[2 * LINE], words[LINE];
+    size_t used, told, ids;
+    struct ants_score_data scores[4];
+    struct ants_ant_data ants[ANTS + 1];
     struct ants_fault_data fault;
-    uint8_t words[64];
 };
+
+// The calls: how many bytes each has room for, and of one of the program its words, and the room for its line.
+static const struct {
+    const char *name;
+    size_t room;
+    const char *words;
+    size_t line;
+} calls[] = {
+    {.name = "score"}, {.name = "scores"}, {"run", ROOM, 0, 0}, {"brain", ROOM, 0, 0}, {"minimise", ROOM, 0, 0}, {"asm", ROOM, 0, 0},
+    {"same", ROOM, 0, 0}, {"gen", ROOM, 0, 0}, {"save", ROOM, 0, 0}, {"resume", ROOM, 0, 0}, {.name = "look"},
+    {.name = "score of a wrong brain"}, {"run with little room", 9, 0, 0}, {"brain with no room", 0, 0, 0}, {"a wrong brain", ROOM, 0, 0},
+    {"a wrong program", ROOM, 0, 0}, {"same of a wrong brain", ROOM, 0, 0}, {"gen without room for an element", ROOM, 0, 0},
+    {"save with little room", 100, 0, 0}, {"a wrong save", ROOM, 0, 0}, {.name = "look of a wrong brain"}, {.name = "look with little room"},
+    {"call of run", ROOM, "run\nworld\nred\nblack\n--seed\n12345\n--rounds\n20\n--dump\n0,7,20\n", LINE},
+    {"call of run by workers", ROOM, "run\nworld\nred\nblack\n--seed\n12345\n--rounds\n9\n--dump\n0\n--workers\n2\n--stats\n--window\n3\n", LINE},
+    {"call of run with little room", 100, "run\nworld\nred\nblack\n--seed\n12345\n--rounds\n20\n--dump\n0,7,20\n", 9},
+    {"call of cup", ROOM, "cup\n--worlds\nworld\n--brains\nred\nblack\n--seed\n1\n--rounds\n9\n--games\n--workers\n2\n", LINE},
+    {"call of asm", ROOM, "asm\nprogram\n--labels\n", LINE}, {"call of minimise", ROOM, "minimise\nblack\n--states\n", LINE},
+    {"call of resume", ROOM, "resume\nsave\n--rounds\n40\n--dump\n30\n--stats\n", LINE}, {"call with a wrong brain", ROOM, "same\nred\nwrong\n", LINE},
+    {"call with no such file", ROOM, "brain\nnone\n", LINE}, {"call of no command", ROOM, "turn\nworld\n", LINE}, {"call of no words", ROOM, "brain\n\xff\n", LINE},
+    {"call of help", ROOM, "--help\n", LINE},
+};
+enum { SAVE = 8, CALLS = sizeof calls / sizeof *calls };
 
 #define T(it) (it).bytes, (it).size
 #define FAULT &rooms->fault, rooms->words, sizeof rooms->words
-#define OUT(room) rooms->out, room, &rooms->used, FAULT
+#define OUT rooms->out, calls[which].room, &rooms->used, FAULT
+#define GAME T(world), T(red), T(black)
 
-static const uint32_t seeds[3] = {12345, 7, 0}, dumps[3] = {20, 0, 7};
+static const uint32_t seeds[3] = {12345, 7, 0}, dumps[3] = {20, 0, 7}, rounds[3] = {0, 7, 20};
 
-enum { SAVE = 8, CALLS = 19 };
-static const char *const names[CALLS] = {
-    "score", "scores", "run", "brain", "minimise", "asm", "same", "gen", "save", "resume",
-    "score of a wrong brain", "run with little room", "brain with no room", "a wrong brain", "a wrong program", "same of a wrong brain",
-    "gen without room for an element", "save with little room", "a wrong save",
-};
+static uint32_t look(struct text black_brain, size_t ants, struct rooms *rooms) {
+    return ants_look(T(world), T(red), T(black_brain), 12345, rounds, 3, rooms->scores, 3, rooms->ants, ants, &rooms->ids, FAULT);
+}
+
+static uint32_t call_of_program(int which, struct rooms *rooms) {
+    const char *words = calls[which].words;
+    return ants_call((const uint8_t *)words, strlen(words), (const uint8_t *)file_names, strlen(file_names), sizes, 6, T(files), rooms->out,
+                     calls[which].room, &rooms->used, rooms->said, calls[which].line, &rooms->told);
+}
 
 static uint32_t call(int which, struct rooms *rooms) {
     switch (which) {
-    case 0: return ants_score(T(world), T(red), T(black), 12345, 20, rooms->scores, FAULT);
-    case 1: return ants_scores(T(world), T(red), T(black), seeds, 3, 20, rooms->scores, 3, FAULT);
-    case 2: return ants_run(T(world), T(red), T(black), 12345, 20, dumps, 3, OUT(ROOM));
-    case 3: return ants_brain(T(red), OUT(ROOM));
-    case 4: return ants_minimise(T(red), OUT(ROOM));
-    case 5: return ants_asm(T(program), OUT(ROOM));
-    case 6: return ants_same(T(red), T(black), OUT(ROOM));
-    case 7: return ants_gen(12345, 60, 60, 3, 1, OUT(ROOM));
-    case SAVE: return ants_save(T(world), T(red), T(black), 12345, 20, OUT(ROOM));
-    case 9: return ants_resume(T(save), 40, dumps, 3, OUT(ROOM));
-    case 10: return ants_score(T(world), T(red), T(wrong), 12345, 20, rooms->scores, FAULT);
-    case 11: return ants_run(T(world), T(red), T(black), 12345, 20, dumps, 3, OUT(9));
-    case 12: return ants_brain(T(red), OUT(0));
-    case 13: return ants_brain(T(wrong), OUT(ROOM));
-    case 14: return ants_asm(T(wrong), OUT(ROOM));
-    case 15: return ants_same(T(red), T(wrong), OUT(ROOM));
-    case 16: return ants_gen(1, 12, 12, 0, 0, OUT(ROOM));
-    case 17: return ants_save(T(world), T(red), T(black), 12345, 20, OUT(100));
-    default: return ants_resume(T(wrong), 40, dumps, 3, OUT(ROOM));
+    case 0: return ants_score(GAME, 12345, 20, rooms->scores, FAULT);
+    case 1: return ants_scores(GAME, seeds, 3, 20, rooms->scores, 3, FAULT);
+    case 2: return ants_run(GAME, 12345, 20, dumps, 3, OUT);
+    case 3: return ants_brain(T(red), OUT);
+    case 4: return ants_minimise(T(red), OUT);
+    case 5: return ants_asm(T(program), OUT);
+    case 6: return ants_same(T(red), T(black), OUT);
+    case 7: return ants_gen(12345, 60, 60, 3, 1, OUT);
+    case SAVE: return ants_save(GAME, 12345, 20, OUT);
+    case 9: return ants_resume(T(save), 40, dumps, 3, OUT);
+    case 10: return look(black, ANTS, rooms);
+    case 11: return ants_score(T(world), T(red), T(wrong), 12345, 20, rooms->scores, FAULT);
+    case 12: return ants_run(GAME, 12345, 20, dumps, 3, OUT);
+    case 13: return ants_brain(T(red), OUT);
+    case 14: return ants_brain(T(wrong), OUT);
+    case 15: return ants_asm(T(wrong), OUT);
+    case 16: return ants_same(T(red), T(wrong), OUT);
+    case 17: return ants_gen(1, 12, 12, 0, 0, OUT);
+    case 18: return ants_save(GAME, 12345, 20, OUT);
+    case 19: return ants_resume(T(wrong), 40, dumps, 3, OUT);
+    case 20: return look(wrong, ANTS, rooms);
+    case 21: return look(black, 1, rooms);
+    default: return call_of_program(which, rooms);
     }
 }
 
@@ -103,8 +139,33 @@ static uint32_t call_refused(int which, long number, int is_for_good, struct roo
 }
 
 static void say(int which, long number, const char *fault) {
-    printf("%s, allocation %ld: %s\n", names[which], number, fault);
+    printf("%s, allocation %ld: %s\n", calls[which].name, number, fault);
     failures++;
+}
+
+static int stays(const void *place, size_t size) {
+    for (const uint8_t *byte = place; size > 0; size--)
+        if (*byte++ != BESIDE) return 0;
+    return 1;
+}
+
+static size_t least(size_t one, size_t other) { return one < other ? one : other; }
+
+// Whether a call has written nothing beside the rooms that it was given, nor behind its text and its line.
+static int stays_within(int which, const struct rooms *rooms) {
+    size_t used = least(rooms->used, calls[which].room), told = least(rooms->told, calls[which].line), ants = least(3 * rooms->ids, ANTS);
+    if (!stays(&rooms->scores[3], sizeof *rooms->scores) || !stays(&rooms->ants[ants], (ANTS + 1 - ants) * sizeof *rooms->ants)) return 0;
+    return stays(rooms->out + used, ROOM - used) && stays(rooms->said + told, sizeof rooms->said - told);
+}
+
+// Whether a call of the program that ran out of memory has written nothing, or a front of its text that isn't all of it, and the line that says so.
+static int is_cut_off(int which, const struct rooms *rooms, const struct rooms *before, const struct rooms *whole, uint32_t status) {
+    static const char line[] = "ants: out of memory\n";
+    if (memcmp(rooms, before, sizeof *rooms) == 0) return status == ANTS_MEMORY;
+    size_t used = least(rooms->used, calls[which].room), told = least(sizeof line - 1, calls[which].line);
+    if (rooms->used > whole->used || (rooms->used == whole->used && rooms->used > 0) || rooms->told != sizeof line - 1) return 0;
+    if (memcmp(rooms->out, whole->out, used) != 0 || memcmp(rooms->said, line, told) != 0 || !stays_within(which, rooms)) return 0;
+    return status == (used < rooms->used || told < rooms->told ? ANTS_NO_ROOM : ANTS_MEMORY);
 }
 
 // One call with one allocation refused, held against the whole call; how many allocations it made.
@@ -113,6 +174,8 @@ static long held(int which, long number, int is_for_good, struct rooms *rooms, c
     if (blocks != 0) say(which, number, "memory is kept");
     if (number == 0 || count < number) { // none was refused
         if (status != full || memcmp(rooms, whole, sizeof *rooms) != 0) say(which, number, "another answer without a refusal");
+    } else if (calls[which].words) {
+        if (!is_cut_off(which, rooms, before, whole, status)) say(which, number, "this is no game that ran out of memory");
     } else if (status != ANTS_MEMORY) {
         say(which, number, "the status is not 6");
     } else if (memcmp(rooms, before, sizeof *rooms) != 0) {
@@ -164,6 +227,17 @@ static struct text save_of(const struct rooms *rooms, uint32_t status) {
     exit(2);
 }
 
+static void put_files(void) {
+    const struct text all[6] = {world, red, black, program, save, wrong};
+    uint8_t *end = __real_malloc(6 * ROOM), *begin = end;
+    for (int place = 0; place < 6; place++) {
+        memcpy(end, all[place].bytes, all[place].size);
+        end += sizes[place] = all[place].size;
+    }
+    files = copy_of(begin, end - begin);
+    __real_free(begin);
+}
+
 int main(int words, char **word) {
     if (words != 5) return 2;
     world = text_of(word[1]), red = text_of(word[2]), black = text_of(word[3]), program = text_of(word[4]);
@@ -175,9 +249,13 @@ int main(int words, char **word) {
         full[which] = call_refused(which, 0, 0, whole[which]);
         allocations[which] = count;
         if (blocks != 0) say(which, 0, "memory is kept");
-        if (which == SAVE) save = save_of(whole[which], full[which]);
+        if (!stays_within(which, whole[which])) say(which, 0, "something is written outside");
+        if (which == SAVE) {
+            save = save_of(whole[which], full[which]);
+            put_files();
+        }
         each_refused(which, rooms);
-        printf("%s: status %u, %ld allocations\n", names[which], full[which], allocations[which]);
+        printf("%s: status %u, %ld allocations\n", calls[which].name, full[which], allocations[which]);
     }
     pthread_t threads[THREADS];
     int places[THREADS];

@@ -70,17 +70,20 @@
        ants_gen                             20 + height * (2 * width + 1)
        words of a fault                     100
 
-   The numbers are looked at first, then the room for scores, then the texts in their order. A result is written at ANTS_DONE alone, `used`
-   and `out` at ANTS_NO_ROOM too, `fault` and `words` at ANTS_REFUSED alone; all else stays as it was. A text that is done is in the first
-   `used` bytes of `out`, and those behind stay. What the numbers of a fault mean stands at the struct, and its kinds above it.
+   For ants_look it is a score for each round, and for each round as many ants as the hills have cells.
+
+   The numbers are looked at first, then the room of ants_scores, then the texts in their order, then other room. A result is written at
+   ANTS_DONE alone, `used`, `out` and `ids` at ANTS_NO_ROOM too, `fault` and `words` at ANTS_REFUSED alone; all else stays as it was. A text
+   that is done is in the first `used` bytes of `out`, and those behind stay. What the numbers of a fault mean stands at the struct, and its
+   kinds above it.
 
    WHAT A CALLER OWES, and nobody checks. The functions are proved for callers that keep to this:
 
     1. No pointer is NULL, and each is aligned for its type; but one whose length is 0 may be anything, as NULL, and is not looked at.
     2. As many elements lie there as the length says, in one block of at most 2^63 - 1 bytes that may be read, and written to where the
        parameter has no `const`.
-    3. What a call may write to (score, scores, out, used, fault, words, said, told) overlaps nothing else that it is passed, is initialised before
-       the call, and is read and written by nobody else during it. What it only reads is written by nobody during it.
+    3. What a call may write to (score, scores, ants, ids, out, used, fault, words, said, told) overlaps nothing else that it is passed, is
+       initialised before the call, and is read and written by nobody else during it. What it only reads is written by nobody during it.
     4. This header and the library are of one version: nothing is checked at the link, but ants_version() can be asked.
     5. malloc, realloc and free are of one allocator, and align a block to each power of two up to 16 that divides its size. One that
        stands in for them replaces all three.

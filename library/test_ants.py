@@ -9,6 +9,7 @@ import glob
 import os
 import pathlib
 import pickle
+import re
 import subprocess
 import sys
 import tempfile
@@ -279,6 +280,23 @@ class Texts(Beside):
                 call()
             self.assertNotIsInstance(caught.exception, icfp_ants.Refused)
         self.assertRaises(TypeError, lambda: icfp_ants.score(WORLD, "Drop 0\n", "Drop 0\n", 1.5, 1))
+
+
+class Session(Beside):
+    def test_that_evolves_brains_begins_no_process_and_prints_scores_of_the_program(self):
+        names = [os.path.join(TOP, "examples", it) for it in ("heap.world", "bring_home.brain", "trail.brain")]
+        begins = "subprocess.", "os.exec", "os.fork", "os.posix_spawn", "os.spawn", "os.system"
+        hook = "import runpy, sys\nsys.addaudithook(lambda event, given: event.startswith(%r) and sys.exit(event))\n" % (begins,)
+        lines = hook + "sys.argv[1:] = %r\nrunpy.run_path('evolve.py', run_name='__main__')\n" % [*names, "2000"]
+        folder = os.path.join(TOP, "library")
+        ran = subprocess.run([sys.executable, "-c", lines], cwd=folder, stdout=subprocess.PIPE, stderr=subprocess.PIPE, universal_newlines=True)
+        self.assertEqual((ran.returncode, ran.stderr), (0, ""))
+        seen = re.findall(r"; seed (\d+): (red \d+ black \d+), .*", ran.stdout)
+        self.assertEqual([int(seed) for seed, _ in seen], [*range(10)])
+        game = dict(zip(("world", "red", "black"), (example("heap.world"), ran.stdout, example("trail.brain"))))
+        for seed, score in seen:
+            self.assertIn("score: %s\n" % score, self.written("run", "world", "red", "black", "--seed", seed, "--rounds", 1000, **game))
+        self.assertGreater(sum(int(score.split()[1]) for _, score in seen), 0)
 
 
 class WhatIsNoText(unittest.TestCase):

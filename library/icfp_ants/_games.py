@@ -1,14 +1,13 @@
 """Games of two brains on a world, and their saves."""
 import concurrent.futures
-import ctypes
 import re
 import struct
-from ctypes import byref, c_uint32
+from ctypes import byref, c_uint32, sizeof
 from typing import Callable, Dict, Iterable, List, NamedTuple, Tuple
 
 from . import _declared
 from ._calling import output_of, read_game
-from ._library import MOST_ROUNDS, Answer, Text, Texts, bytes_of, is_done, library, number_of, numbers_of, passed, text_of, texts_of
+from ._library import MOST_ROUNDS, Answer, Text, Texts, bytes_of, is_done, library, number_of, numbers_of, text_of, texts_of
 
 _MOST_CELLS = 512 * 512
 _MOST_GUESSED = 1 << 28  # bytes of a room for a text whose length isn't known; only those that are written take memory
@@ -77,7 +76,7 @@ def score(world: Text, red: Text, black: Text, seed: int, rounds: int) -> Score:
 def scores(world: Text, red: Text, black: Text, seeds: Iterable[int], rounds: int, workers: int = 1) -> List[Score]:
     """The score of a game for each of these seeds, by so many threads; one thread reads the texts once."""
     game = texts_of(world=world, red=red, black=black)
-    return _scores_of_games([passed(game.values())], lambda place: list(game), seeds, rounds, workers)[0]
+    return _scores_of_games(game["world"], [(game["red"], game["black"])], lambda place: list(game), seeds, rounds, workers)[0]
 
 
 def scores_of_pairs(world: Text, pairs: Iterable[Tuple[Text, Text]], seeds: Iterable[int], rounds: int, workers: int = 1) -> List[List[Score]]:
@@ -90,9 +89,9 @@ def scores_of_pairs(world: Text, pairs: Iterable[Tuple[Text, Text]], seeds: Iter
     for place, pair in enumerate(listed):
         for side, text in enumerate(pair):
             if id(text) not in held:
-                held[id(text)] = bytes_of("pairs[%d][%d]" % (place, side), text)
-    games = [passed((ground, held[id(red)], held[id(black)])) for red, black in listed]
-    return _scores_of_games(games, lambda place: ["world", "pairs[%d][0]" % place, "pairs[%d][1]" % place], seeds, rounds, workers)
+                held[id(text)] = bytes_of(f"pairs[{place}][{side}]", text)
+    games = [(held[id(red)], held[id(black)]) for red, black in listed]
+    return _scores_of_games(ground, games, lambda place: ["world", f"pairs[{place}][0]", f"pairs[{place}][1]"], seeds, rounds, workers)
 
 
 def _pair(place: int, pair: Tuple[Text, Text]) -> Tuple[Text, Text]:
@@ -104,8 +103,10 @@ def _pair(place: int, pair: Tuple[Text, Text]) -> Tuple[Text, Text]:
     return red, black
 
 
-def _scores_of_games(games: List[List[object]], names: Callable[[int], List[str]], seeds: Iterable[int], rounds: int, workers: int) -> List[List[Score]]:
-    """The scores of each game for each seed. They are dealt out in parts, of some seeds of one game up to all seeds of some games."""
+def _scores_of_games(
+    world: bytes, games: List[Tuple[bytes, bytes]], names: Callable[[int], List[str]], seeds: Iterable[int], rounds: int, workers: int,
+) -> List[List[Score]]:
+    """The scores of each two brains for each seed. They are dealt out in parts, of some seeds of one game up to all seeds of some games."""
     rounds, workers = _rounds(rounds), number_of("workers", workers, 1, _MOST_WORKERS)
     numbers = numbers_of("seeds", seeds)
     count = len(numbers) - 1
@@ -114,6 +115,7 @@ def _scores_of_games(games: List[List[object]], names: Callable[[int], List[str]
     size = total if workers == 1 else max(1, total // (workers * _PARTS))
     found = (_declared.Score * (total + 1))()
     function, first_number, first_score = library().ants_scores, c_uint32.from_buffer(numbers), _declared.Score.from_buffer(found)
+    size_of_number, size_of_score = sizeof(c_uint32), sizeof(_declared.Score)
 
     def play(begin: int) -> None:
         """Plays a part, with little besides the calls, since threads of Python wait for each other there."""
@@ -121,8 +123,10 @@ def _scores_of_games(games: List[List[object]], names: Callable[[int], List[str]
         while begin < end:
             place, first = divmod(begin, row)
             some = min(row - first, end - begin)
-            given, room = byref(first_number, first * ctypes.sizeof(c_uint32)), byref(first_score, begin * ctypes.sizeof(_declared.Score))
-            status = function(*games[place], given, min(some, count), rounds, room, some, *answer.passed)
+            red, black = games[place]
+            status = function(
+                world, len(world), red, len(red), black, len(black), byref(first_number, first * size_of_number), min(some, count), rounds,
+                byref(first_score, begin * size_of_score), some, *answer.passed)
             if status != _declared.DONE:
                 answer.is_done(status, names(place))
             begin += some
@@ -132,7 +136,7 @@ def _scores_of_games(games: List[List[object]], names: Callable[[int], List[str]
     else:
         with concurrent.futures.ThreadPoolExecutor(workers) as threads:
             list(threads.map(play, range(0, total, size)))  # raises what the first part that raises anything does
-    flat = [Score(*it) for it in struct.iter_unpack("=II", found)]
+    flat = list(map(Score._make, struct.iter_unpack("=II", found)))
     return [flat[begin:begin + count] for begin in range(0, total, row)]
 
 

@@ -8,7 +8,7 @@ import pathlib
 import sys
 from array import array
 from ctypes import byref, c_char, c_size_t, c_uint32
-from typing import Dict, Iterable, Iterator, List, Union
+from typing import Dict, Iterable, Iterator, Union
 
 from . import _declared
 from ._declared import Kind
@@ -124,15 +124,10 @@ class Answer:
         return status == _declared.DONE
 
 
-def passed(texts: Iterable[bytes]) -> List[object]:
-    """Texts as C is given them, each with its length."""
-    return [it for text in texts for it in (text, len(text))]
-
-
 def is_done(function: str, texts: Texts, *more: object) -> bool:
     """Calls a function of the library; whether it had room enough."""
-    answer = Answer()
-    return answer.is_done(getattr(library(), function)(*passed(texts.values()), *more, *answer.passed), texts)
+    answer, passed = Answer(), [it for text in texts.values() for it in (text, len(text))]
+    return answer.is_done(getattr(library(), function)(*passed, *more, *answer.passed), texts)
 
 
 def area_of(room: int) -> mmap.mmap:

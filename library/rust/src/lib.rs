@@ -98,6 +98,53 @@ pub struct Difference {
     pub second: String,
 }
 
+/// A game as it stands after a round.
+#[derive(Clone, Debug, PartialEq, Eq)]
+pub struct Look {
+    /// After which round.
+    pub round: u32,
+    /// The score.
+    pub score: Score,
+    /// The ants by their ids, `None` for one that is dead.
+    pub ants: Vec<Option<Ant>>,
+}
+
+/// A colour of ants.
+#[derive(Clone, Copy, Debug, PartialEq, Eq, Hash)]
+#[allow(missing_docs)]
+pub enum Colour {
+    Red,
+    Black,
+}
+
+/// An ant that is alive.
+#[derive(Clone, Copy, Debug, PartialEq, Eq, Hash)]
+pub struct Ant {
+    /// Its colour.
+    pub colour: Colour,
+    /// Its column, from 0.
+    pub column: u16,
+    /// Its row, from 0.
+    pub row: u16,
+    /// Its direction: 0 is east, 1 southeast, and so on clockwise to 5.
+    pub direction: u8,
+    /// Whether it carries food.
+    pub laden: bool,
+    /// The state of its colour's brain that it executes next.
+    pub state: u32,
+    /// How many turns it still rests.
+    pub resting: u32,
+}
+
+impl Ant {
+    /// The ant of a record, if it is alive.
+    fn of(it: &raw::Ant) -> Option<Ant> {
+        let raw::Ant { state, resting, column, row, alive, colour, direction, laden } = *it;
+        let colour = if colour == 0 { Colour::Red } else { Colour::Black };
+        (alive != 0).then_some(Ant { colour, column, row, direction, laden: laden != 0, state, resting })
+    }
+}
+
 /// What came of a command.
 #[derive(Clone, Debug, PartialEq, Eq)]
 pub struct Called {
@@ -115,8 +162,11 @@ const MOST_GUESSED: usize = 1 << 28;
 /// The room for a short text.
 const ROOM: usize = 1 << 16;
 
+/// How many ants a world has at most.
+const MOST_ANTS: usize = 1 << 14;
+
 /// Whether the library is of this crate's version.
-fn look() -> Result<(), Stop> {
+fn has_same_version() -> Result<(), Stop> {
     let (mut out, mut used) = ([0; 64], 0);
     raw::ants_version(&mut out, &mut used);
     let version = &out[..used.min(out.len())];
@@ -129,7 +179,7 @@ fn look() -> Result<(), Stop> {
 
 /// Calls a function over the texts of these names, with room for a fault and its words; whether the room for its result was enough.
 fn done(names: &[&'static str], call: impl FnOnce(&mut Fault, &mut [u8]) -> u32) -> Result<bool, Stop> {
-    look()?;
+    has_same_version()?;
     let (mut fault, mut words) = (Fault::default(), [0; 1024]);
     match call(&mut fault, &mut words) {
         raw::DONE => Ok(true),
@@ -201,6 +251,26 @@ impl<'a> Game<'a> {
         let mut scores = vec![Score::default(); seeds.len()];
         done(&Self::NAMES, |fault, words| raw::ants_scores(self.world, self.red, self.black, seeds, rounds, &mut scores, fault, words))?;
         Ok(scores)
+    }
+
+    /// The score and the ants after each of these rounds, in their order from the first on; a round that stands twice is looked at once.
+    ///
+    /// ```
+    /// let game = ants::Game::new("5\n3\n#####\n#+.-#\n#####\n", "Move 0 0\n", "Drop 0\n");
+    /// let looks = game.look(7, &[0, 15])?;
+    /// let columns = looks.iter().map(|it| it.ants[0].map(|ant| ant.column));
+    /// assert_eq!(columns.collect::<Vec<_>>(), [Some(1), Some(2)]);
+    /// # Ok::<(), ants::Stop>(())
+    /// ```
+    pub fn look(self, seed: u32, rounds: &[u32]) -> Result<Vec<Look>, Stop> {
+        let rounds: Vec<_> = BTreeSet::from_iter(rounds).into_iter().copied().collect();
+        let hills = self.world.iter().filter(|it| matches!(it, b'+' | b'-')).count().min(MOST_ANTS);
+        let (mut scores, mut ants, mut ids) = (vec![Score::default(); rounds.len()], vec![raw::Ant::default(); rounds.len() * hills], 0);
+        done(&Self::NAMES, |fault, words| {
+            raw::ants_look(self.world, self.red, self.black, seed, &rounds, &mut scores, &mut ants, &mut ids, fault, words)
+        })?;
+        let looks = rounds.iter().zip(scores).enumerate();
+        Ok(looks.map(|(at, (&round, score))| Look { round, score, ants: ants[at * ids..][..ids].iter().map(Ant::of).collect() }).collect())
     }
 
     /// What `ants run` prints, with a dump after each of these rounds.
@@ -361,7 +431,7 @@ fn cut(mut room: Vec<u8>, used: usize) -> String {
 /// # Ok::<(), ants::Stop>(())
 /// ```
 pub fn call(words: &[&str], files: &[(&str, &[u8])]) -> Result<Called, Stop> {
-    look()?;
+    has_same_version()?;
     let spoken = lines(words.iter().copied()).ok_or(Stop::Unreadable)?;
     let names = lines(files.iter().map(|it| it.0)).ok_or(Stop::Unreadable)?;
     let sizes: Vec<_> = files.iter().map(|it| u32::try_from(it.1.len())).collect::<Result<_, _>>().map_err(|_| Stop::Unreadable)?;

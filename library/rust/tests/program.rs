@@ -1,6 +1,6 @@
 //! Holds the crate against the program that PROGRAM names.
-use ants::{Game, Stop};
-use std::{env, fs, path::PathBuf, process::Command};
+use ants::{Ant, Colour, Game, Stop};
+use std::{collections::BTreeMap, env, fs, path::PathBuf, process::Command};
 
 const WORLD: &[u8] = b"6\n4\n######\n#+.3-#\n #.5..#\n######\n";
 const RED: &[u8] = b"Move 1 0\nPickUp 0 0\n";
@@ -35,6 +35,42 @@ fn games_are_those_of_the_program() {
     assert!(printed.ends_with(&format!("score: red {} black {}\n", score.red, score.black)));
     assert_eq!(GAME.scores(&[3, 7, 7], 20).unwrap()[1..], [score, score]);
     assert_eq!(GAME.scores(&[], 20).unwrap(), []);
+}
+
+/// The ant of a line of a dump, with its id.
+fn ant_of(line: &str) -> Option<(usize, Ant)> {
+    let (place, ant) = line.strip_prefix("cell (")?.split_once(" ant of id ")?;
+    let (column, row) = place.split_once(')')?.0.split_once(", ")?;
+    let colour = if place.ends_with("red") { Colour::Red } else { Colour::Black };
+    let numbers: Vec<u32> = ant.split(", ").map(|it| it.rsplit(' ').next().unwrap().parse().unwrap()).collect();
+    let [id, direction, food, state, resting] = numbers[..] else { panic!("{line}") };
+    let (column, row) = (column.parse().unwrap(), row.parse().unwrap());
+    Some((id as usize, Ant { colour, column, row, direction: direction as u8, laden: food == 1, state, resting }))
+}
+
+#[test]
+fn looks_are_the_dumps_of_the_program() {
+    let rounds = [30, 0, 7, 7, 13];
+    let looks = GAME.look(7, &rounds).unwrap();
+    assert_eq!(looks.iter().map(|it| it.round).collect::<Vec<_>>(), [0, 7, 13, 30]);
+    for look in &looks {
+        let printed = written("look", &format!("run world red black --seed 7 --rounds {0} --dump {0}", look.round));
+        let living: BTreeMap<_, _> = printed.lines().filter_map(ant_of).collect();
+        assert_eq!(look.ants, (0..2).map(|id| living.get(&id).copied()).collect::<Vec<_>>());
+        assert!(printed.ends_with(&format!("score: red {} black {}\n", look.score.red, look.score.black)));
+    }
+    assert!(looks.iter().any(|it| it.ants[0].unwrap().laden));
+    assert_eq!(GAME.look(7, &[]), Ok(vec![]));
+    assert_eq!(GAME.look(7, &[3, 1_000_001]), Err(Stop::Limit));
+    assert_eq!(Game { red: b"", ..GAME }.look(7, &[3]).unwrap_err().to_string(), "red: no instruction");
+}
+
+#[test]
+fn a_dead_ant_is_none() {
+    let ambush = "7\n6\n#######\n#.....#\n#..-#.#\n#-.+-##\n#+.--##\n#######\n";
+    let look = &Game::new(ambush, "Flip 2 0 0\n", "Move 0 0\n").look(12345, &[1]).unwrap()[0];
+    assert_eq!((look.ants.len(), look.ants[2], look.score.red), (7, None, 3));
+    assert!(look.ants.iter().enumerate().all(|(id, ant)| ant.is_some() == (id != 2)));
 }
 
 #[test]
