@@ -5,7 +5,7 @@ use Rattle.ant_turn.specs.Minds.{minds_of, mind_of}
 use Rattle.ant_turn.proofs.KeptByTurns.{Keeps-execute}
 use Rattle.ant_turn.proofs.StandsLemmas.{StandsAt-at}
 use Rattle.ant_turn.proofs.Turns.{turn-executes}
-use Rattle.ant_turn.proofs.turn.act.Goals as goal
+use Rattle.ant_turn.proofs.turn.take_found_turn.Goals as goal
 
 pub execute-requires-clause-stands : goal.execute-requires-clause-stands
 execute-requires-clause-stands g c =
