@@ -60,7 +60,7 @@ class Commands:
     def manual(self):
         out = []
         for command, text in self.texts.items():
-            out += [".TP", ".B %s" % command.replace("-", r"\-")] + [roff(it) for it in textwrap.wrap(text["manual"], 76, break_on_hyphens=False)]
+            out += [".TP", ".B %s" % command.replace("-", r"\-")] + [roff(it) for it in textwrap.wrap(text["manual"], 66, break_on_hyphens=False)]
         return "\n".join(out) + "\n"
 
 

@@ -1,5 +1,5 @@
 -- Of whom a turn kills, the line that a deed tells is the one that the definition has.
-use Rattle.std.proofs.Common.{◌≡◌, ◌≢◌, inl, inr, ℕ, zero, suc, Bool, true, false, cond, if◌then◌else◌, List, [], ◌∷◌, ◌++◌, Option, Some, None, option_map, nat_eq, refl, sym, ◌∙◌, ap, ap₂, codes, decimal}
+use Rattle.std.proofs.Common.{◌≡◌, ◌≢◌, inl, inr, ℕ, zero, suc, Bool, true, false, if◌then◌else◌, List, [], ◌∷◌, ◌++◌, Option, Some, None, option_map, nat_eq, refl, sym, ◌∙◌, ap, ap₂, codes, decimal}
 use Rattle.std.specs.List.{flat_map}
 use Rattle.std.specs.Option.{option_and_then}
 use Rattle.std.proofs.lemmas.Bool.{cases_Bool, cond-false, cond-true, eq-eqb, false_from_ne_true, eqb-true}
@@ -18,14 +18,14 @@ use Rattle.cell_world.specs.World.{Cells, World, place_in, put_cell}
 use Rattle.cell_world.proofs.Places.{Holder, holds_id-own, place_in-ant, place_in-found}
 use Rattle.cell_world.proofs.Puts.{cases_pos, put_cell-other, put_cell-same}
 use Rattle.ant_turn.specs.Deaths.{dead_after, dead_all, dead_at, dead_by}
-use Rattle.ant_turn.specs.Kills.{check_all, check_at, is_surrounded, killed_all, killed_at, places_around}
+use Rattle.ant_turn.specs.Kills.{check_at, is_surrounded, killed_all, killed_at, places_around}
 use Rattle.ant_turn.specs.Minds.{Minds, mind_of}
 use Rattle.ant_turn.specs.Sheet.{Sheet}
 use Rattle.ant_turn.specs.Turn.{acts, ant_becomes, arrived, checked, execute, in_state, instruction_at, is_blocked, left_by_ant, stepped, with_ant}
 use Rattle.ant_turn.proofs.Checks.{Struck, dead_at-spared, dead_at-struck, is_surrounded-true, killed_at-spared, killed_at-struck}
 use Rattle.ant_turn.proofs.KeptByChecks.{check_all-ant}
-use Rattle.game_tellings.specs.Events.{ahead_of, ant_in, ant_words, death_place, death_words, place_words, turn_words}
-use Rattle.game_tellings.specs.Inner.Broken.{broken_death, told_death}
+use Rattle.game_tellings.specs.Events.{ahead_of, ant_in, ant_words, death_place, death_words, place_words}
+use Rattle.game_tellings.specs.Inner.Broken.{told_death}
 
 -- the ant of an id is known by its place
 pub ant_in-at : (w : World) (t : ℕ) (p : Pos) (ant : Ant) → place_in w t ≡ Some p → (w.cells p).ant ≡ Some ant → ant_in w t ≡ Some ant

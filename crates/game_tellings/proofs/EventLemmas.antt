@@ -1,11 +1,11 @@
 -- The lines of events, as they are told and as they are pushed.
-use Rattle.std.proofs.Common.{◌≡◌, ℕ, ◌≤◌, ◌&&◌, List, [], ◌∷◌, ◌++◌, Option, Some, None, map, codes, decimal, refl, sym, ◌∙◌, ap, ap₂, append_assoc}
+use Rattle.std.proofs.Common.{◌≡◌, ℕ, ◌&&◌, List, [], ◌∷◌, ◌++◌, Option, Some, None, map, codes, decimal, refl, sym, ◌∙◌, ap, ap₂, append_assoc}
 use Rattle.std.specs.List.{flat_map}
 use Rattle.std.proofs.lemmas.Bool.{cond-true, eq-eqb}
 use Rattle.std.proofs.lemmas.Grind.{flat_map-append}
 use Rattle.std.proofs.lemmas.List.Folds.{flat_map-map}
 use Rattle.hex_geometry.specs.declared.position.Pos.{Pos}
-use Rattle.ant_base.specs.Layout.{text_of_option, ◌+++◌}
+use Rattle.ant_base.specs.Layout.{◌+++◌}
 use Rattle.ant_turn.specs.Minds.{Minds}
 use Rattle.ant_turn.specs.Rounds.{Moment, start_of}
 use Rattle.ant_turn.specs.Turn.{Outcome, turn}

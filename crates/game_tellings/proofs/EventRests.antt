@@ -1,5 +1,5 @@
 -- The lines of a turn don't tell how long an ant rests, and there are none of an idle turn.
-use Rattle.std.proofs.Common.{◌≡◌, ℕ, ◌+◌, Bool, true, slice_get, List, [], ◌++◌, Option, Some, None, map, option_map, if◌then◌else◌, nat_eq, codes, decimal, refl, sym, ap, ap₂, ◌∙◌}
+use Rattle.std.proofs.Common.{◌≡◌, ℕ, ◌+◌, true, slice_get, List, [], ◌++◌, Option, Some, None, map, option_map, if◌then◌else◌, nat_eq, codes, decimal, refl, sym, ap, ap₂, ◌∙◌}
 use Rattle.std.specs.Option.{option_and_then}
 use Rattle.std.specs.Prelude.{IfSome}
 use Rattle.std.proofs.Math.Path.{fun_ext}
@@ -25,7 +25,7 @@ use Rattle.ant_turn.specs.Turn.{Outcome, ant_becomes, execute, marked, turn, unm
 use Rattle.ant_turn.specs.Listed.{IsUp}
 use Rattle.ant_turn.proofs.FoundAnts.{found-holds}
 use Rattle.ant_turn.proofs.FoundTurns.{found-id}
-use Rattle.ant_turn.proofs.RestingTurns.{outcome-with_rests, turn-with_rests}
+use Rattle.ant_turn.proofs.RestingTurns.{turn-with_rests}
 use Rattle.ant_turn.proofs.Turns.{turn-dead, turn-executes, turn-rests}
 use Rattle.game_tellings.specs.Events.{ahead_of, ant_in, ant_words, changed_score, death_place, death_words, deaths_in, place_words, score_words, scores_in, turn_lines, turn_words}
 use Rattle.game_tellings.specs.Inner.Chunks.{is_quiet}

@@ -1,5 +1,5 @@
 -- Of a text some is pushed, and some is left.
-use Rattle.std.proofs.Common.{◌≡◌, ℕ, List, [], ◌++◌, refl, sym, ◌∙◌, ap, subst, append-nil, append_assoc}
+use Rattle.std.proofs.Common.{◌≡◌, ℕ, List, [], ◌++◌, refl, sym, ◌∙◌, ap, subst, append_assoc}
 use Rattle.ant_base.specs.Sink.{PushedAll, PushedFront, SinkState}
 use Rattle.ant_base.proofs.Pushes.{all_of_nothing, all_then, front_more, front_then}
 
@@ -25,7 +25,3 @@ pub PushesLeft-fails : {old now : SinkState} {all left : List ℕ} → PushesLef
 PushesLeft-fails {old} {now} {all} {left} before next part later parts pushed =
     subst (PushedFront old next) (sym (before.whole ∙ ap (λ t. before.done ++ t) parts))
     (front_then old now next before.done (part ++ later) before.pushed (front_more now next part later pushed))
-
--- nothing is left
-pub PushesLeft-all : {old now : SinkState} {all : List ℕ} → PushesLeft old now all [] → PushedAll old now all
-PushesLeft-all {old} {now} {all} before = subst (PushedAll old now) (sym (before.whole ∙ append-nil before.done)) before.pushed

@@ -1,5 +1,4 @@
 // The words of ants that die.
-ghost use Rattle.std.specs.Prelude.{◌≡◌};
 ghost use Rattle.game_tellings.specs.Inner.Broken.{broken_death, broken_turn};
 
 use ant_base::{Failed, Layout, Sink, layout};

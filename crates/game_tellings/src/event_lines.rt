@@ -191,38 +191,39 @@ fn push_turn<K: Sink>(
         let _deed = take_found_turn(ground, brains, stream, standing);
         return Ok(());
     }
-    push_deed(ground, brains, stream, id, round, sink)
+    push_deed(ground, &brains, stream, id, round, sink)
 }
 
-// The same, of a turn that may kill or move food. It stands alone, so that what is noted costs no other turn.
+// The same, of a turn that may kill or move food. It stands alone, so that what is noted costs no other turn,
+// and takes the brains lent, since a copy of them would be made in each.
 #[inline(never)]
 fn push_deed<K: Sink>(
     ground: &mut ScoredWorld,
-    brains: Brains<'_>,
+    brains: &Brains<'_>,
     stream: &mut Stream,
     id: u32,
     round: u32,
     sink: &mut K,
 ) -> Result<(), Failed>
-    requires fit { Fits (world_of ground.old) (minds_of brains) }
+    requires fit { Fits (world_of ground.old) (minds_of brains.now) }
     requires id { id < ground.old.ids }
     requires up { IsUp (world_of ground.old) id }
     requires place { stream.old.place + 1 < 2 ^ 63 }
     ensures text { Pushed (K.state sink.old) (K.state sink.new)
-        (broken (turn_lines (minds_of brains.entry) stream.old.seed round (moment_from ground.old stream.old) id)) result }
+        (broken (turn_lines (minds_of brains.now) stream.old.seed round (moment_from ground.old stream.old) id)) result }
     ensures world { world_of ground.new ≡ with_cells (world_of ground.old)
-        (turn (minds_of brains.entry) stream.old.seed (world_of ground.old) stream.old.place id).cells }
+        (turn (minds_of brains.now) stream.old.seed (world_of ground.old) stream.old.place id).cells }
     ensures stream { stream.new ≡ record stream.old {
-      place = stream.old.place + one_if (turn (minds_of brains.entry) stream.old.seed (world_of ground.old) stream.old.place id).drew;
+      place = stream.old.place + one_if (turn (minds_of brains.now) stream.old.seed (world_of ground.old) stream.old.place id).drew;
     } }
-    ensures fit { Fits (world_of ground.new) (minds_of brains.entry) }
+    ensures fit { Fits (world_of ground.new) (minds_of brains.now) }
 {
     let Some(standing) = ground.ant_of(id) else {
         return Ok(());
     };
     let before = ground.score();
     let mut dead = ArrayVec::new();
-    let _deed = take_told_turn(ground, brains, stream, standing, &mut dead);
+    let _deed = take_told_turn(ground, *brains, stream, standing, &mut dead);
     let turn = TurnWords {
         round,
         actor: standing.ant,

@@ -1,5 +1,5 @@
 -- The lines of a game's events as they are pushed: each behind the LF of the line before, and not before its own.
-use Rattle.std.specs.Prelude.{ℕ, List, [], flat_map, Option, Some, None, codes, decimal}
+use Rattle.std.specs.Prelude.{ℕ, List, flat_map, Option, Some, codes, decimal}
 use Rattle.ant_base.specs.Layout.{text_of_option, ◌+++◌}
 use Rattle.cell_world.specs.declared.ant.Ant.{Ant}
 use Rattle.cell_world.specs.declared.ant.PlacedAnt.{PlacedAnt}

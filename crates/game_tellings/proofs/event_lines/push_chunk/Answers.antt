@@ -29,7 +29,6 @@ push_listed-requires-clause-up g c =
     (subst (λ (k : ℕ). AreUp (rested c.args.from k w) listed) all
     (chunk-up (minds_of c.args.brains) c.args.stream.now.seed m c.args.from n listed c.rest_some-count.ensures.listed (omega (arith, all, c.requires.made))))
 
-
 pub returns-clause-text : goal.returns-clause-text
 returns-clause-text g c =
     let minds = minds_of c.args.brains in

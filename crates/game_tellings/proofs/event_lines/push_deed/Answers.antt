@@ -26,9 +26,9 @@ returns-in_default g c =
     let w = world_of c.args.ground.now in
     let s = c.args.stream.now in
     let gone = sym c.ant_of.ensures.place ∙ ap (option_map (λ (it : PlacedAnt). it.place)) c.in_default.is in
-    let dead = turn-dead (minds_of c.args.brains) s.seed w s.place c.args.id gone in
+    let dead = turn-dead (minds_of c.args.brains.now) s.seed w s.place c.args.id gone in
     record {
-      text = rw (broken-dead (minds_of c.args.brains) s.seed c.args.round (moment_from c.args.ground.now s) c.args.id gone) (all_of_nothing (g.K.Sink.state c.args.sink.now));
+      text = rw (broken-dead (minds_of c.args.brains.now) s.seed c.args.round (moment_from c.args.ground.now s) c.args.id gone) (all_of_nothing (g.K.Sink.state c.args.sink.now));
       world = rw dead c.ant_of.ensures.world;
       stream = rw dead (stream-undrawn s);
       fit = rw c.ant_of.ensures.world c.requires.fit;
@@ -46,7 +46,7 @@ take_told_turn-deed-requires-clause-up g c = is_up (world_of c.args.ground.now) 
 
 pub returns-in_err-push_deaths : goal.returns-in_err-push_deaths
 returns-in_err-push_deaths g c =
-    let minds = minds_of c.args.brains in
+    let minds = minds_of c.args.brains.now in
     let w = world_of c.args.ground.now in
     let s = c.args.stream.now in
     let it = c.in-Some.standing in
@@ -71,7 +71,7 @@ returns-in_err-push_deaths g c =
 
 pub returns : goal.returns
 returns g c =
-    let minds = minds_of c.args.brains in
+    let minds = minds_of c.args.brains.now in
     let w = world_of c.args.ground.now in
     let s = c.args.stream.now in
     let it = c.in-Some.standing in

@@ -1,4 +1,4 @@
-use Rattle.std.proofs.Common.{◌≡◌, ◌+◌, ◌++◌, ◌∷◌, ◌∙◌, ℕ, List, ap, drop, subst, sym, arith}
+use Rattle.std.proofs.Common.{◌≡◌, ◌+◌, ◌++◌, ◌∷◌, ◌∙◌, ℕ, List, ap, drop, subst, sym}
 use Rattle.std.proofs.lemmas.List.{drop_more}
 use Rattle.std.proofs.lemmas.Result.{err_from_is_err_and}
 use Rattle.ant_base.specs.Sink.{PushedAll, PushedFront}
@@ -12,7 +12,7 @@ use Rattle.game_tellings.specs.Events.{turn_lines}
 use Rattle.game_tellings.specs.Inner.Broken.{broken}
 use Rattle.game_tellings.specs.Inner.Chunks.{told_in_listed}
 use Rattle.game_tellings.proofs.EventLemmas.{broken-append}
-use Rattle.game_tellings.proofs.PushesLeft.{PushesLeft-all, PushesLeft-fails, PushesLeft-more, PushesLeft-none}
+use Rattle.game_tellings.proofs.PushesLeft.{PushesLeft-fails, PushesLeft-more, PushesLeft-none}
 use Rattle.game_tellings.proofs.event_lines.push_listed.Goals as goal
 
 pub loop-id-init : goal.loop-id-init
