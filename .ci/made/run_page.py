@@ -81,7 +81,7 @@ class RunPage:
                     made += '<b id="%s">%s</b>' % (self.place(it), html.escape(text))
                     named = True
                 else:
-                    made += self.linked(text, to, "" if isinstance(it, Call) else before)
+                    made += self.linked(text, to, before, it)
                 before = text
             out.append(made)
         made = "\n".join(out)
@@ -89,19 +89,19 @@ class RunPage:
             raise Unknown("%s: %s isn't shown as it stands" % (it.file, it.name))
         return made
 
-    def linked(self, text, to, before):
+    def linked(self, text, to, before, of):
         said = html.escape(text)
         if text.startswith(("--", "//")):
             return "<i>%s</i>" % said
-        if before.endswith("."):
+        if before.endswith(".") and not isinstance(of, Call):
             owners = [it for it in self.reached if it.shape in ("record", "type") and text in it.members()]
             to = owners[0] if len(owners) == 1 else None
-        if to is None and text in self.told and not text[0].isalnum():
+        if to is None and text in self.told and not text[0].isalnum() and not isinstance(of, Call):
             to = text  # a sign of the language
         if isinstance(to, str):
             self.library.add(to)
             return '<a href="#word-%s">%s</a>' % (anchor(to), said)
-        if to is None or isinstance(to, Call):
+        if to is None or isinstance(to, Call) or isinstance(of, CodeType) and text in of.members():
             return said
         at = "#" + self.place(to) if to in self.reached or to in self.also else "../%s#L%d" % (to.file, to.line)
         return '<a href="%s">%s</a>' % (at, said)
