@@ -14,9 +14,10 @@ one of them refuses it. Several `new:` are several lines. A line `or` begins ano
       old: TEXT
       new: TEXT
 """
+import collections
 import re
 
-from tree import Unknown, below, crates, exists, read, source_files
+from tree import Unknown, below, crates, exists, read, source_files, table
 
 FILE = "docs/bent_rules.txt"
 EXAMPLES = {"RULES": "docs/RULES.md", "README": "README.md"}
@@ -24,11 +25,8 @@ LIBRARY_TESTS = "library/test_ants.py"
 HOW = {"again": "again", "place": "in place", "copy": "in a copy", "code": "with its code", "read": "by eye"}
 
 
-class Lemma:
-    """A lemma that a row names, with the file of proofs/ in which it stands."""
-
-    def __init__(self, crate, name, file):
-        self.crate, self.name, self.file = crate, name, file
+# A lemma that a row names, with the file of proofs/ in which it stands.
+Lemma = collections.namedtuple("Lemma", "crate name file")
 
 
 class Row:
@@ -48,12 +46,10 @@ class Row:
             self.edits[-1].append(line)
 
 
-class Bend:
+class Bend(collections.namedtuple("Bend", "number row bend lemmas texts")):
     """An edit of a row: the lemmas of one crate, of which one has to refuse it, and the texts of the files that it changes."""
 
-    def __init__(self, row, lemmas, texts):
-        self.number, self.row, self.bend, self.lemmas, self.texts = row.number, row.line, row.bend, lemmas, texts
-        self.crate = lemmas[0].crate
+    crate = property(lambda self: self.lemmas[0].crate)
 
 
 class Evidence:
@@ -166,7 +162,7 @@ def bends():
             for it in lemmas:
                 if (it.crate, it.name) in evidence.twice:
                     raise Unknown("%s: two files of %s have a lemma %s" % (where, it.crate, it.name))
-            found.append(Bend(row, lemmas, edited(where, lines, below(lemmas[0].crate))))
+            found.append(Bend(row.number, row.line, row.bend, lemmas, edited(where, lines, below(lemmas[0].crate))))
     return found
 
 
@@ -174,7 +170,6 @@ def page():
     evidence, edits = Evidence(), len(bends())
     found = [(it.section, {evidence.kind(part) for part in it.refused_by}, it.how) for it in rows()]
     sections = [*dict.fromkeys(section for section, _, _ in found)]
-    kinds = ("lemma", "law", "test", "example")
     out = [
         "# Bent rules",
         "",
@@ -183,12 +178,10 @@ def page():
         "what refuses it. How that is tried: again, by `.ci/bend all`, which puts each of %d edits of the rows into a copy of the definitions, and checks that the named lemma is refused;" % edits,
         "or once: in place, in the definitions themselves; in a copy of them, whose values were computed; with its code, in a copy of both, or the code alone;",
         "or by eye, from the law or the rows, whose values were worked by hand: then nothing was changed or run.",
-        "",
-        "| rules | bends | " + " | ".join("by a " + it if it != "example" else "by an example" for it in kinds) + " | " + " | ".join(HOW.values()) + " |",
-        "|" + "---|" * (2 + len(kinds) + len(HOW)),
     ]
+    counted = []
     for section in sections + ["all"]:
         these = [it for it in found if section in (it[0], "all")]
-        counts = [len(these)] + [sum(kind in it[1] for it in these) for kind in kinds] + [sum(it[2] == how for it in these) for how in HOW]
-        out.append("| %s | %s |" % (section, " | ".join(str(it) if it else "" for it in counts)))
-    return "\n".join(out) + "\n"
+        counts = [len(these)] + [sum(kind in it[1] for it in these) for kind in ("lemma", "law", "test", "example")] + [sum(it[2] == how for it in these) for how in HOW]
+        counted.append([section] + [str(it or "") for it in counts])
+    return "\n".join(out) + "\n\n" + table(["rules", "bends", "by a lemma", "by a law", "by a test", "by an example", *HOW.values()], counted)

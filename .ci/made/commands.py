@@ -6,7 +6,7 @@ import re
 import textwrap
 
 from manual import roff
-from tree import Unknown, read
+from tree import Unknown, made_part, read, table
 from words import Words
 
 TEXTS = "docs/commands.txt"
@@ -41,11 +41,10 @@ class Commands:
         return " ".join([command + self.words.names[command]] + needed + (free if more else [".."] * bool(free)))
 
     def table(self, header, says, more, before=""):
-        rows = ["| `%s%s` | %s |" % (before, self.usage(it, more), text[says]) for it, text in self.texts.items()]
-        return "\n".join(["| %s | %s |" % header, "|---|---|"] + rows) + "\n"
+        return table(header, [["`%s%s`" % (before, self.usage(it, more)), text[says]] for it, text in self.texts.items()])
 
     def promises(self):
-        return "\n".join(["| command | what its text is |", "|---|---|"] + ["| `%s` | %s |" % (it, text["promise"]) for it, text in self.texts.items()]) + "\n"
+        return table(("command", "what its text is"), [["`%s`" % it, text["promise"]] for it, text in self.texts.items()])
 
     def synopsis(self):
         out = []
@@ -61,18 +60,12 @@ class Commands:
     def manual(self):
         out = []
         for command, text in self.texts.items():
-            out += [".TP", ".B %s" % command.replace("-", r"\-")] + [roff(it) for it in textwrap.wrap(text["manual"], 76, break_on_hyphens=False)]
+            out += [".TP", ".B %s" % command.replace("-", r"\-")] + [roff(it) for it in textwrap.wrap(text["manual"], 66, break_on_hyphens=False)]
         return "\n".join(out) + "\n"
 
 
-def made_lines(page, name, text):
-    """A manual page with this made part between its comments."""
-    at = re.compile(r'(\.\\" made: %s\n).*?(\.\\" end\n)' % re.escape(name), re.S)
-    if len(at.findall(page)) != 1:
-        raise Unknown("docs/ants.1: no one place for made: %s" % name)
-    return at.sub(lambda it: it[1] + text + it[2], page)
-
-
 def manual_page():
-    commands = Commands()
-    return made_lines(made_lines(read("docs/ants.1"), "synopsis", commands.synopsis()), "commands", commands.manual())
+    commands, page = Commands(), read("docs/ants.1")
+    for name, text in (("synopsis", commands.synopsis()), ("commands", commands.manual())):
+        page = made_part(page, name, text, r'\.\\" made: %s\n', r'\.\\" end\n')
+    return page

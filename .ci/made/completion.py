@@ -35,14 +35,10 @@ complete -o filenames -F _ants ants
 
 def page():
     words = Words()
-    lines = []
-    for command, options in words.commands.items():
-        known = (words.keywords if command == "cup" else []) + options
-        if known:
-            lines.append("    %s) options='%s' ;;" % (command, " ".join(known)))
+    known = {command: (words.keywords if command == "cup" else []) + options for command, options in words.commands.items()}
     return PAGE % {
         "commands": " ".join(words.commands),
-        "options": "\n".join(lines),
+        "options": "\n".join("    %s) options='%s' ;;" % (command, " ".join(options)) for command, options in known.items() if options),
         "numbers": " | ".join(it for it, form in words.forms.items() if form in ("needed", "number")),
         "dumps": " | ".join(it for it, form in words.forms.items() if form == "dump"),
     }

@@ -239,12 +239,12 @@ class Tree:
             self.known[id(it), text] = [to for to in dict.fromkeys(found) if isinstance(to, (Definition, CodeType)) and to is not it]
         return self.known[id(it), text]
 
-    def reached(self, roots):
-        """All that some definitions reach, each once, from the top down."""
+    def reached(self, roots, counts=lambda it: True):
+        """All that some definitions reach, each once, from the top down: of what doesn't count nothing is followed."""
         found, left = {}, list(reversed(roots))
         while left:
             it = left.pop()
-            if it not in found:
+            if it not in found and counts(it):
                 found[it] = None
                 left += reversed(self.named(it))
         return list(found)

@@ -88,14 +88,8 @@ def snake(name):
 
 def docs_above(text, at):
     """The lines of the doc comment that stands above this place."""
-    lines = []
-    for line in reversed(text[:at].rstrip("\n").split("\n")):
-        line = line.strip()
-        if line.startswith("///"):
-            lines.insert(0, line[4:].rstrip())
-        elif not line.startswith("#["):
-            break
-    return lines
+    above = re.search(r"(?:^ *(?:///|#\[).*\n)*\Z", text[:at], re.M)[0]
+    return [line.strip()[4:] for line in above.split("\n") if line.strip().startswith("///")]
 
 
 def sources():
@@ -176,13 +170,10 @@ class Library:
     def c_version(self):
         return '// %s\n#define ANTS_VERSION "%s"\n' % ("\n// ".join(textwrap.wrap(self.version_says, WIDTH + 20)), self.version)
 
-    def c_statuses(self):
-        lines = ["    ANTS_%s = %s, // %s" % (name, number, docs) for name, docs, number in self.statuses]
-        return "// What a call answers.\nenum ants_status {\n" + "\n".join(lines) + "\n};\n"
-
-    def c_kinds(self):
-        lines = ["    ANTS_KIND_%s = %s, // %s" % (it.name, it.number, it.says) for it in self.kinds]
-        return "// The kinds of faults.\nenum ants_kind {\n" + "\n".join(lines) + "\n};\n"
+    def c_enums(self):
+        rows = [(name, number, docs) for name, docs, number in self.statuses], [("KIND_" + it.name, it.number, it.says) for it in self.kinds]
+        for says, name, these in zip(("What a call answers.", "The kinds of faults."), ("status", "kind"), rows):
+            yield "// %s\nenum ants_%s {\n%s};\n" % (says, name, "".join("    ANTS_%s = %s, // %s\n" % row for row in these))
 
     def c_struct(self, struct):
         lines = ["struct %s {" % struct.c_name]
@@ -209,7 +200,7 @@ class Library:
 
     def header(self):
         """library/ants.h: the head, which says what a caller owes, and the declarations."""
-        declared = [self.c_version(), self.c_statuses(), self.c_kinds()] + [self.c_struct(it) for it in self.structs.values()] + [self.c_export(it) for it in self.exports]
+        declared = [self.c_version(), *self.c_enums()] + [self.c_struct(it) for it in self.structs.values()] + [self.c_export(it) for it in self.exports]
         head = read(HEAD)
         if head.count("@declarations@\n") != 1:
             raise Unknown("%s: no one place for the declarations" % HEAD)

@@ -1,35 +1,71 @@
-"""docs/GLOSSARY.md and docs/GATE.md: the words that are coined here, and what the gate costs."""
-from gate_costs import cost_table
-from tree import Unknown, crates, read
+"""docs/CRATES.md and the layers of docs/ARCHITECTURE.md, docs/GLOSSARY.md, and docs/GATE.md: what the gate costs, and what `rt plant` found."""
+import glob
+
+from tree import Unknown, crates, rows_of, table
+
+COSTS = "docs/gate_costs.txt"
 
 
-def cell(text):
-    return text.replace("|", "\\|").replace("<", "&lt;")
+def crates_page():
+    """Each crate with the first sentence of its root file and with the crates of this repository on which it stands, by layers."""
+    every = crates()
+    names, out = [it.name for it in every], ["# Crates", "", "Each with what it is and what it stands on, by layers. Made by `.ci/make-documents` from `crates.txt` and the crates' root files."]
+    for layer in dict.fromkeys(it.layer for it in every):
+        these = [it for it in every if it.layer == layer]
+        found = [["[`%s`](../crates/%s/README.md)" % (it.name, it.name), it.summary.rstrip("."), " ".join("`%s`" % below for below in it.stands_on if below in names)] for it in these]
+        out += ["", "## %s" % layer, "", table(("crate", "what it is", "stands on"), found).rstrip()]
+    return "\n".join(out) + "\n"
+
+
+def layer_table():
+    """The layers with the names of their crates."""
+    layers = {}
+    for crate in crates():
+        layers.setdefault(crate.layer, []).append("`%s`" % crate.name)
+    return table(("layer", "crates"), [[layer, " ".join(names)] for layer, names in layers.items()])
 
 
 def glossary_page():
     """The words of docs/glossary.txt."""
-    lines = ["# Glossary", "", "Words that are coined here, or used in a sense of their own. Made by `.ci/make-documents` from `docs/glossary.txt`.", "", "| word | sense |", "|---|---|"]
-    for number, line in enumerate(read("docs/glossary.txt").split("\n"), 1):
-        if line and not line.startswith("#"):
-            word, colon, sense = line.partition(": ")
-            if not colon:
-                raise Unknown("docs/glossary.txt:%d: not a word, a colon and a sense" % number)
-            lines.append("| %s | %s |" % (word, cell(sense)))
-    return "\n".join(lines) + "\n"
+    found = []
+    for number, line in rows_of("docs/glossary.txt"):
+        word, colon, sense = line.partition(": ")
+        if not colon:
+            raise Unknown("docs/glossary.txt:%d: not a word, a colon and a sense" % number)
+        found.append([word, sense.replace("|", "\\|").replace("<", "&lt;")])
+    return "# Glossary\n\nWords that are coined here, or used in a sense of their own. Made by `.ci/make-documents` from `docs/glossary.txt`.\n\n" + table(("word", "sense"), found)
+
+
+def wrong_bodies(name):
+    return glob.glob("crates/%s/must-fail/*.edit" % name)
+
+
+def cost_rows():
+    """Of each crate its name and three figures, as the file has them."""
+    found = [(number, line.partition("#")[0].split()) for number, line in rows_of(COSTS)]
+    for number, line in found:
+        if len(line) != 4:
+            raise Unknown("%s:%d: not a crate and three figures" % (COSTS, number))
+    return {line[0]: line[1:] for _, line in found}
+
+
+def cost_table():
+    measured, names = cost_rows(), [it.name for it in crates()]
+    for name in set(measured) - set(names):
+        raise Unknown("%s: there is no crate %s" % (COSTS, name))
+    figures = [["`%s`" % name] + [it.strip("-") for it in measured.get(name, ["not measured", "-", "-"])] + [str(len(wrong_bodies(name)) or "")] for name in names]
+    return table(("crate", "proved", "with its tests", "its wrong bodies", "how many"), figures)
 
 
 def planted_table():
     """The rows of docs/planted.txt."""
-    names = [it.name for it in crates()]
-    lines = ["| crate | functions | refused | not run | by hand | refused | what passed the proofs, and what catches it |", "|---|---|---|---|---|---|---|"]
-    for number, line in enumerate(read("docs/planted.txt").split("\n"), 1):
-        if line and not line.startswith("#"):
-            cells = [it.strip() for it in line.split("|")]
-            if len(cells) != 7 or cells[0] not in names:
-                raise Unknown("docs/planted.txt:%d: not a crate with six cells" % number)
-            lines.append("| `%s` | %s |" % (cells[0], " | ".join(cells[1:])))
-    return "\n".join(lines) + "\n"
+    names, found = [it.name for it in crates()], []
+    for number, line in rows_of("docs/planted.txt"):
+        cells = [it.strip() for it in line.split("|")]
+        if len(cells) != 7 or cells[0] not in names:
+            raise Unknown("docs/planted.txt:%d: not a crate with six cells" % number)
+        found.append(["`%s`" % cells[0]] + cells[1:])
+    return table(("crate", "functions", "refused", "not run", "by hand", "refused", "what passed the proofs, and what catches it"), found)
 
 
 def gate_page():

@@ -12,11 +12,11 @@ import html
 import re
 
 from definitions import Call, CodeType, Definition, Tree
-from tree import Unknown, read
+from tree import Unknown, read, rows_of, table
 
 ORDER, WORDS = "docs/run_page.txt", "docs/library_words.txt"
 CRATE, LAW = "ant_commands", "run_promise"
-MOST_LINES, MOST_WORDS = 930, 8500
+MOST_LINES, MOST_WORDS = 700, 8500
 PACE = 10  # lines a minute, of a reader who reads each
 
 
@@ -37,24 +37,15 @@ def anchor(name):
 class RunPage:
     def __init__(self, tree):
         self.tree, self.library, self.parts = tree, set(), []
-        self.told = dict(line.split(" | ", 1) for line in read(WORDS).split("\n") if line and not line.startswith("#"))
+        self.told = dict(line.split(" | ", 1) for _, line in rows_of(WORDS))
         lines = read(ORDER).split("\n")
         self.also = [it for line in lines if line.startswith("@also ") for it in self.listed(line[len("@also "):])]
-        self.reached = [it for it in self.believed() if it not in self.also]
+        self.reached = tree.reached(tree.named(Call(CRATE, LAW)), lambda it: it not in self.also)
         out = [self.shown(line) for line in lines]
         lost = [it.name for it in self.reached if it not in self.parts]
         if lost:
             raise Unknown("%s: the page lacks %s" % (ORDER, " ".join(lost)))
         self.text = self.counted("\n".join(self.table() if it == "@library" else it for it in out))
-
-    def believed(self):
-        found, left = {}, self.tree.named(Call(CRATE, LAW))[::-1]
-        while left:
-            it = left.pop()
-            if it not in found and it not in self.also:
-                found[it] = None
-                left += reversed(self.tree.named(it))
-        return list(found)
 
     def listed(self, line):
         """What a line of the page asks for."""
@@ -69,17 +60,16 @@ class RunPage:
         return found
 
     def shown(self, line):
-        if line.startswith(("@ ", "@also ")):
-            also = line.startswith("@also ")
-            parts = self.listed(line.partition(" ")[2])
-            file = line.partition(" ")[2].partition(":")[0]
-            twice = [it.name for it in parts if it in self.parts or not also and it not in self.reached]
-            if twice or not parts:
-                raise Unknown("%s: %s: there already, or not reached: %s" % (ORDER, file, " ".join(twice)))
-            self.parts += parts
-            says = parts[0].module.says if isinstance(parts[0], Definition) else "types of the code" if isinstance(parts[0], CodeType) else "a call"
-            return "[%s](../%s): %s\n\n<pre>\n%s\n</pre>" % (re.sub("^crates/", "", file), file, says, "\n\n".join(self.block(it) for it in parts))
-        return line
+        asks, _, asked = line.partition(" ")
+        if asks not in ("@", "@also"):
+            return line
+        parts, file = self.listed(asked), asked.partition(":")[0]
+        twice = [it.name for it in parts if it in self.parts or asks == "@" and it not in self.reached]
+        if twice or not parts:
+            raise Unknown("%s: %s: there already, or not reached: %s" % (ORDER, file, " ".join(twice)))
+        self.parts += parts
+        says = parts[0].module.says if isinstance(parts[0], Definition) else "types of the code" if isinstance(parts[0], CodeType) else "a call"
+        return "[%s](../%s): %s\n\n<pre>\n%s\n</pre>" % (re.sub("^crates/", "", file), file, says, "\n\n".join(self.block(it) for it in parts))
 
     def block(self, it):
         """The source of a definition, a type or a call with links, and nothing else done to it."""
@@ -125,8 +115,9 @@ class RunPage:
         lacks, more = sorted(self.library - set(told)), sorted(set(told) - self.library)
         if lacks or more:
             raise Unknown("%s: lacks %s; has what the page doesn't: %s" % (WORDS, " ".join(lacks), " ".join(more)))
-        rows = ['| <a id="word-%s"></a>`%s` | %s |' % (anchor(word), word.replace("|", "\\|"), told[word].replace("|", "\\|")) for word in sorted(told, key=lambda it: (it[0].isalpha(), it.lower()))]
-        return "\n".join(["| word | what it is |", "|---|---|"] + rows)
+        words = sorted(told, key=lambda it: (it[0].isalpha(), it.lower()))
+        rows = [['<a id="word-%s"></a>`%s`' % (anchor(word), word.replace("|", "\\|")), told[word].replace("|", "\\|")] for word in words]
+        return table(("word", "what it is"), rows).rstrip()
 
     def counted(self, text):
         lines, words = lines_of(self.reached), words_in(self.reached)

@@ -7,7 +7,8 @@ import re
 
 from definitions import Call, CodeType, Definition
 from run_page import CRATE, PACE, lines_of
-from tree import Unknown
+from tree import Unknown, table
+from words import number
 
 CALLS, LAW = ("run_ants", "run_to_exit"), "headline"
 JOBS = "job_by"  # the job of a command, an equation a command
@@ -65,14 +66,9 @@ class Specification:
         return {it for found in self.all if found.name == name for it in found.members()}
 
     def add(self, title, says, roots, skip=()):
-        parts, left = {}, list(roots)[::-1]
-        while left:
-            it = left.pop()
-            if it in self.left and it.name not in skip:
-                del self.left[it]
-                parts[it] = None
-                left += reversed(self.tree.named(it))
-        self.chapters.append((title, says, list(parts)))
+        parts = self.tree.reached(roots, lambda it: it in self.left and it.name not in skip)
+        self.left = dict.fromkeys(it for it in self.left if it not in parts)
+        self.chapters.append((title, says, parts))
 
     def equations(self, it):
         """Each equation of a definition: the commands and kinds of files that its left side names, its text, and those that the text names."""
@@ -121,14 +117,6 @@ class Specification:
         if not counted:
             raise Unknown("%s has all that %s rests on" % (GAME, COUNTS))
         return whole, counted
-
-
-def number(n):
-    return "{:,}".format(n)
-
-
-def table(header, rows):
-    return "\n".join("| " + " | ".join(row) + " |" for row in [header, ["---"] * len(header)] + rows) + "\n"
 
 
 def pages(spec):

@@ -1,4 +1,5 @@
 """The tree as the made documents see it: its files and crates. Nothing here knows a crate or a file by its name."""
+import itertools
 import os
 import re
 
@@ -29,21 +30,12 @@ class Crate:
         main = "crates/%s/src/main.rt" % self.name
         return main if exists(main) else "crates/%s/src/lib.rt" % self.name
 
-    @property
-    def is_program(self):
-        return self.root.endswith("main.rt")
+    is_program = property(lambda self: self.root.endswith("main.rt"))
 
     @property
     def summary(self):
         """The first sentence of the crate's `//!`."""
-        lines = []
-        for line in read(self.root).split("\n"):
-            if not line.startswith("//!"):
-                break
-            if line == "//!":
-                break
-            lines.append(line[3:].strip())
-        text = " ".join(lines)
+        text = " ".join(it[4:].strip() for it in itertools.takewhile(lambda it: it.startswith("//! "), read(self.root).split("\n")))
         if not text:
             raise Unknown("%s: opens with no //!" % self.root)
         return re.split(r"(?<=[.])\s", text)[0]
@@ -71,6 +63,23 @@ def below(name):
             found.add(it)
             left += stands_on[it]
     return found
+
+
+def rows_of(path):
+    """The lines of a file that are neither empty nor remarks, with their numbers."""
+    return [(number, line) for number, line in enumerate(read(path).split("\n"), 1) if line.strip() and not line.startswith("#")]
+
+
+def table(header, rows):
+    return "\n".join(["| %s |" % " | ".join(header), "|" + "---|" * len(header)] + ["| %s |" % " | ".join(row) for row in rows]) + "\n"
+
+
+def made_part(page, name, text, form="<!-- made: %s -->\n", end="<!-- end -->"):
+    """A page with this made part in its place, which is between two remarks."""
+    at = re.compile("(%s).*?(%s)" % (form % re.escape(name), end), re.S)
+    if len(at.findall(page)) != 1:
+        raise Unknown("no page has one place for `made: %s`" % name)
+    return at.sub(lambda it: it[1] + text + it[2], page)
 
 
 def anchor_of(heading):

@@ -137,14 +137,11 @@ module _ (P : Address → Type 0) where
   Leads (Some at) = (label : Label) → P (at.target label)
 
   placed_from-leads : (address : Address) (body : Items) (frame : Frame) (k : ℕ) (items : Items) → HoldsOf body frame → HoldsIn items frame.path k → Leads (placed_from address body frame k items)
-  placed_from-leads [] body frame k End holds all = tt
   placed_from-leads [] body frame k (Do action others) holds all = λ label. target-holds body frame k label holds
-  placed_from-leads [] body frame k (Use handed block others) holds all = tt
-  placed_from-leads (next ∷ address) body frame k End holds all = tt
-  placed_from-leads (next ∷ address) body frame k (Do action others) holds all = tt
   placed_from-leads (next ∷ address) body frame k (Use handed block others) holds all =
       placed_from-leads address block (inner body frame k handed) next (from_place next block)
       (inner-holds body frame k handed block holds all.0) (HoldsIn-body next block (frame.path ++ k ∷ []) all.0)
+  placed_from-leads address body frame k items holds all = tt
 
   module _ (main : Items) (all : HoldsIn main [] 0) (first : P (beginning main)) where
     main-holds : HoldsOf main (main_frame main)

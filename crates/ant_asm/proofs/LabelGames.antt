@@ -256,11 +256,11 @@ module _ (main : Items) (brain : List Instr) (list : List Address) (assembled : 
       ∙ ap (λ (w : World). numbered_moment list side (record l { world = w })) (sym matches.world)
 
 -- the games are alike
-pub game-labelled : (main : Items) (brain : List Instr) (list : List Address) → IsAssembled main brain list →
+pub game_labelled : (main : Items) (brain : List Instr) (list : List Address) → IsAssembled main brain list →
     (side : Colour) (minds : Minds) (seed width height : ℕ) (kinds : List Kind) (r : ℕ) → AreSound (with_mind minds side brain) → Valid (world_of (opening width height kinds)) →
     after_rounds (with_mind minds side brain) seed (start_of (world_of (opening width height kinds))) r
     ≡ numbered_moment list side (label_game main side minds seed width height kinds r)
-game-labelled main brain list assembled side minds seed width height kinds r sound valid =
+game_labelled main brain list assembled side minds seed width height kinds r sound valid =
     let start : World = world_of (opening width height kinds) in
     Matches-same main brain list assembled side minds seed (after_rounds (with_mind minds side brain) seed (start_of start) r) (label_game main side minds seed width height kinds r)
     (Matches-rounds main brain list assembled side minds seed sound (start_of start) (label_start main start) r

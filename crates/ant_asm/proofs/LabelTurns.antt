@@ -21,7 +21,7 @@ use Rattle.ant_turn.proofs.RenumberLemmas.{after, meets-renumbered}
 use Rattle.ant_turn.proofs.RenumberedTurns.{redirected-self, turn-alike, with_mind-sheet}
 use Rattle.ant_asm.specs.declared.action.Action.{Action}
 use Rattle.ant_asm.specs.declared.action.Label.{Label}
-use Rattle.ant_asm.specs.declared.action.Action.TheVariants.{Sense, Mark, Unmark, PickUp, Drop, Turn, Move, Flip}
+use Rattle.ant_asm.specs.declared.action.Action.TheVariants.{Sense, PickUp, Move, Flip}
 use Rattle.ant_asm.specs.Places.{Address, Placed}
 use Rattle.ant_asm.specs.LabelGame.{address_acted, address_at, address_from, bare_instruction, instruction_by, label_taken, with_address}
 use Rattle.ant_asm.proofs.NextStates.{state_taken}
@@ -68,15 +68,10 @@ module _ (f : Colour → ℕ → ℕ) where
       label_taken seed (renumbered_cells f cells) place p (renumbered_ant f ant) instruction ≡ label_taken seed cells place p ant instruction
   label_taken-states seed cells place p ant (Sense sight met unmet condition) =
       ap (λ (b : Bool). if b then met else unmet) (meets-renumbered f (cells (sensed_pos p ant.facing sight)) condition ant.colour)
-  label_taken-states seed cells place p ant (Mark i on) = refl
-  label_taken-states seed cells place p ant (Unmark i on) = refl
-  label_taken-states seed cells place p ant (PickUp met unmet) = refl
-  label_taken-states seed cells place p ant (Drop on) = refl
-  label_taken-states seed cells place p ant (Turn side on) = refl
   label_taken-states seed cells place p ant (Move met unmet) =
       let ahead : Cell = cells (adjacent_pos p ant.facing) in
       ap (λ (b : Bool). if ahead.rocky || b then unmet else met) (has_ant-mapped (λ other. f other.colour other.state) (λ other. other.resting) ahead.ant)
-  label_taken-states seed cells place p ant (Flip bound met unmet) = refl
+  label_taken-states seed cells place p ant instruction = refl
 
   address_acted-states : (n seed : ℕ) (cells : Cells) (place : ℕ) (p : Pos) (ant : Ant) (at : Placed) (address : Address) →
       address_acted n seed (renumbered_cells f cells) place p (renumbered_ant f ant) at address ≡ address_acted n seed cells place p ant at address

@@ -35,7 +35,7 @@ pub mod LabelStates
 pub mod LineStates
 pub mod LabelWalk
 pub mod LabelSteps
-pub mod LabelsRead
+pub mod SourceRead
 pub mod LineInstructions
 -- Worked values.
 pub mod Worked

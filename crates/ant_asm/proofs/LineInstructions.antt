@@ -5,7 +5,7 @@ use Rattle.std.specs.List.{AllByRecursion}
 use Rattle.brain_read.specs.declared.instr.Instr.{Instr}
 use Rattle.line_tokens.specs.TokenLines.{TokenLine, lines_with_tokens}
 use Rattle.ant_asm.specs.declared.action.Action.{Action}
-use Rattle.ant_asm.specs.declared.action.Action.TheVariants.{Sense, Mark, Unmark, PickUp, Drop, Turn, Move, Flip}
+use Rattle.ant_asm.specs.declared.action.Action.TheVariants.{Sense}
 use Rattle.ant_asm.specs.declared.action.Label.{Label}
 use Rattle.ant_asm.specs.Program.{Items}
 use Rattle.ant_asm.specs.Program.Items.{End, Do, Use}
@@ -23,7 +23,7 @@ use Rattle.ant_asm.specs.Inner.Outlines.{further, lines_said, outline_size, told
 use Rattle.ant_asm.proofs.Emission.{emitted-assembled}
 use Rattle.ant_asm.proofs.Expansion.{program-assembled}
 use Rattle.ant_asm.proofs.HasAssembled.{one-assembled}
-use Rattle.ant_asm.proofs.LabelsRead.{one-lines}
+use Rattle.ant_asm.proofs.SourceRead.{one-lines}
 use Rattle.ant_asm.proofs.LineStates.{lines-are, lines_at-length, lines_at-state}
 use Rattle.ant_asm.proofs.LineLemmas.{lines_decide}
 use Rattle.ant_asm.proofs.OutlineFits.{IsTold, Tells, text-fits, text-said, text-tells}
@@ -32,13 +32,7 @@ use Rattle.ant_asm.proofs.TextLemmas.{one_program}
 -- labels in two steps
 mapped-by : {A B : Type 0} (way : A → B) (state : B → ℕ) (action : Action A) → instruction_by state (mapped way action) ≡ instruction_by (λ label. state (way label)) action
 mapped-by way state (Sense sight met unmet condition) = refl
-mapped-by way state (Mark i on) = refl
-mapped-by way state (Unmark i on) = refl
-mapped-by way state (PickUp met unmet) = refl
-mapped-by way state (Drop on) = refl
-mapped-by way state (Turn side on) = refl
-mapped-by way state (Move met unmet) = refl
-mapped-by way state (Flip bound met unmet) = refl
+mapped-by way state action = refl
 
 module _ (text : List ℕ) where
   -- the line of this number says this, whatever state each label is
@@ -123,8 +117,8 @@ says-instruction text brain list lines i it instruction made are at there =
         (one-assembled main brain (emitted main main main_numbers 0) list (places main) assembled (emitted-assembled main (subst (λ (l : List Address). 1 ≤ length l) assembled.places assembled.some))).0
 
 -- there is one for each state, in order
-pub line-for-each : LineForEachState
-line-for-each = record {
+pub line_for_each : LineForEachState
+line_for_each = record {
   as_many = λ text brain list lines made are.
       ap length are.are ∙ lines_at-length (outline_of are.lines) 0 (places are.main)
       ∙ ap (λ (m : Items). length (places m)) (one_program lines_decide text are.main made.main are.is made.is)

@@ -15,10 +15,9 @@ use Rattle.ant_asm.proofs.OutlineFits.{Fits, fits-size}
 from_item-next : (k : ℕ) (outline : Outline) → from_item (suc k) outline ≡ from_item 1 (from_item k outline)
 from_item-next k Closed = refl
 from_item-next k (Labelled name others) = from_item-next k others
-from_item-next zero (Instructed line others) = refl
-from_item-next zero (Used line name block others) = refl
 from_item-next (suc k) (Instructed line others) = from_item-next k others
 from_item-next (suc k) (Used line name block others) = from_item-next k others
+from_item-next zero outline = refl
 
 -- further addresses
 lines_at-append : (main : Outline) (state : ℕ) (front back : List Address) → lines_at main state (front ++ back) ≡ lines_at main state front ++ lines_at main (state + length front) back

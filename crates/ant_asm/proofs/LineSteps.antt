@@ -185,16 +185,13 @@ module _ {A : Type 0} (position : Position) (of : List ℕ → Option A) (fault 
 
   all_again : (n : ℕ) (make : List A → Line) (tokens : List (List ℕ)) (line : Line) (xs : List A) → AreTokensOf of tokens xs → length xs ≤ n → make xs ≡ line → (take_all (read_token of fault) n tokens >>= all_then make) ≡ Ok line
   all_again zero make [] line [] are few is = ap Ok is
-  all_again zero make [] line (x ∷ xs) are few is = absurd are
-  all_again zero make (token ∷ rest) line [] are few is = absurd are
   all_again zero make (token ∷ rest) line (x ∷ xs) are few is = absurd (omega (arith, few))
   all_again (suc n) make [] line [] are few is = ap Ok is
-  all_again (suc n) make [] line (x ∷ xs) are few is = absurd are
-  all_again (suc n) make (token ∷ rest) line [] are few is = absurd are
   all_again (suc n) make (token ∷ rest) line (x ∷ xs) are few is =
       all_next n make token rest
       ∙ ap (λ (m : Read A). m >>= (λ y. take_all (read_token of fault) n rest >>= all_then (λ ys. make (y ∷ ys)))) (token_again position of fault nothing_more takes token x are.0)
       ∙ all_again n (λ ys. make (x ∷ ys)) rest line xs are.1 (omega (arith, few)) is
+  all_again n make tokens line xs are few is = absurd are
 
   all_faulted : (n : ℕ) (make : List A → Line) (number : ℕ) (tokens : List (List ℕ)) → first_fault number tokens (replicate n position) ≡ fault_of_read number (take_all (read_token of fault) n tokens >>= all_then make)
   all_faulted zero make number tokens = (end_decides (make [])).faulted number tokens

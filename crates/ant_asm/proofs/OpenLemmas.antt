@@ -161,11 +161,10 @@ module _ (bodies : List Body) (way : Named → Label) where
 -- markers and bounds in their ranges
 range-mapped : {A B C : Type 0} (f : A → B) (g : A → C) (action : Action A) → IsInRange (instruction_by (λ x. 0) (mapped f action)) → IsInRange (instruction_by (λ x. 0) (mapped g action))
 range-mapped f g (Sense sight met unmet condition) range = range
-range-mapped f g (PickUp met unmet) range = tt
-range-mapped f g (Drop on) range = tt
-range-mapped f g (Turn side on) range = tt
-range-mapped f g (Move met unmet) range = tt
-range-mapped f g it range = range
+range-mapped f g (Mark i on) range = range
+range-mapped f g (Unmark i on) range = range
+range-mapped f g (Flip bound met unmet) range = range
+range-mapped f g action range = tt
 
 module _ (bodies : List Body) (way : Named → Label) (blocks : (n : ℕ) → n < length bodies → AreRanged (tree_at bodies n)) where
   one-ranged : (size : ℕ) (kind : OpenKind) (others : Items) → IsGoodKind bodies size kind → AreRanged others → AreRanged (tree_one (trees_of bodies) (flat_kind way kind) others)

@@ -88,11 +88,8 @@ use-known size (Some block) handed number free = (block, refl)
 
 -- a fact holds of what a line says, if it is an instruction, whatever its labels stand for
 abbrev pub IsTold : (ℕ → Action Label → Type 0) → NumberedLine → Type 0
-IsTold P (At number (Marks name)) = Unit {0}
-IsTold P (At number (Begins name parameters)) = Unit {0}
-IsTold P (At number Ends) = Unit {0}
-IsTold P (At number (Uses name handed)) = Unit {0}
 IsTold P (At number (Instructs action)) = (way : Named → Label) → P number (mapped way action)
+IsTold P (At number says) = Unit {0}
 
 module _ (P : ℕ → Action Label → Type 0) where
   -- that of a block's items, where there is the block

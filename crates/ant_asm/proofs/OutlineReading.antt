@@ -143,13 +143,13 @@ rest_from-more o new number line lines said has read on =
     keep [] e = (let never : false ≡ true = e in absurd (cc))
     keep (token ∷ tokens) e = refl
 
-pub rest_from-start : (o : Outlines) (text : List ℕ) → rest_from o 1 (lines_of text) ≡ rest_of o (lines_said text)
+pub rest_from_start : (o : Outlines) (text : List ℕ) → rest_from o 1 (lines_of text) ≡ rest_of o (lines_said text)
 unfolding rest_from
-rest_from-start o text = refl
+rest_from_start o text = refl
 
-pub rest_from-end : (o : Outlines) (number : ℕ) → rest_from o number [] ≡ rest_of o []
+pub rest_from_end : (o : Outlines) (number : ℕ) → rest_from o number [] ≡ rest_of o []
 unfolding rest_from
-rest_from-end o number = refl
+rest_from_end o number = refl
 
 -- how far the names of a text have been read: these lines are left, the first of which has this number
 pub record AreUnderway (first o : Outlines) (number : ℕ) (lines : List (List ℕ)) (text : List ℕ) : Type 0 where

@@ -12,6 +12,7 @@ pub mod Standing
 pub mod Text
 pub mod Labels
 pub mod StateLines
+pub mod Source
 pub use Rattle.ant_base.specs.Shelf
 pub use Rattle.brain_read.specs.Forms
 pub use Rattle.brain_read.specs.Soundness

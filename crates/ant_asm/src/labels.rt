@@ -1,67 +1,31 @@
 // The labels of a program, and the states that they became.
-ghost use Rattle.std.specs.Prelude.{◌≡◌, ◌==◌, ◌+◌, ◌≤◌, ◌<◌, List, [], length, IfOk, IfErr, if◌then◌else◌};
-ghost use Rattle.ant_base.specs.Answers.{AnswersFault, AnswersValue, IsFaultOr};
-ghost use Rattle.ant_base.specs.Shelf.{longest};
+ghost use Rattle.std.specs.Prelude.{◌≡◌, ◌==◌, ◌+◌, ◌≤◌, ◌<◌, [], length, if◌then◌else◌};
 ghost use Rattle.ant_base.specs.Sink.{Pushed};
-ghost use Rattle.ant_asm.specs.Labels.{AreLabelsOf, LabelState, labels_text};
-ghost use Rattle.ant_asm.specs.Text.{IsAsmFault};
-ghost use Rattle.ant_asm.specs.declared.fault.AsmFault.TheVariants.{OutOfMemory};
+ghost use Rattle.ant_asm.specs.Labels.{labels_text};
 ghost use Rattle.ant_asm.specs.Inner.Flat.{most};
 ghost use Rattle.ant_asm.specs.Inner.Outlines.{AreGoodNamed, all_states, label_of, outline_at, outline_size, own_states};
 ghost use Rattle.ant_asm.specs.Inner.Ways.{steps_of};
 
-use crate::fault::AsmFault;
 use crate::named::{NamedBody, NamedLine, size_of};
-use crate::outline::read_outlines;
-use crate::program::read_bodies;
+use crate::source::Source;
 use crate::way::{Name, Way};
 use ant_base::{Failed, Layout, Sink, layout};
-use std::alloc::Global;
-use std::marker::Model;
 
-/// The labels of a labelled program, of each body that is put in place, each with the uses on the way to its body and the state to which it
-/// leads (this project's own). Contracts see the list of them, in the order in which they are told; only the names in the text's lines are
-/// kept, however many labels that makes.
-#[derive(Drop)]
-pub struct Labels {
-    bodies: Vec<NamedBody>,
-}
-
-impl Model for Labels {
-    ghost use Rattle.std.specs.Prelude.{List};
-    ghost use Rattle.ant_asm.specs.Labels.{LabelState};
-    ghost use Rattle.ant_asm.specs.Inner.Outlines.{AreListed, listed};
-
-    ghost Value = { List LabelState };
-
-    ghost view = { λ labels. listed labels.bodies.items };
-
-    ghost invariant = { λ labels. AreListed labels.bodies.items };
-}
-
-/// The labels of a labelled program of at most 4,194,304 bytes, or the text's fault, which is the one that `assemble` answers.
-/// `OutOfMemory` may be answered at any text; every other answer follows from the text alone.
-pub fn read_labels(alloc: Global, text: &[u8]) -> Result<Labels, AsmFault>
-    requires { length text.now ≤ longest }
-    ensures labels { IfOk result (AreLabelsOf text.now) }
-    ensures fault { IfErr result (IsFaultOr OutOfMemory (IsAsmFault text.now)) }
-    ensures every_labels { (labels : List LabelState) → AreLabelsOf text.now labels → AnswersValue OutOfMemory result labels }
-    ensures every_fault { (fault : AsmFault) → IsAsmFault text.now fault → AnswersFault OutOfMemory result fault }
-{
-    let _program = read_bodies(alloc, text)?;
-    let bodies = read_outlines(alloc, text)?;
-    Ok(Labels { bodies })
-}
+/// The labels of a source.
+#[derive(Clone, Copy)]
+pub struct Labels<'s>(pub &'s Source);
 
 /// A line for each label, in order: the state, the uses on the way to its body, each with the name of its block, `@`, its line and `/`, and
 /// the label's name, as `40 carry` or `13 step@90/turn@14/again`. Lines are pushed one by one, and it takes no memory.
-impl Layout for Labels {
+impl Layout for Labels<'_> {
     ghost use Rattle.ant_asm.specs.Labels.{labels_text};
 
-    ghost text = { labels_text };
+    ghost text = { λ labels. labels_text labels.0.now.labels };
 
     fn push_to<K: Sink>(&self, sink: &mut K) -> Result<(), Failed> {
-        push_body(&self.bodies, self.bodies.len() - 1, 0, 0, &Way::Main, sink)
+        let source = self.0;
+        let bodies = &source.bodies;
+        push_body(bodies, bodies.len() - 1, 0, 0, &Way::Main, sink)
     }
 }
 

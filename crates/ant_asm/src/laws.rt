@@ -10,6 +10,7 @@ pub fn one_program_or_one_fault()
 {}
 
 /// A law: the program of a text is assembled to one brain, with one list of places.
+#[tactic(auto, using(crate::proofs::HasAssembled::one_brain))]
 pub fn one_brain()
     ensures { OneBrain }
 {}
@@ -17,17 +18,20 @@ pub fn one_brain()
 /// A law: by any opening world, other brain, numbers of the rules, seed, side and number of rounds, the game with an assembled brain is the
 /// labelled game of its program, with the number of its place for each address, and it stands at an equal place of the stream (the task's
 /// kinetics and number generation).
+#[tactic(auto, using(crate::proofs::LabelGames::game_labelled))]
 pub fn plays_labelled()
     ensures { PlaysLabelled }
 {}
 
 /// A law: so the scores of the two games are equal after each round (the task's game play).
+#[tactic(auto, using(crate::proofs::Scores::scores_labelled))]
 pub fn scores_labelled()
     ensures { ScoresLabelled }
 {}
 
 /// A law: where the instructions of a text's program stand is told for each state of the brain to which it is assembled, in order from 0, and the
 /// line that is told of a state is one of the text that says the state's instruction.
+#[tactic(auto, using(crate::proofs::LineInstructions::line_for_each))]
 pub fn line_for_each_state()
     ensures { LineForEachState }
 {}

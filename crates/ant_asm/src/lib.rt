@@ -24,15 +24,17 @@ mod outline;
 mod places;
 mod program;
 mod scope;
+mod source;
 mod spelling;
 mod state_lines;
 mod way;
 
 pub use assembly::{Assembled, assemble};
 pub use fault::AsmFault;
-pub use labels::{Labels, read_labels};
+pub use labels::Labels;
 pub use laws::{
     line_for_each_state, one_brain, one_program_or_one_fault, plays_labelled, scores_labelled,
 };
 pub use places::{Address, Places};
-pub use state_lines::{StateLines, read_state_lines};
+pub use source::{Source, read_source};
+pub use state_lines::StateLines;

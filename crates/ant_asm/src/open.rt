@@ -164,6 +164,7 @@ fn action_unknown(names: &Names, action: Action<Source>) -> bool
     }
 }
 
+#[tactic(auto, using(crate::proofs::OpenLemmas::any_seen))]
 fn labels_unknown(names: &Names, labels: &[Source]) -> bool
     ensures { result ≡ has_unknown (known_as names.now.entries) (labels_seen labels.now) }
 {

@@ -165,6 +165,7 @@ pub(crate) fn read_outlines(alloc: Global, text: &[u8]) -> Result<Vec<NamedBody>
 }
 
 // The lines of a text, which are read into what has nothing yet.
+#[tactic(auto, using(crate::proofs::OutlineReading::rest_from_end, crate::proofs::OutlineReading::rest_from_start))]
 fn outlines_into<'t>(
     alloc: Global,
     text: &'t [u8],

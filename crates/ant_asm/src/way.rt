@@ -19,6 +19,7 @@ impl<'w> Layout for Way<'w> {
 
     ghost text = { λ way. way_text (steps_of way) };
 
+    #[tactic(auto, using(std::proofs::lemmas::Result::err_from_is_err_and, ant_base::proofs::Pushes::front_more, ant_base::proofs::Pushes::pushed_then, crate::proofs::LabelTexts::use_text, crate::proofs::LabelTexts::way_text_further))]
     fn push_to<K: Sink>(&self, sink: &mut K) -> Result<(), Failed> {
         match self {
             Way::Main => Ok(()),
@@ -42,6 +43,7 @@ impl<'w> Layout for Uses<'w> {
 
     ghost text = { λ uses. uses_text (codes " ") (steps_of uses.0) };
 
+    #[tactic(auto, using(crate::proofs::LabelTexts::uses_text_further))]
     fn push_to<K: Sink>(&self, sink: &mut K) -> Result<(), Failed> {
         match self.0 {
             Way::Main => Ok(()),

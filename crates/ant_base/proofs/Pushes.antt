@@ -1,12 +1,16 @@
 -- Pushes one after another.
-use Rattle.std.proofs.Common.{◌≡◌, ℕ, ◌+◌, ◌-◌, ◌≤◌, Bool, true, ◌&&◌, nat_lt, ◌==◌, List, [], ◌∷◌, ◌++◌, length, slice_index, take, drop, Some, None, Ok, Err, Option, Result, refl, sym, ◌∙◌, ap, append_assoc, append-nil, take-append-drop, arith}
+use Rattle.std.proofs.Common.{◌≡◌, ℕ, ◌+◌, ◌-◌, ◌≤◌, Bool, true, ◌&&◌, nat_lt, ◌==◌, List, [], ◌∷◌, ◌++◌, length, slice_index, take, drop, Some, None, Ok, Err, Option, option_map, Result, refl, sym, ◌∙◌, ap, append_assoc, append-nil, take-append-drop, arith}
 use Rattle.std.proofs.lemmas.Bool.{false≢true, lt-ltb}
 use Rattle.std.proofs.lemmas.List.{get_or-append-add, length-append}
 use Rattle.list_lemmas.proofs.Elements.{append-empty}
 use Rattle.ant_base.specs.declared.sink.Failed.{Failed}
 use Rattle.ant_base.specs.Lines.{ends_in_lf}
 use Rattle.ant_base.specs.Faults.{Rose}
-use Rattle.ant_base.specs.Sink.{SinkState, NothingWaits, with_more, PushedAll, PushedFront, Pushed}
+use Rattle.ant_base.specs.Sink.{SinkState, NothingWaits, PushedAll, PushedFront, Pushed}
+
+-- the bytes held after some more, where they are told
+abbrev with_more : Option (List ℕ) → List ℕ → Option (List ℕ)
+with_more held more = option_map (λ bytes. bytes ++ more) held
 
 with_more-with_more : (held : Option (List ℕ)) (a b : List ℕ) → with_more (with_more held a) b ≡ with_more held (a ++ b)
 with_more-with_more None a b = refl

@@ -42,10 +42,6 @@ is_blank line = list_all is_separator line
 abbrev pub after_separators : List ℕ → List ℕ
 after_separators line = drop (prefix_len is_separator line) line
 
--- what stands before the separators at the end of a line
-abbrev pub before_separators : List ℕ → List ℕ
-before_separators line = take (length line - suffix_len is_separator line) line
-
 -- a line without the separators at its front and at its end
 abbrev pub trimmed : List ℕ → List ℕ
-trimmed line = before_separators (after_separators line)
+trimmed line = let rest = drop (prefix_len is_separator line) line in take (length rest - suffix_len is_separator rest) rest

@@ -55,9 +55,8 @@ pub record Fetches {A : Type 0} (old new : ShelfState) (name : List ℕ) (result
 -- an answer that agrees with what is told: the bytes are the content, or it is too long; a fetch that failed or wanted memory says nothing
 abbrev pub AnswerIsTold : Told → List ℕ → Result (List ℕ) FetchFault → Type 0
 AnswerIsTold files name (Ok bytes) = IsContent files name bytes
-AnswerIsTold files name (Err Failed) = ⊤
 AnswerIsTold files name (Err TooLong) = IsTooLong files name
-AnswerIsTold files name (Err OutOfMemory) = ⊤
+AnswerIsTold files name (Err _) = ⊤
 
 -- a fetch whose answer agrees with what is told
 abbrev pub IsTold : Told → Fetched → Type 0
@@ -71,10 +70,10 @@ AreSure shelf fetches = AllByRecursion (λ fetch. shelf.sure fetch.name ≡ true
 -- of what it was sure of, and the count of faults falls never and stays where the shelf was sure of all their names
 pub record FetchesEach (old new : ShelfState) (fetches : List Fetched) : Type 0 where
   pub log : new.log ≡ old.log ++ fetches
-  pub told : AllByRecursion (IsTold old.files) fetches
+  pub told : AllByRecursion (λ fetch. AnswerIsTold old.files fetch.name fetch.answer) fetches
   pub files : new.files ≡ old.files
   pub sure : (name : List ℕ) → old.sure name ≡ true → new.sure name ≡ true
-  pub quiet : AreSure old fetches → new.faults ≡ old.faults
+  pub quiet : AllByRecursion (λ fetch. old.sure fetch.name ≡ true) fetches → new.faults ≡ old.faults
   pub later : old.faults ≤ new.faults
 
 -- whether an answer is Failed

@@ -1,7 +1,7 @@
 -- What a sink holds, and what a push does to it (this project's own).
-use Rattle.std.specs.Prelude.{◌≡◌, ℕ, ◌≤◌, true, List, [], ◌++◌, Option, Some, None, Result, Ok, Err}
+use Rattle.std.specs.Io.BufRead.{ends_with_byte}
+use Rattle.std.specs.Prelude.{◌≡◌, ℕ, ◌≤◌, true, List, [], ◌++◌, Option, Result, Ok, Err, IfSome, option_map}
 use Rattle.ant_base.specs.Faults.{Rose}
-use Rattle.ant_base.specs.Lines.{ends_in_lf}
 use Rattle.ant_base.specs.declared.sink.Failed.{Failed}
 
 -- the bytes held, where the sink tells them; those of them that wait in its buffer, to be flushed, where it tells that; and the count of faults
@@ -12,19 +12,14 @@ pub record SinkState : Type 0 where
 
 -- where the sink can tell, nothing waits in its buffer: all that it holds was flushed
 abbrev pub NothingWaits : Option (List ℕ) → Type 0
-NothingWaits None = Unit {0}
-NothingWaits (Some waiting) = waiting ≡ []
+NothingWaits waiting = IfSome waiting (λ bytes. bytes ≡ [])
 
--- the bytes held after some more, where they are told
-abbrev pub with_more : Option (List ℕ) → List ℕ → Option (List ℕ)
-with_more None more = None
-with_more (Some held) more = Some (held ++ more)
-
--- all of the text was appended, without a fault; nothing waits behind a text that ends in LF, and nothing begins to wait for a text without bytes
+-- all of the text was appended to what is held, where that is told, without a fault; nothing waits behind a text that ends in LF, the byte 10,
+-- and nothing begins to wait for a text without bytes
 pub record PushedAll (old new : SinkState) (text : List ℕ) : Type 0 where
-  pub held : new.held ≡ with_more old.held text
+  pub held : new.held ≡ option_map (λ bytes. bytes ++ text) old.held
   pub quiet : new.faults ≡ old.faults
-  pub flushed : ends_in_lf text ≡ true → NothingWaits new.waiting
+  pub flushed : ends_with_byte 10 text ≡ true → NothingWaits new.waiting
   pub kept : text ≡ [] → NothingWaits old.waiting → NothingWaits new.waiting
 
 -- a prefix of the text was appended, and the count of faults rose
@@ -32,7 +27,7 @@ pub record PushedFront (old new : SinkState) (text : List ℕ) : Type 0 where
   pub front : List ℕ
   pub rest : List ℕ
   pub whole : text ≡ front ++ rest
-  pub held : new.held ≡ with_more old.held front
+  pub held : new.held ≡ option_map (λ bytes. bytes ++ front) old.held
   pub rose : Rose old.faults new.faults
   pub later : old.faults ≤ new.faults
 

@@ -120,11 +120,11 @@ all_playable worlds others players same rounds world_count player_count worlds_a
     rw (worlds_are, players_are) (playable worlds players rounds is few world red black (omega arith) (omega arith) (omega arith))
 
 -- the score of a game on a copy of its world
-pub score_between-copy : (worlds : List Grid) (players : List (List Instr)) (seed rounds world red black : ℕ) (field any : Grid) (one two : List Instr) (sheet : Sheet) → CanBePlayed worlds players rounds world red black
+pub score_between_copy : (worlds : List Grid) (players : List (List Instr)) (seed rounds world red black : ℕ) (field any : Grid) (one two : List Instr) (sheet : Sheet) → CanBePlayed worlds players rounds world red black
     → field ≡ get_or worlds world any → sheet ≡ contest
     → score_of (world_after (record { red = get_or players red one; black = get_or players black two; sheet = sheet }) seed (world_of field) rounds) ≡ score_between worlds players seed rounds world red black
 unfolding score_between
-score_between-copy worlds players seed rounds world red black field any one two sheet can copied same =
+score_between_copy worlds players seed rounds world red black field any one two sheet can copied same =
     let score : List Instr → List Instr → Sheet → Grid → Score = λ r b s g. score_of (world_after (record { red = r; black = b; sheet = s }) seed (world_of g) rounds) in
     ap (λ (g : Grid). score (get_or players red one) (get_or players black two) sheet g) (copied ∙ get_or_default worlds world any nowhere can.world_there)
     ∙ ap (λ (s : Sheet). score (get_or players red one) (get_or players black two) s (get_or worlds world nowhere)) same

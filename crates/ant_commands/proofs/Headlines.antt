@@ -13,7 +13,7 @@ use Rattle.ant_turn.specs.Rounds.{start_of}
 use Rattle.cell_world.specs.Grid.{world_of}
 use Rattle.dump_print.specs.declared.totals.Totals.{Totals}
 use Rattle.match_run.specs.Counts.{counts_text, totals_of, whole_text}
-use Rattle.match_run.specs.Run.{run_text}
+use Rattle.match_run.specs.Run.{dumps_text, run_text}
 use Rattle.ant_commands.specs.Files.{AreAccepted, FileContent}
 use Rattle.ant_commands.specs.Headline.{Headline, NamesTheReason, NamesTheWord, PrintsItsOutput, PrintsTheGame, TellsItsCounts, KeepsPromise}
 use Rattle.ant_commands.specs.Job.{IsJobText}
@@ -59,7 +59,7 @@ PrintsAll world red black setup before after = (game : PrintsTheGame world red b
 game_of : (world red black : List ℕ) (setup : RunSetup) (before after : Outside) (fetches : List Fetched) (read : ReadGame) (text : List ℕ) → FetchesEach before.shelf after.shelf fetches
     → AreAccepted (game_files world red black) fetches (game_contents read) → text ≡ match_output setup read → PushedAll before.out after.out text
     → NothingWaits after.out.waiting → after.err ≡ before.err → PrintsAll world red black setup before after
-unfolding match_output whole_text run_text
+unfolding match_output whole_text run_text dumps_text
 game_of world red black setup before after [] read text fetched are is written flushed silent = absurd are
 game_of world red black setup before after (a ∷ []) read text fetched are is written flushed silent = absurd are.1
 game_of world red black setup before after (a ∷ b ∷ []) read text fetched are is written flushed silent = absurd are.1.1

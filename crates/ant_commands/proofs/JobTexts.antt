@@ -1,8 +1,9 @@
 -- What is kept of each command's job: its text ends in LF, is one, and is there.
 use Rattle.std.proofs.Common.{Bool, List, [], ap, ap₂, append-nil, arith, false, inl, inr, length, refl, subst, sym, true, ℕ, ◌++◌, ◌∙◌, ◌∷◌, ◌≡◌, ◌≤◌, ◌⊎◌, ◌||◌}
 use Rattle.ant_asm.proofs.HasAssembled.{assembled-some, has_assembled}
-use Rattle.ant_asm.proofs.LineInstructions.{line-for-each}
+use Rattle.ant_asm.proofs.LineInstructions.{line_for_each}
 use Rattle.ant_asm.specs.Labels.{labels_text}
+use Rattle.ant_asm.specs.Source.{ReadSource}
 use Rattle.ant_asm.specs.StateLines.{AreStateLinesOf, StateLine, state_lines_text}
 use Rattle.ant_base.specs.Fetched.{Fetched}
 use Rattle.ant_base.specs.Lines.{ends_in_lf}
@@ -36,7 +37,7 @@ use Rattle.world_read.specs.Canonical.{canonical_text}
 use Rattle.world_read.specs.Opened.{kinds_of}
 use Rattle.ant_commands.specs.Files.{AreAccepted, FileContent}
 use Rattle.ant_commands.specs.Help.{help_text, version_text}
-use Rattle.ant_commands.specs.Outputs.{IsAsmOutput, IsCupOutput, IsViewOutput, ReadCup, ReadGame, ReadPair, ReadProgram, ReadSource, ReadView, Tells, TellsGenerated, TellsMinimised, TellsSame, TellsWorkload, advance_output, brain_contents, brain_file, pair_contents, contest_shape, roster_contents, cup_files, events_output, game_contents, game_files, is_text_of, labelled_file, match_output, minimise_output, profile_output, program_contents, resume_output, save_output, score_between, shape_named, show_output, source_contents, source_text, summary_of, trace_output, workload_text}
+use Rattle.ant_commands.specs.Outputs.{IsAsmOutput, IsCupOutput, IsViewOutput, ReadCup, ReadGame, ReadPair, ReadProgram, ReadView, Tells, TellsGenerated, TellsMinimised, TellsSame, TellsWorkload, advance_output, brain_contents, brain_file, pair_contents, contest_shape, roster_contents, cup_files, events_output, game_contents, game_files, is_text_of, labelled_file, match_output, minimise_output, profile_output, program_contents, resume_output, save_output, score_between, shape_named, show_output, source_contents, source_text, summary_of, trace_output, workload_text}
 use Rattle.ant_commands.specs.Job.{Job, plain_job}
 use Rattle.command_words.specs.Command.{AskedWithin, PlainAsked}
 use Rattle.command_words.specs.declared.table.CommandKind.{CommandKind}
@@ -88,7 +89,7 @@ lines-some : (text : List ℕ) (lines : List StateLine) → AreStateLinesOf text
 lines-some text lines are =
     let made = has_assembled text are.main are.is in
     let some = assembled-some text made.0 made.1 (record { main = are.main; is = are.is; assembled = made.2 }) in
-    let many = line-for-each.as_many text made.0 made.1 lines (record { main = are.main; is = are.is; assembled = made.2 }) are in
+    let many = line_for_each.as_many text made.0 made.1 lines (record { main = are.main; is = are.is; assembled = made.2 }) are in
     omega (arith, some, many)
 
 source-some : (name : List ℕ) (fetches : List Fetched) (source : ReadSource) → AreAccepted (labelled_file true name ∷ []) fetches (source_contents source) → 1 ≤ length source.lines

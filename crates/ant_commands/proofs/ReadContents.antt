@@ -1,5 +1,6 @@
 -- What files were read as: their contents are those of one value.
 use Rattle.std.proofs.Common.{◌≡◌, ℕ, true, false, List, [], ◌∷◌, ◌++◌, map, refl, sym, ap, ◌∙◌, subst}
+use Rattle.ant_asm.specs.Source.{ReadSource}
 use Rattle.ant_base.specs.Fetched.{Fetched}
 use Rattle.brain_read.specs.declared.instr.Instr.{Instr}
 use Rattle.break_view.specs.declared.breaks.Break.{Break}
@@ -7,7 +8,7 @@ use Rattle.cell_world.specs.Grid.{Grid}
 use Rattle.match_save.specs.Saved.{SavedValue}
 use Rattle.ant_commands.specs.Files.{AreAccepted, File, FileContent, IsAccepted}
 use Rattle.ant_commands.specs.Files.FileContent.{BrainContent, BreakContent, WorldContent, LabelledContent, SourceContent, SaveContent}
-use Rattle.ant_commands.specs.Outputs.{ReadCup, ReadGame, ReadPair, ReadProgram, ReadSource, ReadView, Tells, brain_contents, brain_file, break_file, roster_contents, cup_files, game_contents, game_files, is_text_of, labelled_file, no_contents, pair_contents, program_contents, save_contents, save_file, source_contents, view_contents, world_contents, world_file}
+use Rattle.ant_commands.specs.Outputs.{ReadCup, ReadGame, ReadPair, ReadProgram, ReadView, Tells, brain_contents, brain_file, break_file, roster_contents, cup_files, game_contents, game_files, is_text_of, labelled_file, no_contents, pair_contents, program_contents, save_contents, save_file, source_contents, view_contents, world_contents, world_file}
 
 -- accepted files are read as one value
 pub record IsReading {A : Type 0} (files : List File) (contents_of : A → List FileContent) : Type 0 where
@@ -47,9 +48,8 @@ program-read : (name : List ℕ) (fetch : Fetched) (content : FileContent) → I
 program-read name fetch (LabelledContent brain places) got = (record { brain = brain; places = places }, refl)
 program-read name fetch content got = absurd got.reads
 
-source-read : (name : List ℕ) (fetch : Fetched) (content : FileContent) → IsAccepted (labelled_file true name) fetch content
-    → (source : ReadSource) × (content ≡ SourceContent source.labels source.lines)
-source-read name fetch (SourceContent labels lines) got = (record { labels = labels; lines = lines }, refl)
+source-read : (name : List ℕ) (fetch : Fetched) (content : FileContent) → IsAccepted (labelled_file true name) fetch content → (source : ReadSource) × (content ≡ SourceContent source)
+source-read name fetch (SourceContent source) got = (source, refl)
 source-read name fetch content got = absurd got.reads
 
 save-read : (name : List ℕ) (rounds : ℕ) (fetch : Fetched) (content : FileContent) → IsAccepted (save_file name rounds) fetch content → (saved : SavedValue) × (content ≡ SaveContent saved)
@@ -110,16 +110,13 @@ read_program name = record {
       (program.0, alone (labelled_file false name) contents (LabelledContent program.0.brain program.0.places) it program.1);
 }
 
-same_source : (a b : ReadSource) → a.labels ≡ b.labels → a.lines ≡ b.lines → a ≡ b
-same_source a b labels lines = λ i. record { labels = labels i; lines = lines i }
-
 pub read_source : (name : List ℕ) → IsReading (labelled_file true name ∷ []) source_contents
 read_source name = record {
-  one = λ a b same. same_source a b (cc) (cc);
+  one = λ a b same. cc;
   reads = λ fetches contents are.
       let it = first (labelled_file true name) [] fetches contents are in
       let source = source-read name it.fetch it.content it.first in
-      (source.0, alone (labelled_file true name) contents (SourceContent source.0.labels source.0.lines) it source.1);
+      (source.0, alone (labelled_file true name) contents (SourceContent source.0) it source.1);
 }
 
 pub read_save : (name : List ℕ) (rounds : ℕ) → IsReading (save_file name rounds ∷ []) save_contents

@@ -5,14 +5,15 @@ use Rattle.ant_base.specs.Fetched.{Fetched}
 use Rattle.ant_base.specs.Layout.{◌+++◌}
 use Rattle.ant_base.specs.Shelf.{longest}
 use Rattle.brain_read.specs.declared.instr.Instr.{Instr}
-use Rattle.brain_read.specs.declared.instr.Instr.TheVariants.{Sense, Mark, Unmark, PickUp, Drop, Turn, Move, Flip}
-use Rattle.brain_read.specs.Forms.{HasBound, IsInRange}
+use Rattle.brain_read.specs.declared.instr.Instr.TheVariants.{Flip}
+use Rattle.brain_read.specs.Forms.{HasBound, InstrLine, IsInRange}
 use Rattle.brain_read.specs.Grammar.{AreLines, IsBrainText}
 use Rattle.brain_read.proofs.SoundnessLemmas.{brain_of}
 use Rattle.cell_world.specs.Grid.{world_of}
 use Rattle.ant_commands.specs.Setups.{RunSetup, SetupWithin}
 use Rattle.dump_print.specs.Texts.{seed_text}
 use Rattle.line_tokens.specs.TokenLines.{TokenLine, lines_with_tokens}
+use Rattle.line_tokens.proofs.LinesByTokens.{by_lines}
 use Rattle.match_run.specs.Counts.{whole_text}
 use Rattle.match_run.specs.Run.{dumps_text}
 use Rattle.match_save.proofs.AfterRounds.{games_are_advanced, games_are_saved}
@@ -37,14 +38,8 @@ use Rattle.ant_commands.specs.Laws.{IsGameOf, IsSavedAs, SavesAreResumed, front_
 
 -- the bounds of a brain that was read are at most the largest
 bound : (instruction : Instr) → IsInRange instruction → HasBound instruction
-bound (Sense s m u c) range = tt
-bound (Mark i k) range = tt
-bound (Unmark i k) range = tt
-bound (PickUp m u) range = tt
-bound (Drop k) range = tt
-bound (Turn s k) range = tt
-bound (Move m u) range = tt
 bound (Flip b m u) range = range.1
+bound instruction range = tt
 
 bounds : (lines : List TokenLine) (list : List Instr) → AreLines lines list → AllByRecursion HasBound list
 bounds lines [] are = tt
@@ -68,8 +63,8 @@ starts setup game round is early = record {
   plan = is.opens.is.plan;
   opened = is.opens.opened;
   sound = record { red = brain_of is.red_bytes game.red is.is_red; black = brain_of is.black_bytes game.black is.is_black; corpse = is.within.corpse.1 };
-  red_bounds = bounds (lines_with_tokens is.red_bytes) game.red is.is_red.lines;
-  black_bounds = bounds (lines_with_tokens is.black_bytes) game.black is.is_black.lines;
+  red_bounds = bounds (lines_with_tokens is.red_bytes) game.red (by_lines InstrLine is.red_bytes game.red is.is_red.lines);
+  black_bounds = bounds (lines_with_tokens is.black_bytes) game.black (by_lines InstrLine is.black_bytes game.black is.is_black.lines);
   seed_low = is.within.seed.1;
   few = is.within.surround.0;
   many = is.within.surround.1;

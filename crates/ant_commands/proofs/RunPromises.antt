@@ -10,6 +10,7 @@ use Rattle.ant_base.specs.Sink.{Pushed, PushedAll, PushedFront, SinkState}
 use Rattle.ant_base.specs.declared.sink.Failed.{Failed}
 use Rattle.ant_base.specs.declared.shelf.FetchFault.{FetchFault}
 use Rattle.ant_base.specs.declared.shelf.FetchFault.TheVariants as why
+use Rattle.ant_turn.specs.Minds.{Minds}
 use Rattle.ant_turn.specs.Rounds.{start_of}
 use Rattle.cell_world.specs.Grid.{world_of}
 use Rattle.command_words.proofs.SaidLemmas as said_laws
@@ -23,7 +24,7 @@ use Rattle.command_words.specs.declared.table.CommandKind.TheVariants.{Run}
 use Rattle.command_words.specs.declared.table.Choice.TheVariants as choice
 use Rattle.match_run.specs.Counts.{counts_text, totals_of, whole_text}
 use Rattle.match_run.specs.Play.{PushedProperPrefix}
-use Rattle.match_run.specs.Run.{run_text}
+use Rattle.match_run.specs.Run.{dumps_text, run_text}
 use Rattle.ant_commands.specs.declared.stop.FileFault.{FileFault}
 use Rattle.ant_commands.specs.Endings.{IsUnsure, StopsFor}
 use Rattle.ant_commands.specs.FaultLines.{Reason, fault_line, file_fault_text}
@@ -38,7 +39,7 @@ use Rattle.ant_commands.specs.Jobs.{job_of, run_job}
 use Rattle.ant_commands.specs.Outputs.{ReadGame, brain_file, chosen_rounds, game_contents, game_files, match_output, minds_named, sheet_named, world_file}
 use Rattle.ant_commands.specs.Outside.{Outside}
 use Rattle.ant_commands.specs.Run.{GotLine, IsRunTo}
-use Rattle.ant_commands.specs.RunPromise.{GameSetup, HasLine, IsBrain, IsCutOff, IsNotAccepted, IsPrinted, IsRunOf, IsSomeRun, IsUnfit, IsUnread, IsWorld, Plays, RefusedWords, RunEnds, RunPromise, StopsAt, WantsMemory, fetch, game_text}
+use Rattle.ant_commands.specs.RunPromise.{GameSetup, HasLine, IsBrain, IsCutOff, IsNotAccepted, IsPrinted, IsRunOf, IsSomeRun, IsUnfit, IsUnread, IsWorld, Plays, RefusedWords, RunEnds, RunPromise, StopsAt, WantsMemory, fetch}
 use Rattle.ant_commands.specs.Setups.{RunSetup, setup_of}
 use Rattle.ant_commands.specs.Verdict.{IsRefusedAs}
 use Rattle.ant_commands.proofs.Headlines.{headline}
@@ -48,6 +49,13 @@ use Rattle.ant_commands.proofs.Texts.{never_both}
 -- what the options of a run say of its game
 abbrev game_of : RunSetup → GameSetup
 game_of setup = record { seed = setup.seed; rounds = setup.rounds; dumps = setup.dumps; sheet = sheet_named setup }
+
+-- both brains of a game, with the numbers of its rules
+abbrev minds_in : GameSetup → ReadGame → Minds
+minds_in setup game = record { red = game.red; black = game.black; sheet = setup.sheet }
+
+abbrev game_text : GameSetup → ReadGame → List ℕ
+game_text setup game = run_text (minds_in setup game) setup.seed setup.rounds (chosen_rounds setup.dumps) (world_of game.world)
 
 -- without counts the output is the text of the game
 text_of_game : (setup : RunSetup) (read : ReadGame) → setup.stats ≡ false → match_output setup read ≡ game_text (game_of setup) read
@@ -84,10 +92,12 @@ plays_read IsWritten world red black setup before after (a ∷ b ∷ c ∷ fetch
       second = y.bytes;
       third = z.bytes;
       fetched = subst (FetchesEach before.shelf after.shelf) same fetched;
-      game = read;
+      grid = read.world;
+      minds = minds_in (game_of setup) read;
       is_world = x.reads;
       is_red = y.reads;
       is_black = z.reads;
+      rules = refl;
       written = subst (IsWritten before.out after.out) (is ∙ text_of_game setup read off) written;
     }
 
@@ -100,7 +110,7 @@ plays IsWritten world red black setup before after fetches contents text fetched
 -- status 0
 printed : (world red black : List ℕ) (setup : RunSetup) (before after : Outside) → setup.stats ≡ false → PrintsTheGame world red black setup before after
     → IsPrinted world red black (game_of setup) before after
-unfolding run_text
+unfolding run_text dumps_text
 printed world red black setup before after off it =
     let read : ReadGame = record { world = it.start; red = it.red_brain; black = it.black_brain } in
     let whole : game_text (game_of setup) read +++ it.counts ≡ game_text (game_of setup) read =
@@ -111,10 +121,12 @@ printed world red black setup before after off it =
         second = it.red_bytes;
         third = it.black_bytes;
         fetched = it.fetched;
-        game = read;
+        grid = read.world;
+        minds = minds_in (game_of setup) read;
         is_world = it.is_world;
         is_red = it.is_red;
         is_black = it.is_black;
+        rules = refl;
         written = subst (PushedAll before.out after.out) whole it.written;
       };
       flushed = it.flushed;
@@ -127,7 +139,7 @@ a_world bytes (WorldContent grid) reads = (grid, reads)
 a_world bytes (BrainContent list) reads = absurd reads
 a_world bytes (BreakContent items) reads = absurd reads
 a_world bytes (LabelledContent brain places) reads = absurd reads
-a_world bytes (SourceContent labels lines) reads = absurd reads
+a_world bytes (SourceContent source) reads = absurd reads
 a_world bytes (SaveContent saved) reads = absurd reads
 
 a_brain : (bytes : List ℕ) (content : FileContent) → Reads BrainFile bytes content → IsBrain bytes
@@ -135,7 +147,7 @@ a_brain bytes (WorldContent grid) reads = absurd reads
 a_brain bytes (BrainContent list) reads = (list, reads)
 a_brain bytes (BreakContent items) reads = absurd reads
 a_brain bytes (LabelledContent brain places) reads = absurd reads
-a_brain bytes (SourceContent labels lines) reads = absurd reads
+a_brain bytes (SourceContent source) reads = absurd reads
 a_brain bytes (SaveContent saved) reads = absurd reads
 
 -- the last fetch of a run

@@ -21,43 +21,43 @@ use Rattle.command_words.proofs.AnswersLemmas.{answers_in-of, answers_of, has_gi
 use Rattle.command_words.proofs.TableLemmas.{bytes_eq-same, same_option}
 use Rattle.list_lemmas.proofs.AllElements.{AllByRecursion-at}
 use Rattle.list_lemmas.proofs.Elements.{Contains-cases, Contains-first, Contains-later, Contains-none}
-use Rattle.ant_commands.specs.RunPromise.{AreOptions, GameSetup, IsDumps, IsNumber, IsRunOf, IsSomeRun, IsValue, RunOption, name_of, setup_said, with_option}
-use Rattle.ant_commands.specs.RunPromise.RunOption.{Seed, Rounds, Dump, Workers, Window, Surround, Corpse, Rest, Far}
+use Rattle.ant_commands.specs.RunPromise.{AreOptions, GameSetup, IsDumps, IsNumber, IsOption, IsRunOf, IsSomeRun}
+use Rattle.ant_commands.specs.RunPromise.IsOption.{Seed, Rounds, Dump, Workers, Window, Surround, Corpse, Rest, Far}
 
--- the option of the table
-abbrev pub in_table : RunOption → Choice
-in_table (Seed number) = choice.Seed
-in_table (Rounds number) = choice.Rounds
-in_table (Dump dumps) = choice.Dump
-in_table (Workers number) = choice.Workers
-in_table (Window number) = choice.Window
-in_table (Surround number) = choice.Surround
-in_table (Corpse number) = choice.Corpse
-in_table (Rest number) = choice.Rest
+-- an option of a `run`, as the table has it
+abbrev pub in_table : {setup new : GameSetup} {name : List ℕ} {words : List (List ℕ)} → IsOption setup name words new → Choice
+in_table (Seed n word is) = choice.Seed
+in_table (Rounds n word is) = choice.Rounds
+in_table (Dump dumps word is) = choice.Dump
+in_table (Workers n word is) = choice.Workers
+in_table (Window n word is) = choice.Window
+in_table (Surround n word is) = choice.Surround
+in_table (Corpse n word is) = choice.Corpse
+in_table (Rest n word is) = choice.Rest
 in_table Far = choice.Far
 
 -- it has the same name
-name_in_table : (option : RunOption) → name_of option ≡ option_of (in_table option)
-name_in_table (Seed number) = refl
-name_in_table (Rounds number) = refl
-name_in_table (Dump dumps) = refl
-name_in_table (Workers number) = refl
-name_in_table (Window number) = refl
-name_in_table (Surround number) = refl
-name_in_table (Corpse number) = refl
-name_in_table (Rest number) = refl
+name_in_table : {setup new : GameSetup} {name : List ℕ} {words : List (List ℕ)} (is : IsOption setup name words new) → name ≡ option_of (in_table is)
+name_in_table (Seed n word is) = refl
+name_in_table (Rounds n word is) = refl
+name_in_table (Dump dumps word is) = refl
+name_in_table (Workers n word is) = refl
+name_in_table (Window n word is) = refl
+name_in_table (Surround n word is) = refl
+name_in_table (Corpse n word is) = refl
+name_in_table (Rest n word is) = refl
 name_in_table Far = refl
 
 -- and is an option of `run`
-known_in_table : (option : RunOption) → Contains (choices_of Run) (in_table option)
-known_in_table (Seed number) = (0, lit< tt, refl)
-known_in_table (Rounds number) = (1, lit< tt, refl)
-known_in_table (Dump dumps) = (2, lit< tt, refl)
-known_in_table (Workers number) = (3, lit< tt, refl)
-known_in_table (Window number) = (4, lit< tt, refl)
-known_in_table (Surround number) = (5, lit< tt, refl)
-known_in_table (Corpse number) = (6, lit< tt, refl)
-known_in_table (Rest number) = (7, lit< tt, refl)
+known_in_table : {setup new : GameSetup} {name : List ℕ} {words : List (List ℕ)} (is : IsOption setup name words new) → Contains (choices_of Run) (in_table is)
+known_in_table (Seed n word is) = (0, lit< tt, refl)
+known_in_table (Rounds n word is) = (1, lit< tt, refl)
+known_in_table (Dump dumps word is) = (2, lit< tt, refl)
+known_in_table (Workers n word is) = (3, lit< tt, refl)
+known_in_table (Window n word is) = (4, lit< tt, refl)
+known_in_table (Surround n word is) = (5, lit< tt, refl)
+known_in_table (Corpse n word is) = (6, lit< tt, refl)
+known_in_table (Rest n word is) = (7, lit< tt, refl)
 known_in_table Far = (9, lit< tt, refl)
 
 -- Numbers.
@@ -181,33 +181,27 @@ said_by : (kind : NumberKind) (default number : ℕ) (word : List ℕ) (values :
 said_by kind default number word values are is = ap (λ ws. said kind default (first_word ws)) are ∙ ap (λ o. unwrap_or o default) is
 
 -- what one more option says
-says : (option : RunOption) (value : List (List ℕ)) (values : List (List (List ℕ))) (given : List Given) → joined values ≡ value → IsValue option value
-    → heard (given_as (in_table option) values ∷ given) ≡ with_option option (heard given)
-says (Seed number) [] values given are is = absurd is
-says (Seed number) (word ∷ []) values given are is = ap (λ n. record (heard given) { seed = n }) (said_by SeedNumber 0 number word values are (number_said 0 4294967295 number word is))
-says (Seed number) (word ∷ other ∷ more) values given are is = absurd is
-says (Rounds number) [] values given are is = absurd is
-says (Rounds number) (word ∷ []) values given are is = ap (λ n. record (heard given) { rounds = n }) (said_by RoundCount 0 number word values are (number_said 0 1000000 number word is))
-says (Rounds number) (word ∷ other ∷ more) values given are is = absurd is
-says (Dump dumps) [] values given are is = absurd is
-says (Dump dumps) (word ∷ []) values given are is =
+says : {setup new : GameSetup} {name : List ℕ} {words : List (List ℕ)} (is : IsOption setup name words new) (values : List (List (List ℕ))) (given : List Given) → joined values ≡ words
+    → heard given ≡ setup → heard (given_as (in_table is) values ∷ given) ≡ new
+says (Seed n word is) values given are e =
+    ap (λ n. record (heard given) { seed = n }) (said_by SeedNumber 0 n word values are (number_said 0 4294967295 n word is)) ∙ ap (λ (s : GameSetup). record s { seed = n }) e
+says (Rounds n word is) values given are e =
+    ap (λ n. record (heard given) { rounds = n }) (said_by RoundCount 0 n word values are (number_said 0 1000000 n word is)) ∙ ap (λ (s : GameSetup). record s { rounds = n }) e
+says (Dump dumps word is) values given are e =
     ap (λ d. record (heard given) { dumps = d }) (ap (λ ws. dumps_said (first_word ws)) are ∙ ap (λ o. unwrap_or o NoDump) (dumps_spelled dumps word is))
-says (Dump dumps) (word ∷ other ∷ more) values given are is = absurd is
-says (Workers number) value values given are is = refl
-says (Window number) value values given are is = refl
-says (Surround number) [] values given are is = absurd is
-says (Surround number) (word ∷ []) values given are is =
-    ap (λ n. record (heard given) { sheet = record (heard given).sheet { surround = n } }) (said_by FoeCount 5 number word values are (number_said 4 6 number word is))
-says (Surround number) (word ∷ other ∷ more) values given are is = absurd is
-says (Corpse number) [] values given are is = absurd is
-says (Corpse number) (word ∷ []) values given are is =
-    ap (λ n. record (heard given) { sheet = record (heard given).sheet { corpse = n } }) (said_by CorpseFood 3 number word values are (number_said 0 9 number word is))
-says (Corpse number) (word ∷ other ∷ more) values given are is = absurd is
-says (Rest number) [] values given are is = absurd is
-says (Rest number) (word ∷ []) values given are is =
-    ap (λ n. record (heard given) { sheet = record (heard given).sheet { rest = n } }) (said_by RestRounds 14 number word values are (number_said 0 255 number word is))
-says (Rest number) (word ∷ other ∷ more) values given are is = absurd is
-says Far value values given are is = refl
+    ∙ ap (λ (s : GameSetup). record s { dumps = dumps }) e
+says (Workers n word is) values given are e = e
+says (Window n word is) values given are e = e
+says (Surround n word is) values given are e =
+    ap (λ n. record (heard given) { sheet = record (heard given).sheet { surround = n } }) (said_by FoeCount 5 n word values are (number_said 4 6 n word is))
+    ∙ ap (λ (s : GameSetup). record s { sheet = record s.sheet { surround = n } }) e
+says (Corpse n word is) values given are e =
+    ap (λ n. record (heard given) { sheet = record (heard given).sheet { corpse = n } }) (said_by CorpseFood 3 n word values are (number_said 0 9 n word is))
+    ∙ ap (λ (s : GameSetup). record s { sheet = record s.sheet { corpse = n } }) e
+says (Rest n word is) values given are e =
+    ap (λ n. record (heard given) { sheet = record (heard given).sheet { rest = n } }) (said_by RestRounds 14 n word values are (number_said 0 255 n word is))
+    ∙ ap (λ (s : GameSetup). record s { sheet = record s.sheet { rest = n } }) e
+says Far values given are e = e
 
 -- From the words of a run to the table.
 
@@ -227,103 +221,93 @@ dumps_fit : (dumps : DumpChoice) (word : List ℕ) → IsDumps dumps word → fi
 unfolding is_dumps
 dumps_fit dumps word is = ap is_some (dumps_spelled dumps word is)
 
--- the values of an option fit its places
-values_fit : (option : RunOption) (value : List (List ℕ)) → IsValue option value → FitAll (values_of (in_table option)) (parts_of value)
-values_fit (Seed number) [] is = absurd is
-values_fit (Seed number) (word ∷ []) is = (number_fits SeedNumber number word is, tt)
-values_fit (Seed number) (word ∷ other ∷ more) is = absurd is
-values_fit (Rounds number) [] is = absurd is
-values_fit (Rounds number) (word ∷ []) is = (number_fits RoundCount number word is, tt)
-values_fit (Rounds number) (word ∷ other ∷ more) is = absurd is
-values_fit (Dump dumps) [] is = absurd is
-values_fit (Dump dumps) (word ∷ []) is = (dumps_fit dumps word is, tt)
-values_fit (Dump dumps) (word ∷ other ∷ more) is = absurd is
-values_fit (Workers number) [] is = absurd is
-values_fit (Workers number) (word ∷ []) is = (number_fits WorkerCount number word is, tt)
-values_fit (Workers number) (word ∷ other ∷ more) is = absurd is
-values_fit (Window number) [] is = absurd is
-values_fit (Window number) (word ∷ []) is = (number_fits WindowSize number word is, tt)
-values_fit (Window number) (word ∷ other ∷ more) is = absurd is
-values_fit (Surround number) [] is = absurd is
-values_fit (Surround number) (word ∷ []) is = (number_fits FoeCount number word is, tt)
-values_fit (Surround number) (word ∷ other ∷ more) is = absurd is
-values_fit (Corpse number) [] is = absurd is
-values_fit (Corpse number) (word ∷ []) is = (number_fits CorpseFood number word is, tt)
-values_fit (Corpse number) (word ∷ other ∷ more) is = absurd is
-values_fit (Rest number) [] is = absurd is
-values_fit (Rest number) (word ∷ []) is = (number_fits RestRounds number word is, tt)
-values_fit (Rest number) (word ∷ other ∷ more) is = absurd is
-values_fit Far [] is = tt
-values_fit Far (word ∷ more) is = absurd is
+-- the words behind an option's name fit its places
+words_fit : {setup new : GameSetup} {name : List ℕ} {words : List (List ℕ)} (is : IsOption setup name words new) → FitAll (values_of (in_table is)) (parts_of words)
+words_fit (Seed n word is) = (number_fits SeedNumber n word is, tt)
+words_fit (Rounds n word is) = (number_fits RoundCount n word is, tt)
+words_fit (Dump dumps word is) = (dumps_fit dumps word is, tt)
+words_fit (Workers n word is) = (number_fits WorkerCount n word is, tt)
+words_fit (Window n word is) = (number_fits WindowSize n word is, tt)
+words_fit (Surround n word is) = (number_fits FoeCount n word is, tt)
+words_fit (Corpse n word is) = (number_fits CorpseFood n word is, tt)
+words_fit (Rest n word is) = (number_fits RestRounds n word is, tt)
+words_fit Far = tt
 
--- the options of some words as the table has them
-abbrev given_of : (options : List RunOption) (words : List (List ℕ)) → AreOptions options words → List Given
-given_of [] words are = []
-given_of (option ∷ options) words are = given_as (in_table option) (parts_of are.0) ∷ given_of options are.1 are.4
+-- options are pairs of a name and the words behind it
+abbrev pub Named : Type 0
+Named = List ℕ × List (List ℕ)
 
-given_whole : (options : List RunOption) (words : List (List ℕ)) (are : AreOptions options words) → words ≡ flat_map given_words (given_of options words are)
-given_whole [] words are = are
-given_whole (option ∷ options) words are =
-    are.2
-    ∙ ap (λ (name : List ℕ). name ∷ (are.0 ++ are.1)) (name_in_table option)
-    ∙ ap (λ (value : List (List ℕ)). option_of (in_table option) ∷ (value ++ are.1)) (sym (joined-parts are.0))
-    ∙ ap (λ (more : List (List ℕ)). option_of (in_table option) ∷ (joined (parts_of are.0) ++ more)) (given_whole options are.1 are.4)
+abbrev pub names_of : List Named → List (List ℕ)
+names_of options = map (λ (option : Named). option.0) options
 
-given_options : (options : List RunOption) (words : List (List ℕ)) (are : AreOptions options words) → AllByRecursion (IsOptionOf Run) (given_of options words are)
-given_options [] words are = tt
-given_options (option ∷ options) words are =
-    (record { known = known_in_table option; fit = values_fit option are.0 are.3 }, given_options options are.1 are.4)
+abbrev pub spelled_by : List Named → List (List ℕ)
+spelled_by options = flat_map (λ (option : Named). option.0 ∷ option.1) options
 
-given_heard : (options : List RunOption) (words : List (List ℕ)) (are : AreOptions options words) → heard (given_of options words are) ≡ setup_said options
-given_heard [] words are = refl
-given_heard (option ∷ options) words are =
-    says option are.0 (parts_of are.0) (given_of options are.1 are.4) (joined-parts are.0) are.3 ∙ ap (with_option option) (given_heard options are.1 are.4)
+-- as the table has them
+abbrev given_of : (options : List Named) (setup : GameSetup) → AreOptions options setup → List Given
+given_of [] setup are = []
+given_of (option ∷ options) setup are = given_as (in_table are.1) (parts_of option.1) ∷ given_of options are.0 are.2
+
+given_whole : (options : List Named) (setup : GameSetup) (are : AreOptions options setup) → spelled_by options ≡ flat_map given_words (given_of options setup are)
+given_whole [] setup are = refl
+given_whole (option ∷ options) setup are =
+    ap (λ (name : List ℕ). name ∷ (option.1 ++ spelled_by options)) (name_in_table are.1)
+    ∙ ap (λ (words : List (List ℕ)). option_of (in_table are.1) ∷ (words ++ spelled_by options)) (sym (joined-parts option.1))
+    ∙ ap (λ (more : List (List ℕ)). option_of (in_table are.1) ∷ (joined (parts_of option.1) ++ more)) (given_whole options are.0 are.2)
+
+given_options : (options : List Named) (setup : GameSetup) (are : AreOptions options setup) → AllByRecursion (IsOptionOf Run) (given_of options setup are)
+given_options [] setup are = tt
+given_options (option ∷ options) setup are = (record { known = known_in_table are.1; fit = words_fit are.1 }, given_options options are.0 are.2)
+
+given_heard : (options : List Named) (setup : GameSetup) (are : AreOptions options setup) → heard (given_of options setup are) ≡ setup
+given_heard [] setup are = sym are
+given_heard (option ∷ options) setup are =
+    says are.1 (parts_of option.1) (given_of options are.0 are.2) (joined-parts option.1) (given_heard options are.0 are.2)
 
 -- another name than each of theirs is none of theirs
-given_others : (options : List RunOption) (words : List (List ℕ)) (are : AreOptions options words) (first : RunOption)
-    → AllByRecursion (λ other. other ≢ name_of first) (map name_of options) → AllByRecursion (λ other. other.choice ≢ in_table first) (given_of options words are)
-given_others [] words are first differ = tt
-given_others (option ∷ options) words are first differ =
-    (λ same. differ.0 (name_in_table option ∙ ap option_of same ∙ sym (name_in_table first)), given_others options are.1 are.4 first differ.1)
+given_others : (options : List Named) (setup : GameSetup) (are : AreOptions options setup) (of : Choice)
+    → AllByRecursion (λ other. other ≢ option_of of) (names_of options) → AllByRecursion (λ other. other.choice ≢ of) (given_of options setup are)
+given_others [] setup are of differ = tt
+given_others (option ∷ options) setup are of differ =
+    (λ same. differ.0 (name_in_table are.1 ∙ ap option_of same), given_others options are.0 are.2 of differ.1)
 
-given_once : (options : List RunOption) (words : List (List ℕ)) (are : AreOptions options words) → AllDiffer (map name_of options) → NoneTwice (given_of options words are)
-given_once [] words are once = tt
-given_once (option ∷ options) words are once = (given_others options are.1 are.4 option once.0, given_once options are.1 are.4 once.1)
+given_once : (options : List Named) (setup : GameSetup) (are : AreOptions options setup) → AllDiffer (names_of options) → NoneTwice (given_of options setup are)
+given_once [] setup are once = tt
+given_once (option ∷ options) setup are once = (
+  given_others options are.0 are.2 (in_table are.1) (subst (λ (name : List ℕ). AllByRecursion (λ other. other ≢ name) (names_of options)) (name_in_table are.1) once.0),
+  given_once options are.0 are.2 once.1,
+)
 
 -- a name is that of one option of the table
-one_of_name : (option : RunOption) (of : Choice) → name_of option ≡ option_of of → in_table option ≡ of
-one_of_name option of same =
-    same_option (in_table option) of (subst (λ (name : List ℕ). bytes_eq name (option_of of) ≡ true) (sym same ∙ name_in_table option) (bytes_eq-same (option_of of)))
-
--- an option of another name is another
-names_differ : (option : RunOption) (of : Choice) → in_table option ≢ of → name_of option ≢ option_of of
-names_differ option of differ same = differ (one_of_name option of same)
+one_of_name : (of other : Choice) → option_of of ≡ option_of other → of ≡ other
+one_of_name of other same = same_option of other (subst (λ (name : List ℕ). bytes_eq name (option_of other) ≡ true) (sym same) (bytes_eq-same (option_of other)))
 
 -- what is named is given
-given_named : (options : List RunOption) (words : List (List ℕ)) (are : AreOptions options words) (of : Choice) → Contains (map name_of options) (option_of of)
-    → IsGiven of (given_of options words are)
-given_named [] words are of has = absurd (Contains-none (option_of of) has)
-given_named (first ∷ options) words are of has = elim (Contains-cases (name_of first) (option_of of) (map name_of options) has) [
-  | inl here ↦ subst (λ (o : Choice). Contains (in_table first ∷ map (λ g. g.choice) (given_of options are.1 are.4)) o) (one_of_name first of here) (Contains-first (in_table first) (map (λ g. g.choice) (given_of options are.1 are.4)))
-  | inr later ↦ Contains-later (in_table first) of (map (λ g. g.choice) (given_of options are.1 are.4)) (given_named options are.1 are.4 of later)
+given_named : (options : List Named) (setup : GameSetup) (are : AreOptions options setup) (of : Choice) → Contains (names_of options) (option_of of)
+    → IsGiven of (given_of options setup are)
+given_named [] setup are of has = absurd (Contains-none (option_of of) has)
+given_named (option ∷ options) setup are of has = elim (Contains-cases option.0 (option_of of) (names_of options) has) [
+  | inl here ↦ subst (λ (o : Choice). Contains (in_table are.1 ∷ map (λ g. g.choice) (given_of options are.0 are.2)) o) (one_of_name (in_table are.1) of (sym (name_in_table are.1) ∙ here))
+      (Contains-first (in_table are.1) (map (λ g. g.choice) (given_of options are.0 are.2)))
+  | inr later ↦ Contains-later (in_table are.1) of (map (λ g. g.choice) (given_of options are.0 are.2)) (given_named options are.0 are.2 of later)
 ]
 
 -- none of them is `--stats`
-not_counts : (option : RunOption) → bytes_eq (option_of (in_table option)) (option_of choice.Stats) ≡ false
-not_counts (Seed number) = refl
-not_counts (Rounds number) = refl
-not_counts (Dump dumps) = refl
-not_counts (Workers number) = refl
-not_counts (Window number) = refl
-not_counts (Surround number) = refl
-not_counts (Corpse number) = refl
-not_counts (Rest number) = refl
+not_counts : {setup new : GameSetup} {name : List ℕ} {words : List (List ℕ)} (is : IsOption setup name words new) → bytes_eq (option_of (in_table is)) (option_of choice.Stats) ≡ false
+not_counts (Seed n word is) = refl
+not_counts (Rounds n word is) = refl
+not_counts (Dump dumps word is) = refl
+not_counts (Workers n word is) = refl
+not_counts (Window n word is) = refl
+not_counts (Surround n word is) = refl
+not_counts (Corpse n word is) = refl
+not_counts (Rest n word is) = refl
 not_counts Far = refl
 
-given_uncounted : (options : List RunOption) (words : List (List ℕ)) (are : AreOptions options words) → has_given choice.Stats (given_of options words are) ≡ false
-given_uncounted [] words are = refl
-given_uncounted (option ∷ options) words are =
-    ap (λ b. cond b true (has_given choice.Stats (given_of options are.1 are.4))) (not_counts option) ∙ given_uncounted options are.1 are.4
+given_uncounted : (options : List Named) (setup : GameSetup) (are : AreOptions options setup) → has_given choice.Stats (given_of options setup are) ≡ false
+given_uncounted [] setup are = refl
+given_uncounted (option ∷ options) setup are =
+    ap (λ b. cond b true (has_given choice.Stats (given_of options are.0 are.2))) (not_counts are.1) ∙ given_uncounted options are.0 are.2
 
 never : {P : Type 0} → false ≡ true → P
 never e = absurd (false≢true e)
@@ -349,19 +333,19 @@ front_of world red black = (world ∷ []) ∷ (red ∷ []) ∷ (black ∷ []) �
 
 pub table_run : (words : List (List ℕ)) (world red black : List ℕ) (setup : GameSetup) → IsRunOf words world red black setup → IsTableRun words world red black setup
 table_run words world red black setup is =
-    let given : List Given = given_of is.options is.behind is.spelled in
+    let given : List Given = given_of is.options setup is.said in
     let front : List (List (List ℕ)) = front_of world red black in
     let fit : FitAll (places_of Run) front = (is.names.0, (is.names.1.0, (is.names.1.1.0, tt))) in
-    let options : AllByRecursion (IsOptionOf Run) given = given_options is.options is.behind is.spelled in
+    let options : AllByRecursion (IsOptionOf Run) given = given_options is.options setup is.said in
     let whole : words ≡ words_of Run front given =
-    is.whole ∙ ap (λ (behind : List (List ℕ)). codes "run" ∷ world ∷ red ∷ black ∷ behind) (given_whole is.options is.behind is.spelled) in
+    is.whole ∙ ap (λ (behind : List (List ℕ)). codes "run" ∷ world ∷ red ∷ black ∷ behind) (given_whole is.options setup is.said) in
     let form : IsCommandOf Run front given words = record {
       known = (0, lit< tt, refl);
       whole = whole;
       places = fit;
       options = options;
-      once = given_once is.options is.behind is.spelled is.once;
-      needed = λ of known need. needs_two given (given_named is.options is.behind is.spelled choice.Seed is.seeded) (given_named is.options is.behind is.spelled choice.Rounds is.limited) of known need;
+      once = given_once is.options setup is.said is.once;
+      needed = λ of known need. needs_two given (given_named is.options setup is.said choice.Seed is.seeded) (given_named is.options setup is.said choice.Rounds is.limited) of known need;
     } in
     let asks : asked_in Run words ≡ asked_of Run (answers_of Run front given) = ap (asked_in Run) whole ∙ ap (asked_of Run) (answers_in-of Run front given fit options) in
     record {
@@ -369,8 +353,8 @@ table_run words world red black setup is =
       world_is = ap (λ (asked : PlainAsked). asked.file 0) asks;
       red_is = ap (λ (asked : PlainAsked). asked.file 1) asks;
       black_is = ap (λ (asked : PlainAsked). asked.file 2) asks;
-      uncounted = ap (λ (asked : PlainAsked). asked.has choice.Stats) asks ∙ given_uncounted is.options is.behind is.spelled;
-      said = ap game_said asks ∙ given_heard is.options is.behind is.spelled ∙ sym is.said;
+      uncounted = ap (λ (asked : PlainAsked). asked.has choice.Stats) asks ∙ given_uncounted is.options setup is.said;
+      said = ap game_said asks ∙ given_heard is.options setup is.said;
     }
 
 -- From the table to the words of a run.
@@ -414,55 +398,57 @@ nothing_there : (values : List (List (List ℕ))) → FitAll [] values → value
 nothing_there [] fit = refl
 nothing_there (part ∷ values) fit = absurd fit
 
--- an option of the table as one of a run
-record IsOfRun (of : Choice) (values : List (List (List ℕ))) : Type 0 where
-  option : RunOption
-  named : in_table option ≡ of
-  value : IsValue option (joined values)
+-- an option of the table is one of a run: before what is said already, it says what is heard of all together
+abbrev IsOfRun : Choice → List (List (List ℕ)) → List Given → Type 0
+IsOfRun of values given = IsOption (heard given) (option_of of) (joined values) (heard (given_as of values ∷ given))
+
+moved : (of : Choice) (values : List (List (List ℕ))) (given : List Given) (words : List (List ℕ)) (setup : GameSetup) → joined values ≡ words → heard (given_as of values ∷ given) ≡ setup
+    → IsOption (heard given) (option_of of) words setup → IsOfRun of values given
+moved of values given words setup spelled heard_is is =
+    subst (λ (ws : List (List ℕ)). IsOption (heard given) (option_of of) ws (heard (given_as of values ∷ given))) (sym spelled)
+    (subst (λ (s : GameSetup). IsOption (heard given) (option_of of) words s) (sym heard_is) is)
 
 -- one whose value is a number
-number_of_run : (kind : NumberKind) (values : List (List (List ℕ))) (option : ℕ → RunOption)
-    → ((number : ℕ) (word : List ℕ) → IsNumber (least_of kind) (most_of kind) number word → IsValue (option number) (word ∷ []))
-    → (of : Choice) → ((number : ℕ) → in_table (option number) ≡ of) → FitAll (Word (Number kind) ∷ []) values → IsOfRun of values
-number_of_run kind values option spells of named fit =
+number_of_run : (kind : NumberKind) (default : ℕ) (of : Choice) (values : List (List (List ℕ))) (given : List Given) (setup : ℕ → GameSetup)
+    → ((n : ℕ) (word : List ℕ) → IsNumber (least_of kind) (most_of kind) n word → IsOption (heard given) (option_of of) (word ∷ []) (setup n))
+    → heard (given_as of values ∷ given) ≡ setup (said kind default (first_word (joined values))) → FitAll (Word (Number kind) ∷ []) values → IsOfRun of values given
+number_of_run kind default of values given setup row heard_is fit =
     let there = number_there kind values fit in
-    record {
-      option = option there.number;
-      named = named there.number;
-      value = subst (λ (vs : List (List (List ℕ))). IsValue (option there.number) (joined vs)) (sym there.one) (spells there.number there.word there.is);
-    }
+    let spelled : joined values ≡ there.word ∷ [] = ap joined there.one in
+    moved of values given (there.word ∷ []) (setup there.number) spelled
+    (heard_is ∙ ap setup (said_by kind default there.number there.word values spelled (number_said (least_of kind) (most_of kind) there.number there.word there.is)))
+    (row there.number there.word there.is)
 
-dumps_of_run : (values : List (List (List ℕ))) → FitAll (Word Dumps ∷ []) values → IsOfRun choice.Dump values
-dumps_of_run values fit =
+dumps_of_run : (values : List (List (List ℕ))) (given : List Given) → FitAll (Word Dumps ∷ []) values → IsOfRun choice.Dump values given
+dumps_of_run values given fit =
     let there = dumps_there values fit in
-    record {
-      option = Dump there.dumps;
-      named = refl;
-      value = subst (λ (vs : List (List (List ℕ))). IsValue (Dump there.dumps) (joined vs)) (sym there.one) there.is;
-    }
+    let spelled : joined values ≡ there.word ∷ [] = ap joined there.one in
+    moved choice.Dump values given (there.word ∷ []) (record (heard given) { dumps = there.dumps }) spelled
+    (ap (λ d. record (heard given) { dumps = d }) (ap (λ ws. dumps_said (first_word ws)) spelled ∙ ap (λ o. unwrap_or o NoDump) (dumps_spelled there.dumps there.word there.is)))
+    (Dump there.dumps there.word there.is)
 
-far_of_run : (values : List (List (List ℕ))) → FitAll [] values → IsOfRun choice.Far values
-far_of_run values fit = record { option = Far; named = refl; value = subst (λ (vs : List (List (List ℕ))). IsValue Far (joined vs)) (sym (nothing_there values fit)) tt }
+far_of_run : (values : List (List (List ℕ))) (given : List Given) → FitAll [] values → IsOfRun choice.Far values given
+far_of_run values given fit = moved choice.Far values given [] (heard given) (ap joined (nothing_there values fit)) refl Far
 
-of_run : (of : Choice) (values : List (List (List ℕ))) → Contains (choices_of Run) of → FitAll (values_of of) values → of ≢ choice.Stats → IsOfRun of values
-of_run of values known =
-    AllByRecursion-at (λ of. FitAll (values_of of) values → of ≢ choice.Stats → IsOfRun of values) (choices_of Run) of (
-      λ fit other. number_of_run SeedNumber values Seed (λ n w is. is) choice.Seed (λ n. refl) fit,
+of_run : (of : Choice) (values : List (List (List ℕ))) (given : List Given) → Contains (choices_of Run) of → FitAll (values_of of) values → of ≢ choice.Stats → IsOfRun of values given
+of_run of values given known =
+    AllByRecursion-at (λ of. FitAll (values_of of) values → of ≢ choice.Stats → IsOfRun of values given) (choices_of Run) of (
+      λ fit other. number_of_run SeedNumber 0 choice.Seed values given (λ n. record (heard given) { seed = n }) Seed refl fit,
       (
-        λ fit other. number_of_run RoundCount values Rounds (λ n w is. is) choice.Rounds (λ n. refl) fit,
+        λ fit other. number_of_run RoundCount 0 choice.Rounds values given (λ n. record (heard given) { rounds = n }) Rounds refl fit,
         (
-          λ fit other. dumps_of_run values fit,
+          λ fit other. dumps_of_run values given fit,
           (
-            λ fit other. number_of_run WorkerCount values Workers (λ n w is. is) choice.Workers (λ n. refl) fit,
+            λ fit other. number_of_run WorkerCount 0 choice.Workers values given (λ n. heard given) Workers refl fit,
             (
-              λ fit other. number_of_run WindowSize values Window (λ n w is. is) choice.Window (λ n. refl) fit,
+              λ fit other. number_of_run WindowSize 0 choice.Window values given (λ n. heard given) Window refl fit,
               (
-                λ fit other. number_of_run FoeCount values Surround (λ n w is. is) choice.Surround (λ n. refl) fit,
+                λ fit other. number_of_run FoeCount 5 choice.Surround values given (λ n. record (heard given) { sheet = record (heard given).sheet { surround = n } }) Surround refl fit,
                 (
-                  λ fit other. number_of_run CorpseFood values Corpse (λ n w is. is) choice.Corpse (λ n. refl) fit,
+                  λ fit other. number_of_run CorpseFood 3 choice.Corpse values given (λ n. record (heard given) { sheet = record (heard given).sheet { corpse = n } }) Corpse refl fit,
                   (
-                    λ fit other. number_of_run RestRounds values Rest (λ n w is. is) choice.Rest (λ n. refl) fit,
-                    (λ fit other. absurd (other refl), (λ fit other. far_of_run values fit, tt)),
+                    λ fit other. number_of_run RestRounds 14 choice.Rest values given (λ n. record (heard given) { sheet = record (heard given).sheet { rest = n } }) Rest refl fit,
+                    (λ fit other. absurd (other refl), (λ fit other. far_of_run values given fit, tt)),
                   ),
                 ),
               ),
@@ -473,39 +459,31 @@ of_run of values known =
     ) known
 
 -- options that are given, as those of a run
-record AreOfRun (given : List Given) : Type 0 where
-  options : List RunOption
-  spelled : AreOptions options (flat_map given_words given)
-  said : heard given ≡ setup_said options
-  others : (of : Choice) → AllByRecursion (λ other. other.choice ≢ of) given → AllByRecursion (λ name. name ≢ option_of of) (map name_of options)
-  once : NoneTwice given → AllDiffer (map name_of options)
-  named : (of : Choice) → IsGiven of given → Contains (map name_of options) (option_of of)
+abbrev named_in : List Given → List Named
+named_in given = map (λ (g : Given). (option_of g.choice, joined g.values)) given
 
-are_of_run : (given : List Given) → AllByRecursion (IsOptionOf Run) given → AllByRecursion (λ g. g.choice ≢ choice.Stats) given → AreOfRun given
-are_of_run [] are no_counts = record {
-  options = [];
-  spelled = refl;
-  said = refl;
-  others = λ of differ. tt;
-  once = λ once. tt;
-  named = λ of has. absurd (Contains-none of has);
-}
-are_of_run (g ∷ given) are no_counts =
-    let one : IsOfRun g.choice g.values = of_run g.choice g.values are.0.known are.0.fit no_counts.0 in
-    let rest : AreOfRun given = are_of_run given are.1 no_counts.1 in
-    let same : g ≡ given_as (in_table one.option) g.values = ap (λ (of : Choice). given_as of g.values) (sym one.named) in
-    let name : option_of g.choice ≡ name_of one.option = ap option_of (sym one.named) ∙ sym (name_in_table one.option) in
-    record {
-      options = one.option ∷ rest.options;
-      spelled = (joined g.values, flat_map given_words given, ap (λ (first : List ℕ). first ∷ (joined g.values ++ flat_map given_words given)) name, one.value, rest.spelled);
-      said = ap (λ (first : Given). heard (first ∷ given)) same ∙ says one.option (joined g.values) g.values given refl one.value ∙ ap (with_option one.option) rest.said;
-      others = λ of differ. (names_differ one.option of (λ e. differ.0 (sym one.named ∙ e)), rest.others of differ.1);
-      once = λ once. (subst (λ (first : List ℕ). AllByRecursion (λ other. other ≢ first) (map name_of rest.options)) name (rest.others g.choice once.0), rest.once once.1);
-      named = λ of has. elim (Contains-cases g.choice of (map (λ h. h.choice) given) has) [
-        | inl here ↦ subst (λ (first : List ℕ). Contains (name_of one.option ∷ map name_of rest.options) first) (sym name ∙ ap option_of here) (Contains-first (name_of one.option) (map name_of rest.options))
-        | inr later ↦ Contains-later (name_of one.option) (option_of of) (map name_of rest.options) (rest.named of later)
-      ];
-    }
+are_of_run : (given : List Given) → AllByRecursion (IsOptionOf Run) given → AllByRecursion (λ g. g.choice ≢ choice.Stats) given → AreOptions (named_in given) (heard given)
+are_of_run [] are no_counts = refl
+are_of_run (g ∷ given) are no_counts = (heard given, of_run g.choice g.values given are.0.known are.0.fit no_counts.0, are_of_run given are.1 no_counts.1)
+
+spelled_in : (given : List Given) → flat_map given_words given ≡ spelled_by (named_in given)
+spelled_in [] = refl
+spelled_in (g ∷ given) = ap (λ (more : List (List ℕ)). option_of g.choice ∷ (joined g.values ++ more)) (spelled_in given)
+
+others_in : (given : List Given) (of : Choice) → AllByRecursion (λ other. other.choice ≢ of) given → AllByRecursion (λ name. name ≢ option_of of) (names_of (named_in given))
+others_in [] of differ = tt
+others_in (g ∷ given) of differ = (λ same. differ.0 (one_of_name g.choice of same), others_in given of differ.1)
+
+once_in : (given : List Given) → NoneTwice given → AllDiffer (names_of (named_in given))
+once_in [] once = tt
+once_in (g ∷ given) once = (others_in given g.choice once.0, once_in given once.1)
+
+has_in : (given : List Given) (of : Choice) → IsGiven of given → Contains (names_of (named_in given)) (option_of of)
+has_in [] of has = absurd (Contains-none of has)
+has_in (g ∷ given) of has = elim (Contains-cases g.choice of (map (λ h. h.choice) given) has) [
+  | inl here ↦ subst (λ (name : List ℕ). Contains (option_of g.choice ∷ names_of (named_in given)) name) (ap option_of here) (Contains-first (option_of g.choice) (names_of (named_in given)))
+  | inr later ↦ Contains-later (option_of g.choice) (option_of of) (names_of (named_in given)) (has_in given of later)
+]
 
 -- the three names of a run
 record HasNames (front : List (List (List ℕ))) : Type 0 where
@@ -532,19 +510,17 @@ names_there ((w ∷ []) ∷ (r ∷ []) ∷ (b ∷ []) ∷ []) fit = record { wor
 pub run_of_form : (front : List (List (List ℕ))) (given : List Given) (words : List (List ℕ)) → IsCommandOf Run front given words → ¬ IsGiven choice.Stats given → IsSomeRun words
 run_of_form front given words form none =
     let names : HasNames front = names_there front form.places in
-    let are : AreOfRun given = are_of_run given form.options (none_is given none) in
-    let is : IsRunOf words names.world names.red names.black (setup_said are.options) = record {
-      options = are.options;
-      behind = flat_map given_words given;
-      whole = form.whole ∙ ap (λ (f : List (List (List ℕ))). word_of Run ∷ (joined f ++ flat_map given_words given)) names.are;
+    let is : IsRunOf words names.world names.red names.black (heard given) = record {
+      options = named_in given;
+      whole = form.whole ∙ ap (λ (f : List (List (List ℕ))). word_of Run ∷ (joined f ++ flat_map given_words given)) names.are
+          ∙ ap (λ (behind : List (List ℕ)). word_of Run ∷ (joined (front_of names.world names.red names.black) ++ behind)) (spelled_in given);
       names = names.names;
-      spelled = are.spelled;
-      once = are.once form.once;
-      seeded = are.named choice.Seed (form.needed choice.Seed (0, lit< tt, refl) refl);
-      limited = are.named choice.Rounds (form.needed choice.Rounds (1, lit< tt, refl) refl);
-      said = refl;
+      said = are_of_run given form.options (none_is given none);
+      once = once_in given form.once;
+      seeded = has_in given choice.Seed (form.needed choice.Seed (0, lit< tt, refl) refl);
+      limited = has_in given choice.Rounds (form.needed choice.Rounds (1, lit< tt, refl) refl);
     } in
-    (names.world, names.red, names.black, setup_said are.options, is)
+    (names.world, names.red, names.black, heard given, is)
   where
     none_is : (given : List Given) → ¬ IsGiven choice.Stats given → AllByRecursion (λ g. g.choice ≢ choice.Stats) given
     none_is [] none = tt

@@ -8,22 +8,72 @@ use Rattle.command_words.proofs.TableLemmas.{bytes_eq-same}
 use Rattle.command_words.proofs.WorkedLines.{words_of}
 use Rattle.command_words.specs.Command.{asked_in, is_among, rest_after}
 use Rattle.command_words.specs.Inner.Walk.{choice_of, command_kind_of, read_of}
-use Rattle.command_words.specs.Slots.{dumps_of, is_dumps, is_file_name}
+use Rattle.command_words.specs.Slots.{DumpChoice, dumps_of, is_dumps, is_file_name}
 use Rattle.command_words.specs.Slots.DumpChoice.{NoDump, EveryDump, ChosenDumps}
 use Rattle.command_words.specs.declared.table.CommandKind.TheVariants.{Run}
 use Rattle.ant_commands.specs.Outside.{Outside}
-use Rattle.ant_commands.specs.RunPromise.{GameSetup, IsRunOf, IsUnfit, IsValue, IsWorld, RunEnds, setup_said}
-use Rattle.ant_commands.specs.RunPromise.RunOption.{Seed, Rounds, Dump, Workers, Window, Surround, Corpse, Rest, Far}
+use Rattle.ant_commands.specs.RunPromise.{AreOptions, GameSetup, IsOption, IsRunOf, IsUnfit, IsWorld, RunEnds}
+use Rattle.ant_commands.specs.RunPromise.IsOption.{Seed, Rounds, Dump, Workers, Window, Surround, Corpse, Rest, Far}
 use Rattle.ant_commands.proofs.RunWords.{table_run}
 
+-- what is said where nothing is, and then a seed, a number of rounds and a choice of them
+abbrev bare : GameSetup
+bare = record { seed = 0; rounds = 0; dumps = NoDump; sheet = record { surround = 5; corpse = 3; rest = 14 } }
+
+abbrev seeded : GameSetup
+seeded = record bare { seed = 7 }
+
+abbrev limited : GameSetup
+limited = record seeded { rounds = 5 }
+
+abbrev dumped : DumpChoice → GameSetup
+dumped dumps = record limited { dumps = dumps }
+
+-- the same with other rules
+abbrev ruled : ℕ → ℕ → ℕ → GameSetup
+ruled surround corpse rest = record (dumped EveryDump) { sheet = record { surround = surround; corpse = corpse; rest = rest } }
+
 -- what all options say, in another order than that of the table
-pub all_said : setup_said (Far ∷ Rest 1 ∷ Corpse 2 ∷ Surround 6 ∷ Window 3 ∷ Workers 4 ∷ Dump EveryDump ∷ Rounds 5 ∷ Seed 7 ∷ [])
-    ≡ record { seed = 7; rounds = 5; dumps = EveryDump; sheet = record { surround = 6; corpse = 2; rest = 1 } }
-all_said = refl
+pub all_said : AreOptions
+    ((codes "--far", []) ∷ (codes "--rest", codes "1" ∷ []) ∷ (codes "--corpse", codes "2" ∷ []) ∷ (codes "--surround", codes "6" ∷ []) ∷ (codes "--window", codes "3" ∷ [])
+    ∷ (codes "--workers", codes "4" ∷ []) ∷ (codes "--dump", codes "all" ∷ []) ∷ (codes "--rounds", codes "5" ∷ []) ∷ (codes "--seed", codes "7" ∷ []) ∷ [])
+    (record { seed = 7; rounds = 5; dumps = EveryDump; sheet = record { surround = 6; corpse = 2; rest = 1 } })
+unfolding decimal_value
+all_said = (
+  ruled 6 2 1,
+  Far,
+  (
+    ruled 6 2 14,
+    Rest 1 (codes "1") (refl, omega arith, omega arith),
+    (
+      ruled 6 3 14,
+      Corpse 2 (codes "2") (refl, omega arith, omega arith),
+      (
+        dumped EveryDump,
+        Surround 6 (codes "6") (refl, omega arith, omega arith),
+        (
+          dumped EveryDump,
+          Window 3 (codes "3") (refl, omega arith, omega arith),
+          (
+            dumped EveryDump,
+            Workers 4 (codes "4") (refl, omega arith, omega arith),
+            (
+              limited,
+              Dump EveryDump (codes "all") refl,
+              (seeded, Rounds 5 (codes "5") (refl, omega arith, omega arith), (bare, Seed 7 (codes "7") (refl, omega arith, omega arith), refl)),
+            ),
+          ),
+        ),
+      ),
+    ),
+  ),
+)
 
 -- and what is said without them
-pub least_said : setup_said (Rounds 5 ∷ Seed 7 ∷ []) ≡ record { seed = 7; rounds = 5; dumps = NoDump; sheet = record { surround = 5; corpse = 3; rest = 14 } }
-least_said = refl
+pub least_said : AreOptions ((codes "--rounds", codes "5" ∷ []) ∷ (codes "--seed", codes "7" ∷ []) ∷ [])
+    (record { seed = 7; rounds = 5; dumps = NoDump; sheet = record { surround = 5; corpse = 3; rest = 14 } })
+unfolding decimal_value
+least_said = (seeded, Rounds 5 (codes "5") (refl, omega arith, omega arith), (bare, Seed 7 (codes "7") (refl, omega arith, omega arith), refl))
 
 differ : (name other : List ℕ) → bytes_eq other name ≡ false → other ≢ name
 differ name other apart same = false≢true (sym apart ∙ ap (λ (n : List ℕ). bytes_eq other n) (sym same) ∙ bytes_eq-same other)
@@ -33,32 +83,19 @@ pub reordered : IsRunOf (words_of (codes "run w r b --rest 1 --far --dump 0,10 -
     (record { seed = 7; rounds = 5; dumps = ChosenDumps (0 ∷ 10 ∷ []); sheet = record { surround = 5; corpse = 3; rest = 1 } })
 unfolding decimal_value is_file_name
 reordered = record {
-  options = Rest 1 ∷ Far ∷ Dump (ChosenDumps (0 ∷ 10 ∷ [])) ∷ Rounds 5 ∷ Seed 7 ∷ [];
-  behind = words_of (codes "--rest 1 --far --dump 0,10 --rounds 5 --seed 7");
+  options = (codes "--rest", codes "1" ∷ []) ∷ (codes "--far", []) ∷ (codes "--dump", codes "0,10" ∷ []) ∷ (codes "--rounds", codes "5" ∷ []) ∷ (codes "--seed", codes "7" ∷ []) ∷ [];
   whole = refl;
   names = (refl, (refl, (refl, tt)));
-  spelled = (
-    codes "1" ∷ [],
-    words_of (codes "--far --dump 0,10 --rounds 5 --seed 7"),
-    refl,
-    (refl, omega arith, omega arith),
+  said = (
+    dumped (ChosenDumps (0 ∷ 10 ∷ [])),
+    Rest 1 (codes "1") (refl, omega arith, omega arith),
     (
-      [],
-      words_of (codes "--dump 0,10 --rounds 5 --seed 7"),
-      refl,
-      tt,
+      dumped (ChosenDumps (0 ∷ 10 ∷ [])),
+      Far,
       (
-        codes "0,10" ∷ [],
-        words_of (codes "--rounds 5 --seed 7"),
-        refl,
-        ((refl, omega arith, omega arith), ((refl, omega arith, omega arith), tt)),
-        (
-          codes "5" ∷ [],
-          words_of (codes "--seed 7"),
-          refl,
-          (refl, omega arith, omega arith),
-          (codes "7" ∷ [], [], refl, (refl, omega arith, omega arith), refl),
-        ),
+        limited,
+        Dump (ChosenDumps (0 ∷ 10 ∷ [])) (codes "0,10") ((refl, omega arith, omega arith), ((refl, omega arith, omega arith), tt)),
+        (seeded, Rounds 5 (codes "5") (refl, omega arith, omega arith), (bare, Seed 7 (codes "7") (refl, omega arith, omega arith), refl)),
       ),
     ),
   );
@@ -74,44 +111,54 @@ reordered = record {
   );
   seeded = (4, lit< tt, refl);
   limited = (3, lit< tt, refl);
-  said = refl;
 }
 
 -- the least and the greatest number of each option, and the words of dumps
-pub within_limits : IsValue (Seed 0) (codes "0" ∷ []) × IsValue (Seed 4294967295) (codes "4294967295" ∷ []) × IsValue (Rounds 0) (codes "0" ∷ []) × IsValue (Rounds 1000000) (codes "1000000" ∷ [])
-    × IsValue (Workers 1) (codes "1" ∷ []) × IsValue (Workers 16) (codes "16" ∷ []) × IsValue (Window 1) (codes "01" ∷ []) × IsValue (Window 16384) (codes "16384" ∷ [])
-    × IsValue (Surround 4) (codes "4" ∷ []) × IsValue (Surround 6) (codes "6" ∷ []) × IsValue (Corpse 0) (codes "0" ∷ []) × IsValue (Corpse 9) (codes "9" ∷ [])
-    × IsValue (Rest 0) (codes "0" ∷ []) × IsValue (Rest 255) (codes "255" ∷ []) × IsValue (Dump NoDump) (codes "none" ∷ []) × IsValue (Dump EveryDump) (codes "all" ∷ [])
+pub within_limits : (setup : GameSetup)
+    → IsOption setup (codes "--seed") (codes "0" ∷ []) (record setup { seed = 0 })
+    × IsOption setup (codes "--seed") (codes "4294967295" ∷ []) (record setup { seed = 4294967295 })
+    × IsOption setup (codes "--rounds") (codes "0" ∷ []) (record setup { rounds = 0 })
+    × IsOption setup (codes "--rounds") (codes "1000000" ∷ []) (record setup { rounds = 1000000 })
+    × IsOption setup (codes "--workers") (codes "1" ∷ []) setup
+    × IsOption setup (codes "--workers") (codes "16" ∷ []) setup
+    × IsOption setup (codes "--window") (codes "01" ∷ []) setup
+    × IsOption setup (codes "--window") (codes "16384" ∷ []) setup
+    × IsOption setup (codes "--surround") (codes "4" ∷ []) (record setup { sheet = record setup.sheet { surround = 4 } })
+    × IsOption setup (codes "--surround") (codes "6" ∷ []) (record setup { sheet = record setup.sheet { surround = 6 } })
+    × IsOption setup (codes "--corpse") (codes "0" ∷ []) (record setup { sheet = record setup.sheet { corpse = 0 } })
+    × IsOption setup (codes "--corpse") (codes "9" ∷ []) (record setup { sheet = record setup.sheet { corpse = 9 } })
+    × IsOption setup (codes "--rest") (codes "0" ∷ []) (record setup { sheet = record setup.sheet { rest = 0 } })
+    × IsOption setup (codes "--rest") (codes "255" ∷ []) (record setup { sheet = record setup.sheet { rest = 255 } })
+    × IsOption setup (codes "--dump") (codes "none" ∷ []) (record setup { dumps = NoDump })
+    × IsOption setup (codes "--dump") (codes "all" ∷ []) (record setup { dumps = EveryDump })
 unfolding decimal_value
-within_limits = (
-  (refl, omega arith, omega arith),
-  (refl, omega arith, omega arith),
-  (refl, omega arith, omega arith),
-  (refl, omega arith, omega arith),
-  (refl, omega arith, omega arith),
-  (refl, omega arith, omega arith),
-  (refl, omega arith, omega arith),
-  (refl, omega arith, omega arith),
-  (refl, omega arith, omega arith),
-  (refl, omega arith, omega arith),
-  (refl, omega arith, omega arith),
-  (refl, omega arith, omega arith),
-  (refl, omega arith, omega arith),
-  (refl, omega arith, omega arith),
-  refl,
-  refl,
+within_limits setup = (
+  Seed 0 (codes "0") (refl, omega arith, omega arith),
+  Seed 4294967295 (codes "4294967295") (refl, omega arith, omega arith),
+  Rounds 0 (codes "0") (refl, omega arith, omega arith),
+  Rounds 1000000 (codes "1000000") (refl, omega arith, omega arith),
+  Workers 1 (codes "1") (refl, omega arith, omega arith),
+  Workers 16 (codes "16") (refl, omega arith, omega arith),
+  Window 1 (codes "01") (refl, omega arith, omega arith),
+  Window 16384 (codes "16384") (refl, omega arith, omega arith),
+  Surround 4 (codes "4") (refl, omega arith, omega arith),
+  Surround 6 (codes "6") (refl, omega arith, omega arith),
+  Corpse 0 (codes "0") (refl, omega arith, omega arith),
+  Corpse 9 (codes "9") (refl, omega arith, omega arith),
+  Rest 0 (codes "0") (refl, omega arith, omega arith),
+  Rest 255 (codes "255") (refl, omega arith, omega arith),
+  Dump NoDump (codes "none") refl,
+  Dump EveryDump (codes "all") refl,
 )
 
--- no word spells a number beyond its limits
-pub seed_ends : (words : List (List ℕ)) → IsValue (Seed 4294967296) words → ⊥
-seed_ends [] is = is
-seed_ends (word ∷ []) is = (let most = is.2 in omega arith)
-seed_ends (word ∷ other ∷ more) is = is
+-- no option says a number beyond its limits
+pub seed_ends : {setup new : GameSetup} {name : List ℕ} {words : List (List ℕ)} → IsOption setup name words new → new.seed ≡ 4294967296 → setup.seed ≡ 4294967296
+seed_ends (Seed n word is) e = absurd (let most = is.2 in omega (arith, e))
+seed_ends it e = e
 
-pub rounds_end : (words : List (List ℕ)) → IsValue (Rounds 1000001) words → ⊥
-rounds_end [] is = is
-rounds_end (word ∷ []) is = (let most = is.2 in omega arith)
-rounds_end (word ∷ other ∷ more) is = is
+pub rounds_end : {setup new : GameSetup} {name : List ℕ} {words : List (List ℕ)} → IsOption setup name words new → new.rounds ≡ 1000001 → setup.rounds ≡ 1000001
+rounds_end (Rounds n word is) e = absurd (let most = is.2 in omega (arith, e))
+rounds_end it e = e
 
 -- words that no command line of a `run` is
 no_run : (words : List (List ℕ)) (number : ℕ) → read_of words ≡ Err number → (world red black : List ℕ) (setup : GameSetup) → ¬ IsRunOf words world red black setup

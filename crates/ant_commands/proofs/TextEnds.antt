@@ -65,7 +65,7 @@ use Rattle.world_read.specs.Canonical.{canonical_text, cell_text, line_of_row, s
 use Rattle.ant_commands.specs.declared.commands.workload.Summary.{Summary}
 use Rattle.ant_commands.specs.Help.{head_lines, help_text, tail_lines, version_text}
 use Rattle.command_words.specs.Help.{table_text}
-use Rattle.ant_commands.specs.Outputs.{ReadGame, advance_output, traced_sheet, trace_output, chosen_rounds, events_output, match_output, minds_named, profile_output, resume_output, save_output, show_output, summary_lines, told_minds, workload_text}
+use Rattle.ant_commands.specs.Outputs.{ReadGame, advance_output, trace_output, chosen_rounds, events_output, match_output, minds_named, profile_output, resume_output, save_output, show_output, summary_lines, told_minds, workload_text}
 
 -- a text that ends in LF
 pub record EndsInLf (text : List ℕ) : Type 0 where
@@ -233,7 +233,7 @@ unfolding show_output
 lf_show seed grid = lf_last (seed_text seed) (dump_text (world_of grid) 0) (lf_dump (world_of grid) 0)
 
 pub lf_match : (setup : RunSetup) (game : ReadGame) → EndsInLf (match_output setup game)
-unfolding match_output whole_text run_text
+unfolding match_output whole_text run_text dumps_text
 lf_match setup game =
     let minds = minds_named setup game.red game.black in
     let w : World = world_of game.world in
@@ -374,10 +374,10 @@ lines_end false worlds id from n = inr (lf_last (codes "no ant of id ") (decimal
 pub lf_trace : (id : ℕ) (setup : TraceSetup) (game : ReadGame) → EndsInLf (trace_output id setup game)
 unfolding trace_output trace_text
 lf_trace id setup game =
-    let minds : Minds = record { red = game.red; black = game.black; sheet = traced_sheet setup } in
+    let told : ToldSetup = setup.told in
     let w : World = world_of game.world in
-    lf_then (seed_text setup.seed) _ (lf_seed setup.seed)
-    (lines_end (nat_lt id w.ids) (λ i. world_after minds setup.seed w (setup.from + i)) id setup.from (setup.rounds + 1 - setup.from))
+    lf_then (seed_text told.seed) _ (lf_seed told.seed)
+    (lines_end (nat_lt id w.ids) (λ i. world_after (told_minds told game) told.seed w (setup.from + i)) id setup.from (told.rounds + 1 - setup.from))
 
 -- who died and how the score went
 pub lf_events : (setup : ToldSetup) (game : ReadGame) → EndsInLf (events_output setup game)

@@ -8,7 +8,6 @@ use Rattle.break_view.specs.Faulty.{IsBreakFault}
 use Rattle.break_view.specs.declared.fault.BreakFault.{BreakFault}
 use Rattle.break_view.specs.declared.fault.BreakFault.TheVariants as breaks
 use Rattle.text_fault.proofs.Verdicts.{brain_verdict, program_verdict, save_verdict, source_verdict, world_verdict}
-use Rattle.text_fault.specs.declared.source.Source.{Source}
 use Rattle.text_fault.specs.Opens.{Opens}
 use Rattle.text_fault.specs.Refusals.IsRefusal.{Bad, Long}
 use Rattle.text_fault.specs.declared.fault.TextFault.{TextFault}
@@ -28,7 +27,7 @@ never_both WorldFile bytes (WorldContent grid) (Text fault) reads refuses = (wor
 never_both BrainFile bytes (BrainContent list) (Text fault) reads refuses = (brain_verdict bytes).never_both list fault reads refuses
 never_both BreakFile bytes (BreakContent items) (Breaks fault) reads refuses = break_whole.never_both bytes items fault reads refuses
 never_both (LabelledFile false) bytes (LabelledContent brain places) (Text fault) reads refuses = (program_verdict bytes).never_both (record { brain = brain; places = places }) fault reads refuses
-never_both (LabelledFile true) bytes (SourceContent labels lines) (Text fault) reads refuses = (source_verdict bytes).never_both (record { labels = labels; lines = lines }) fault reads refuses
+never_both (LabelledFile true) bytes (SourceContent source) (Text fault) reads refuses = (source_verdict bytes).never_both source fault reads refuses
 never_both (SaveFile rounds) bytes (SaveContent saved) (Text fault) reads refuses = (save_verdict rounds bytes).never_both saved fault reads refuses
 never_both kind bytes content fault reads refuses = assumption
 
@@ -39,8 +38,7 @@ one_reading BrainFile bytes (BrainContent a) (BrainContent b) first second = ap 
 one_reading BreakFile bytes (BreakContent a) (BreakContent b) first second = ap BreakContent (break_whole.one_list bytes a b first second)
 one_reading (LabelledFile false) bytes (LabelledContent a places) (LabelledContent b others) first second =
     ap (λ (made : Assembled). LabelledContent made.brain made.places) ((program_verdict bytes).one_value (record { brain = a; places = places }) (record { brain = b; places = others }) first second)
-one_reading (LabelledFile true) bytes (SourceContent a lines) (SourceContent b others) first second =
-    ap (λ (source : Source). SourceContent source.labels source.lines) ((source_verdict bytes).one_value (record { labels = a; lines = lines }) (record { labels = b; lines = others }) first second)
+one_reading (LabelledFile true) bytes (SourceContent a) (SourceContent b) first second = ap SourceContent ((source_verdict bytes).one_value a b first second)
 one_reading (SaveFile rounds) bytes (SaveContent a) (SaveContent b) first second = ap SaveContent ((save_verdict rounds bytes).one_value a b first second)
 one_reading kind bytes a b first second = absurd assumption
 
@@ -59,7 +57,7 @@ some_reading WorldFile bytes = elim (world_verdict bytes).some [ inl is ↦ inl 
 some_reading BrainFile bytes = elim (brain_verdict bytes).some [ inl is ↦ inl (BrainContent is.0, is.1) | inr wrong ↦ inr (Text wrong.0, wrong.1) ]
 some_reading BreakFile bytes = elim (break_whole.some_answer bytes) [ inl is ↦ inl (BreakContent is.0, is.1) | inr wrong ↦ inr (Breaks wrong.0, wrong.1) ]
 some_reading (LabelledFile false) bytes = elim (program_verdict bytes).some [ inl is ↦ inl (LabelledContent is.0.brain is.0.places, is.1) | inr wrong ↦ inr (Text wrong.0, wrong.1) ]
-some_reading (LabelledFile true) bytes = elim (source_verdict bytes).some [ inl is ↦ inl (SourceContent is.0.labels is.0.lines, is.1) | inr wrong ↦ inr (Text wrong.0, wrong.1) ]
+some_reading (LabelledFile true) bytes = elim (source_verdict bytes).some [ inl is ↦ inl (SourceContent is.0, is.1) | inr wrong ↦ inr (Text wrong.0, wrong.1) ]
 some_reading (SaveFile rounds) bytes = elim (save_verdict rounds bytes).some [ inl is ↦ inl (SaveContent is.0, is.1) | inr wrong ↦ inr (Text wrong.0, wrong.1) ]
 
 -- bytes that a shelf gave are read as their text is opened

@@ -275,12 +275,8 @@ refusing_run words before after ended run = λ name fault is shelf_held.
 -- no run ends at a file that was not read where the shelf is sure of the files up to the verdict
 read_by : (at : At) (command : Job) (before after : Outside) (fetches told : List Fetched) (verdict : FilesVerdict) (stop : Option Reason) → AllByRecursion (IsTold (Some at)) fetches
     → AllByRecursion (IsTold (Some at)) told → Judged (files_of command) told verdict → AreSure before.shelf told → EndsBy command before after fetches stop → ending_status (ending_by stop) ≢ status.Read
-read_by at command before after fetches told verdict None one two judged sure ends = λ same. cc
 read_by at command before after fetches told verdict (Some (AtFile name)) one two judged sure ends = λ same. sure_judged at before.shelf name (files_of command) fetches told verdict one two sure ends.stopped judged
-read_by at command before after fetches told verdict (Some AtOutput) one two judged sure ends = λ same. cc
-read_by at command before after fetches told verdict (Some (AtInput name fault)) one two judged sure ends = λ same. cc
-read_by at command before after fetches told verdict (Some (AtRoom element)) one two judged sure ends = λ same. cc
-read_by at command before after fetches told verdict (Some AtMemory) one two judged sure ends = λ same. cc
+read_by at command before after fetches told verdict stop one two judged sure ends = λ same. cc
 
 pub read_run : (words : List (List ℕ)) (before after : Outside) (ended : Status) → IsRun words before after ended → NeverUnread words before ended
 read_run words before after ended run = λ verdict is sure same.
@@ -291,10 +287,7 @@ read_run words before after ended run = λ verdict is sure same.
 -- no stop of a command has the status of a refused word
 stops_apart : (reason : Reason) → status_of reason ≡ status.Words → ⊥
 stops_apart (AtFile name) same = cc
-stops_apart AtOutput same = cc
-stops_apart (AtInput name fault) same = cc
-stops_apart (AtRoom element) same = cc
-stops_apart AtMemory same = cc
+stops_apart reason same = cc
 
 -- the status says Words exactly where the words are no command
 no_command_by : (words : List (List ℕ)) (before after : Outside) (fetches : List Fetched) (ending : Ending) → Ends words before after fetches ending → ending_status ending ≡ status.Words → IsNoCommand words

@@ -1,6 +1,7 @@
 -- What a command line of each command asks for, as its job: which word is which file, and which option which number.
 use Rattle.std.proofs.Common.{◌≡◌, ◌∷◌, [], Some, ap, codes, false, true, refl, ◌∙◌}
 use Rattle.std.specs.Fmt.{digits}
+use Rattle.ant_asm.specs.Source.{ReadSource}
 use Rattle.ant_base.specs.Layout.{◌+++◌}
 use Rattle.ant_base.specs.Number.{decimal_value}
 use Rattle.cell_world.specs.Cell.{rock}
@@ -20,7 +21,7 @@ use Rattle.command_words.specs.declared.table.CommandKind.TheVariants.{Advance, 
 use Rattle.command_words.proofs.WorkedLines.{words_of}
 use Rattle.ant_commands.specs.Files.FileKind.{LabelledFile, SaveFile}
 use Rattle.ant_commands.specs.Job.{files_of}
-use Rattle.ant_commands.specs.Outputs.{ReadGame, ReadSource, advance_output, source_text, told_minds}
+use Rattle.ant_commands.specs.Outputs.{ReadGame, advance_output, source_text, told_minds}
 use Rattle.ant_commands.specs.Setups.{told_of}
 use Rattle.ant_commands.specs.Jobs.{advance_job, asm_job, brain_job, cup_job, events_job, gen_job, help_job, job_of, minimise_job, profile_job, resume_job, run_job, same_job, save_job, show_job, trace_job, version_job, view_job, workload_job}
 
@@ -131,7 +132,7 @@ pub advance_told : advance_output 3 saved ≡
 unfolding advance_output
 advance_told = ap save_text row_advanced ∙ later_text
 
-pub trace_asked : job_of (asked_in Trace (words_of (codes "trace w r b 8 --rest 1 --corpse 2 --surround 6 --from 3 --rounds 5 --seed 7"))) ≡ trace_job (codes "w") (codes "r") (codes "b") 8 (record { seed = 7; rounds = 5; from = 3; surround = 6; corpse = 2; rest = 1 })
+pub trace_asked : job_of (asked_in Trace (words_of (codes "trace w r b 8 --rest 1 --corpse 2 --surround 6 --from 3 --rounds 5 --seed 7"))) ≡ trace_job (codes "w") (codes "r") (codes "b") 8 (record { told = record { seed = 7; rounds = 5; surround = 6; corpse = 2; rest = 1 }; from = 3 })
 unfolding is_among rest_after is_file_name is_dumps dumps_of decimal_value
 trace_asked = refl
 

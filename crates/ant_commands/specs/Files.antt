@@ -1,9 +1,8 @@
 -- The files of a command, and what is accepted of them.
 use Rattle.std.specs.Prelude.{◌≡◌, ℕ, Bool, true, false, List, [], ◌∷◌, ◌++◌, map, Ok, Err, ◌⊎◌}
 use Rattle.ant_asm.specs.Answers.{IsAssembledText}
-use Rattle.ant_asm.specs.Labels.{AreLabelsOf, LabelState}
 use Rattle.ant_asm.specs.Places.{Address}
-use Rattle.ant_asm.specs.StateLines.{AreStateLinesOf, StateLine}
+use Rattle.ant_asm.specs.Source.{IsSourceOf, ReadSource}
 use Rattle.ant_base.specs.Fetched.{Fetched}
 use Rattle.ant_base.specs.declared.shelf.FetchFault.TheVariants as answer
 use Rattle.brain_read.specs.declared.instr.Instr.{Instr}
@@ -41,7 +40,7 @@ pub data FileContent : Type 0 where
   -- of a labelled program: its brain, and the address of each of the brain's instructions
   LabelledContent : (brain : List Instr) → (places : List Address) → FileContent
   -- or its labels, each with the state to which it leads, and the line of each state
-  SourceContent : (labels : List LabelState) → (lines : List StateLine) → FileContent
+  SourceContent : ReadSource → FileContent
   SaveContent : SavedValue → FileContent
 
 -- bytes are read as this content in a file of this kind
@@ -50,7 +49,7 @@ Reads WorldFile bytes (WorldContent grid) = OpensAs bytes grid
 Reads BrainFile bytes (BrainContent list) = IsBrainText bytes list
 Reads BreakFile bytes (BreakContent items) = IsBreakText bytes items
 Reads (LabelledFile false) bytes (LabelledContent brain places) = IsAssembledText bytes brain places
-Reads (LabelledFile true) bytes (SourceContent labels lines) = AreLabelsOf bytes labels × AreStateLinesOf bytes lines
+Reads (LabelledFile true) bytes (SourceContent source) = IsSourceOf bytes source
 Reads (SaveFile rounds) bytes (SaveContent saved) = IsSaveWithin rounds bytes saved
 Reads kind bytes content = ⊥
 

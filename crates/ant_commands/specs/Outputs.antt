@@ -1,5 +1,6 @@
 -- What each command reads and writes: one equation a command.
-use Rattle.std.specs.Prelude.{◌≡◌, ℕ, ◌≤◌, Bool, true, false, List, [], ◌∷◌, ◌++◌, length, map, slice_index_or, codes, decimal, Option, if◌then◌else◌}
+use Rattle.std.specs.Prelude.{◌≡◌, ℕ, ◌≤◌, Bool, true, false, List, [], ◌∷◌, ◌++◌, length, map, nat_eq, slice_index_or, codes, decimal, Option, if◌then◌else◌}
+use Rattle.std.specs.List.{list_any}
 use Rattle.ant_base.specs.Layout.{◌+++◌}
 use Rattle.ant_trace.specs.Trace.{trace_text}
 use Rattle.ant_turn.specs.Minds.{Minds, contest_minds}
@@ -9,9 +10,10 @@ use Rattle.brain_minimise.specs.Minimised.{IsMinimised}
 use Rattle.brain_minimise.specs.Text.{minimised_text, states_text}
 use Rattle.brain_read.specs.declared.instr.Instr.{Instr}
 use Rattle.brain_read.specs.Canonical.{brain_text}
-use Rattle.ant_asm.specs.Labels.{LabelState, labels_text}
+use Rattle.ant_asm.specs.Labels.{labels_text}
 use Rattle.ant_asm.specs.Places.{Address}
-use Rattle.ant_asm.specs.StateLines.{StateLine, state_lines_text}
+use Rattle.ant_asm.specs.Source.{ReadSource}
+use Rattle.ant_asm.specs.StateLines.{state_lines_text}
 use Rattle.brain_same.specs.Difference.{IsComparison}
 use Rattle.brain_same.specs.Text.{comparison_text, way_text}
 use Rattle.brain_same.specs.Way.{IsWayComparison}
@@ -32,7 +34,6 @@ use Rattle.command_words.specs.Slots.DumpChoice.{NoDump, EveryDump, ChosenDumps}
 use Rattle.game_tellings.specs.Events.{events_text}
 use Rattle.game_tellings.specs.Profile.{profile_text}
 use Rattle.match_run.specs.Counts.{totals_of, whole_text}
-use Rattle.match_run.specs.Dumps.{has_round}
 use Rattle.match_run.specs.Run.{world_after}
 use Rattle.match_save.specs.Advanced.{advanced}
 use Rattle.match_save.specs.Resumed.{resumed_text}
@@ -106,11 +107,6 @@ pub record ReadProgram : Type 0 where
   pub brain : List Instr
   pub places : List Address
 
--- of where its labels and states stand
-pub record ReadSource : Type 0 where
-  pub labels : List LabelState
-  pub lines : List StateLine
-
 -- the contents of no file, of one, and of several
 abbrev pub no_contents : Unit {0} → List FileContent
 no_contents nothing = []
@@ -128,7 +124,7 @@ abbrev pub program_contents : ReadProgram → List FileContent
 program_contents program = LabelledContent program.brain program.places ∷ []
 
 abbrev pub source_contents : ReadSource → List FileContent
-source_contents source = SourceContent source.labels source.lines ∷ []
+source_contents source = SourceContent source ∷ []
 
 abbrev pub save_contents : SavedValue → List FileContent
 save_contents saved = SaveContent saved ∷ []
@@ -163,17 +159,13 @@ show_output seed grid = seed_text seed +++ dump_text (world_of grid) 0
 abbrev pub chosen_rounds : DumpChoice → ℕ → Bool
 chosen_rounds NoDump round = false
 chosen_rounds EveryDump round = true
-chosen_rounds (ChosenDumps numbers) round = has_round numbers round
+chosen_rounds (ChosenDumps numbers) round = list_any (λ number. nat_eq number round) numbers
 
 -- the numbers of the rules that the words of a game name
 abbrev pub sheet_named : RunSetup → Sheet
 sheet_named setup = record { surround = setup.surround; corpse = setup.corpse; rest = setup.rest }
 
--- the numbers of the rules that the words of a trace name
-abbrev pub traced_sheet : TraceSetup → Sheet
-traced_sheet setup = record { surround = setup.surround; corpse = setup.corpse; rest = setup.rest }
-
--- the numbers of the rules that the words of `events` or `profile` name
+-- the numbers of the rules that the words of `events`, `profile` or `trace` name
 abbrev pub told_sheet : ToldSetup → Sheet
 told_sheet setup = record { surround = setup.surround; corpse = setup.corpse; rest = setup.rest }
 
@@ -198,14 +190,13 @@ advance_output rounds saved = save_text (advanced saved rounds)
 unfoldable pub resume_output : ResumeSetup → SavedValue → List ℕ
 resume_output setup saved = resumed_text saved setup.rounds (chosen_rounds setup.dumps) setup.stats
 
--- the output of `trace`: the line of the seed, and the lines of one ant in the rounds from the first that is told to the last
-unfoldable pub trace_output : ℕ → TraceSetup → ReadGame → List ℕ
-trace_output id setup game =
-    trace_text (record { red = game.red; black = game.black; sheet = traced_sheet setup }) setup.seed (world_of game.world) setup.rounds id setup.from
-
--- both brains of a game of which events or a profile are told, and the numbers of its rules
+-- both brains of such a game, and the numbers of its rules
 abbrev pub told_minds : ToldSetup → ReadGame → Minds
 told_minds setup game = record { red = game.red; black = game.black; sheet = told_sheet setup }
+
+-- the output of `trace`: the line of the seed, and the lines of one ant in the rounds from the first that is told to the last
+unfoldable pub trace_output : ℕ → TraceSetup → ReadGame → List ℕ
+trace_output id setup game = trace_text (told_minds setup.told game) setup.told.seed (world_of game.world) setup.told.rounds id setup.from
 
 -- the output of `events`: the line of the seed, and the lines of the dead and of the score, turn after turn
 unfoldable pub events_output : ToldSetup → ReadGame → List ℕ

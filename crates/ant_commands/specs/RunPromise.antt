@@ -1,8 +1,8 @@
 -- The promise of one `run` without `--stats`, to be read from the top down: its words, its files, and what each exit status says (this project's
 -- own). The law `run_promise` says that each run of the program keeps it. `IsRunTo` is what the call that `main` makes ensures. The rules of the
 -- game, the texts of a world and of a brain, and what a shelf and a sink tell are definitions of other crates.
-use Rattle.std.specs.Prelude.{◌≡◌, ◌≢◌, ◌⊎◌, ℕ, ◌≤◌, true, false, List, [], ◌∷◌, ◌++◌, map, Some, Result, Ok, Err, codes}
-use Rattle.std.specs.List.{AllByRecursion, AllZip, Contains}
+use Rattle.std.specs.Prelude.{◌≡◌, ◌≢◌, ◌⊎◌, ℕ, ◌≤◌, true, false, List, [], ◌∷◌, map, flat_map, ◌==◌, Some, Result, Ok, Err, codes}
+use Rattle.std.specs.List.{AllByRecursion, AllZip, Contains, slice_split}
 use Rattle.ant_base.specs.Faults.{Rose}
 use Rattle.ant_base.specs.Fetched.{Fetched}
 use Rattle.ant_base.specs.Layout.{◌+++◌}
@@ -11,12 +11,13 @@ use Rattle.ant_base.specs.Shelf.{FetchesEach}
 use Rattle.ant_base.specs.Sink.{NothingWaits, PushedAll, PushedFront, SinkState}
 use Rattle.ant_base.specs.declared.shelf.FetchFault.{FetchFault}
 use Rattle.ant_base.specs.declared.shelf.FetchFault.TheVariants.{Failed, TooLong}
-use Rattle.ant_turn.specs.Sheet.{Sheet, contest}
+use Rattle.ant_turn.specs.Minds.{Minds}
+use Rattle.ant_turn.specs.Sheet.{Sheet}
 use Rattle.brain_read.specs.declared.instr.Instr.{Instr}
 use Rattle.brain_read.specs.Grammar.{IsBrainText}
 use Rattle.cell_world.specs.Grid.{Grid, world_of}
 use Rattle.command_words.specs.Command.{PlainAsked, IsCommand}
-use Rattle.command_words.specs.Slots.{AllDiffer, DumpChoice, is_file_name, pieces_of}
+use Rattle.command_words.specs.Slots.{AllDiffer, DumpChoice, is_file_name}
 use Rattle.command_words.specs.Slots.DumpChoice.{NoDump, EveryDump, ChosenDumps}
 use Rattle.command_words.specs.declared.table.CommandKind.TheVariants.{Run}
 use Rattle.command_words.specs.declared.table.Choice.TheVariants.{Stats}
@@ -24,62 +25,19 @@ use Rattle.match_run.specs.Play.{PushedProperPrefix}
 use Rattle.match_run.specs.Run.{run_text}
 use Rattle.world_read.specs.Opened.{OpensAs}
 use Rattle.ant_commands.specs.Headline.{NamesTheWord}
-use Rattle.ant_commands.specs.Outputs.{ReadGame, chosen_rounds}
+use Rattle.ant_commands.specs.Outputs.{chosen_rounds}
 use Rattle.ant_commands.specs.Outside.{Outside}
 use Rattle.ant_commands.specs.Run.{IsNoCommand, IsRunTo}
-
--- an option of a `run`, with what it says
-pub data RunOption : Type 0 where
-  Seed : ℕ → RunOption
-  Rounds : ℕ → RunOption
-  Dump : DumpChoice → RunOption
-  Workers : ℕ → RunOption
-  Window : ℕ → RunOption
-  Surround : ℕ → RunOption
-  Corpse : ℕ → RunOption
-  Rest : ℕ → RunOption
-  Far : RunOption
-
--- the word that names an option
-abbrev pub name_of : RunOption → List ℕ
-name_of (Seed number) = codes "--seed"
-name_of (Rounds number) = codes "--rounds"
-name_of (Dump dumps) = codes "--dump"
-name_of (Workers number) = codes "--workers"
-name_of (Window number) = codes "--window"
-name_of (Surround number) = codes "--surround"
-name_of (Corpse number) = codes "--corpse"
-name_of (Rest number) = codes "--rest"
-name_of Far = codes "--far"
 
 -- a word is 1 to 10 decimal digits of a number that is neither below the least nor above the greatest
 abbrev pub IsNumber : ℕ → ℕ → ℕ → List ℕ → Type 0
 IsNumber least greatest number word = (decimal_value word ≡ Some number) × (least ≤ number) × (number ≤ greatest)
 
--- a word chooses the rounds that are dumped: `none`, `all`, or their numbers with one comma between them
+-- a word chooses the rounds that are dumped: `none`, `all`, or their numbers with one comma between them, which is the byte 44
 abbrev pub IsDumps : DumpChoice → List ℕ → Type 0
 IsDumps NoDump word = word ≡ codes "none"
 IsDumps EveryDump word = word ≡ codes "all"
-IsDumps (ChosenDumps rounds) word = AllZip (IsNumber 0 1000000) rounds (pieces_of word)
-
--- what stands behind an option's name: one word, and nothing behind `--far`
-abbrev pub IsValue : RunOption → List (List ℕ) → Type 0
-IsValue (Seed number) (word ∷ []) = IsNumber 0 4294967295 number word
-IsValue (Rounds number) (word ∷ []) = IsNumber 0 1000000 number word
-IsValue (Dump dumps) (word ∷ []) = IsDumps dumps word
-IsValue (Workers number) (word ∷ []) = IsNumber 1 16 number word
-IsValue (Window number) (word ∷ []) = IsNumber 1 16384 number word
-IsValue (Surround number) (word ∷ []) = IsNumber 4 6 number word
-IsValue (Corpse number) (word ∷ []) = IsNumber 0 9 number word
-IsValue (Rest number) (word ∷ []) = IsNumber 0 255 number word
-IsValue Far [] = Unit {0}
-IsValue option words = ⊥
-
--- the words are those of the options, one after another
-abbrev pub AreOptions : List RunOption → List (List ℕ) → Type 0
-AreOptions [] words = words ≡ []
-AreOptions (option ∷ options) words =
-    (value : List (List ℕ)) × (more : List (List ℕ)) × (words ≡ name_of option ∷ (value ++ more)) × IsValue option value × AreOptions options more
+IsDumps (ChosenDumps rounds) word = AllZip (IsNumber 0 1000000) rounds (slice_split (λ byte. byte == 44) word)
 
 -- what the options say of the game: the seed, how many rounds are played, which are dumped, and the numbers of the rules
 pub record GameSetup : Type 0 where
@@ -88,32 +46,33 @@ pub record GameSetup : Type 0 where
   pub dumps : DumpChoice
   pub sheet : Sheet
 
--- what an option changes; how many workers there are, how far they look ahead and `--far` change nothing
-abbrev pub with_option : RunOption → GameSetup → GameSetup
-with_option (Seed number) setup = record setup { seed = number }
-with_option (Rounds number) setup = record setup { rounds = number }
-with_option (Dump dumps) setup = record setup { dumps = dumps }
-with_option (Surround number) setup = record setup { sheet = record setup.sheet { surround = number } }
-with_option (Corpse number) setup = record setup { sheet = record setup.sheet { corpse = number } }
-with_option (Rest number) setup = record setup { sheet = record setup.sheet { rest = number } }
-with_option option setup = setup
+-- an option: its name, the words behind it, and what it makes of a setup; how many workers there are, how far they look ahead and `--far` change nothing
+pub data IsOption (setup : GameSetup) : List ℕ → List (List ℕ) → GameSetup → Type 0 where
+  Seed : (n : ℕ) (word : List ℕ) → IsNumber 0 4294967295 n word → IsOption setup (codes "--seed") (word ∷ []) (record setup { seed = n })
+  Rounds : (n : ℕ) (word : List ℕ) → IsNumber 0 1000000 n word → IsOption setup (codes "--rounds") (word ∷ []) (record setup { rounds = n })
+  Dump : (dumps : DumpChoice) (word : List ℕ) → IsDumps dumps word → IsOption setup (codes "--dump") (word ∷ []) (record setup { dumps = dumps })
+  Workers : (n : ℕ) (word : List ℕ) → IsNumber 1 16 n word → IsOption setup (codes "--workers") (word ∷ []) setup
+  Window : (n : ℕ) (word : List ℕ) → IsNumber 1 16384 n word → IsOption setup (codes "--window") (word ∷ []) setup
+  Surround : (n : ℕ) (word : List ℕ) → IsNumber 4 6 n word → IsOption setup (codes "--surround") (word ∷ []) (record setup { sheet = record setup.sheet { surround = n } })
+  Corpse : (n : ℕ) (word : List ℕ) → IsNumber 0 9 n word → IsOption setup (codes "--corpse") (word ∷ []) (record setup { sheet = record setup.sheet { corpse = n } })
+  Rest : (n : ℕ) (word : List ℕ) → IsNumber 0 255 n word → IsOption setup (codes "--rest") (word ∷ []) (record setup { sheet = record setup.sheet { rest = n } })
+  Far : IsOption setup (codes "--far") [] setup
 
--- what options say; where none says otherwise, nothing is dumped and the rules are the contest's. The seed and the rounds are always said
-abbrev pub setup_said : List RunOption → GameSetup
-setup_said [] = record { seed = 0; rounds = 0; dumps = NoDump; sheet = contest }
-setup_said (option ∷ options) = with_option option (setup_said options)
+-- options, each a name and the words behind it, say this; where none says otherwise nothing is dumped and the rules are the contest's. The seed and
+-- the rounds are always said
+abbrev pub AreOptions : List (List ℕ × List (List ℕ)) → GameSetup → Type 0
+AreOptions [] setup = setup ≡ record { seed = 0; rounds = 0; dumps = NoDump; sheet = record { surround = 5; corpse = 3; rest = 14 } }
+AreOptions (option ∷ options) setup = (rest : GameSetup) × IsOption rest option.0 option.1 setup × AreOptions options rest
 
 -- the words are `run`, the names of three files, and options in any order, each at most once, the seed and the rounds among them
 pub record IsRunOf (words : List (List ℕ)) (world red black : List ℕ) (setup : GameSetup) : Type 0 where
-  pub options : List RunOption
-  pub behind : List (List ℕ)
-  pub whole : words ≡ codes "run" ∷ world ∷ red ∷ black ∷ behind
+  pub options : List (List ℕ × List (List ℕ))
+  pub whole : words ≡ codes "run" ∷ world ∷ red ∷ black ∷ flat_map (λ option. option.0 ∷ option.1) options
   pub names : AllByRecursion (λ name. is_file_name name ≡ true) (world ∷ red ∷ black ∷ [])
-  pub spelled : AreOptions options behind
-  pub once : AllDiffer (map name_of options)
-  pub seeded : Contains (map name_of options) (codes "--seed")
-  pub limited : Contains (map name_of options) (codes "--rounds")
-  pub said : setup ≡ setup_said options
+  pub said : AreOptions options setup
+  pub once : AllDiffer (map (λ option. option.0) options)
+  pub seeded : Contains (map (λ option. option.0) options) (codes "--seed")
+  pub limited : Contains (map (λ option. option.0) options) (codes "--rounds")
 
 -- a fetch: the name that was asked for, and what was answered
 abbrev pub fetch : List ℕ → Result (List ℕ) FetchFault → Fetched
@@ -136,21 +95,19 @@ StopsAt IsSuch world red black before after =
     × FetchesEach before.shelf after.shelf (fetch world (Ok first) ∷ fetch red (Ok second) ∷ fetch black answer ∷ [])
     × IsWorld first × IsBrain second × IsSuch IsBrain black answer)
 
--- the text of the game: the line of the seed, the dumps of the chosen rounds, and the score
-abbrev pub game_text : GameSetup → ReadGame → List ℕ
-game_text setup game = run_text (record { red = game.red; black = game.black; sheet = setup.sheet }) setup.seed setup.rounds (chosen_rounds setup.dumps) (world_of game.world)
-
 -- the three files were fetched, in this order and no other; they are a world and two brains, and of the text of their game so much was written
 pub record Plays (IsWritten : SinkState → SinkState → List ℕ → Type 0) (world red black : List ℕ) (setup : GameSetup) (before after : Outside) : Type 0 where
   pub first : List ℕ
   pub second : List ℕ
   pub third : List ℕ
   pub fetched : FetchesEach before.shelf after.shelf (fetch world (Ok first) ∷ fetch red (Ok second) ∷ fetch black (Ok third) ∷ [])
-  pub game : ReadGame
-  pub is_world : OpensAs first game.world
-  pub is_red : IsBrainText second game.red
-  pub is_black : IsBrainText third game.black
-  pub written : IsWritten before.out after.out (game_text setup game)
+  pub grid : Grid
+  pub minds : Minds
+  pub is_world : OpensAs first grid
+  pub is_red : IsBrainText second minds.red
+  pub is_black : IsBrainText third minds.black
+  pub rules : minds.sheet ≡ setup.sheet
+  pub written : IsWritten before.out after.out (run_text minds setup.seed setup.rounds (chosen_rounds setup.dumps) (world_of grid))
 
 -- the errors got this line, or a prefix of it where they failed
 abbrev pub HasLine : SinkState → SinkState → List ℕ → Type 0

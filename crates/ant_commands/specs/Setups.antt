@@ -4,8 +4,10 @@ use Rattle.command_words.specs.Command.{AreWithin, PlainAsked}
 use Rattle.command_words.specs.Limits.{IsWithin}
 use Rattle.command_words.specs.Slots.{AreNames, DumpChoice}
 use Rattle.command_words.specs.Slots.DumpChoice.{NoDump}
+use Rattle.command_words.specs.Table.{HasFile, HasNumberOption}
 use Rattle.command_words.specs.Words.{plain_dumps}
 use Rattle.command_words.specs.declared.limits.NumberKind.TheVariants.{SeedNumber, RoundCount, WorkerCount, WindowSize, FoeCount, CorpseFood, RestRounds, SideLength, ElementCount}
+use Rattle.command_words.specs.declared.table.CommandKind.{CommandKind}
 use Rattle.command_words.specs.declared.table.Choice.TheVariants.{Seed, Rounds, Workers, Window, Surround, Corpse, Rest, Stats, Far, Width, Height, Rocks, Blobs, From}
 use Rattle.command_words.specs.declared.table.NameList.TheVariants.{Worlds, Brains}
 use Rattle.ant_commands.specs.declared.commands.setups.GenShape.{GenShape}
@@ -34,15 +36,6 @@ pub record ResumeSetup : Type 0 where
   pub workers : ℕ
   pub stats : Bool
 
--- what the options of `trace` say
-pub record TraceSetup : Type 0 where
-  pub seed : ℕ
-  pub rounds : ℕ
-  pub from : ℕ
-  pub surround : ℕ
-  pub corpse : ℕ
-  pub rest : ℕ
-
 -- what the options of `events` say, and those of `profile`
 pub record ToldSetup : Type 0 where
   pub seed : ℕ
@@ -50,6 +43,11 @@ pub record ToldSetup : Type 0 where
   pub surround : ℕ
   pub corpse : ℕ
   pub rest : ℕ
+
+-- those of `trace` say the first round too
+pub record TraceSetup : Type 0 where
+  pub told : ToldSetup
+  pub from : ℕ
 
 -- what a command line of `run` says
 abbrev pub setup_of : PlainAsked → RunSetup
@@ -70,19 +68,9 @@ setup_of asked = record {
 abbrev pub save_setup_of : PlainAsked → RunSetup
 save_setup_of asked = record (setup_of asked) { dumps = NoDump; stats = false; far = false }
 
--- what one of `resume`, of `trace`, of `events` or `profile`, or of `gen` says
+-- what one of `resume`, of `events` or `profile`, of `trace`, or of `gen` says
 abbrev pub resume_of : PlainAsked → ResumeSetup
 resume_of asked = record { rounds = asked.option Rounds; dumps = asked.dumps; workers = asked.option Workers; stats = asked.has Stats }
-
-abbrev pub trace_of : PlainAsked → TraceSetup
-trace_of asked = record {
-  seed = asked.option Seed;
-  rounds = asked.option Rounds;
-  from = asked.option From;
-  surround = asked.option Surround;
-  corpse = asked.option Corpse;
-  rest = asked.option Rest;
-}
 
 abbrev pub told_of : PlainAsked → ToldSetup
 told_of asked = record {
@@ -92,6 +80,9 @@ told_of asked = record {
   corpse = asked.option Corpse;
   rest = asked.option Rest;
 }
+
+abbrev pub trace_of : PlainAsked → TraceSetup
+trace_of asked = record { told = told_of asked; from = asked.option From }
 
 abbrev pub shape_of : PlainAsked → GenShape
 shape_of asked = record { width = asked.option Width; height = asked.option Height; rocks = asked.option Rocks; blobs = asked.option Blobs }
@@ -128,15 +119,6 @@ pub record CupWithin (worlds brains : List (List ℕ)) (seed rounds workers : �
   pub rounds_within : IsWithin RoundCount rounds
   pub workers_within : IsWithin WorkerCount workers
 
--- the numbers of a game whose ant is followed are within the limits
-pub record TraceWithin (setup : TraceSetup) : Type 0 where
-  pub seed : IsWithin SeedNumber setup.seed
-  pub rounds : IsWithin RoundCount setup.rounds
-  pub from : IsWithin RoundCount setup.from
-  pub surround : IsWithin FoeCount setup.surround
-  pub corpse : IsWithin CorpseFood setup.corpse
-  pub rest : IsWithin RestRounds setup.rest
-
 -- the numbers of a game of which events or a profile are told are within the limits
 pub record ToldWithin (setup : ToldSetup) : Type 0 where
   pub seed : IsWithin SeedNumber setup.seed
@@ -144,6 +126,16 @@ pub record ToldWithin (setup : ToldSetup) : Type 0 where
   pub surround : IsWithin FoeCount setup.surround
   pub corpse : IsWithin CorpseFood setup.corpse
   pub rest : IsWithin RestRounds setup.rest
+
+-- and the first round that is told of one whose ant is followed
+pub record TraceWithin (setup : TraceSetup) : Type 0 where
+  pub told : ToldWithin setup.told
+  pub from : IsWithin RoundCount setup.from
+
+-- a command has the files of a game, its seed, its rounds and the numbers of its rules
+abbrev pub TellsGame : CommandKind → Type 0
+TellsGame kind = HasFile kind 0 × HasFile kind 1 × HasFile kind 2 × HasNumberOption kind Seed × HasNumberOption kind Rounds
+    × HasNumberOption kind Surround × HasNumberOption kind Corpse × HasNumberOption kind Rest
 
 -- the options of `run` that were read
 abbrev pub plain_setup : RunOptions → RunSetup
@@ -164,17 +156,6 @@ plain_setup options = record {
 abbrev pub plain_resume : ResumeOptions → ResumeSetup
 plain_resume options = record { rounds = options.rounds; dumps = plain_dumps options.dumps; workers = options.workers; stats = options.stats }
 
--- the options of `trace` that were read
-abbrev pub plain_trace : TracedGame → TraceSetup
-plain_trace game = record {
-  seed = game.seed;
-  rounds = game.rounds;
-  from = game.from;
-  surround = game.surround;
-  corpse = game.corpse;
-  rest = game.rest;
-}
-
 -- the options of `events` or `profile` that were read
 abbrev pub plain_told : ToldGame → ToldSetup
 plain_told game = record {
@@ -184,3 +165,7 @@ plain_told game = record {
   corpse = game.corpse;
   rest = game.rest;
 }
+
+-- the options of `trace` that were read
+abbrev pub plain_trace : TracedGame → TraceSetup
+plain_trace game = record { told = plain_told game.told; from = game.from }

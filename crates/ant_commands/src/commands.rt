@@ -129,8 +129,8 @@ pub fn dispatch<
             shelf,
             out,
         ),
-        CommandKind::Events => events(alloc, ToldGame::of_events(asked), shelf, out),
-        CommandKind::Profile => profile(alloc, ToldGame::of_profile(asked), shelf, out),
+        CommandKind::Events => events(alloc, ToldGame::of(asked), shelf, out),
+        CommandKind::Profile => profile(alloc, ToldGame::of(asked), shelf, out),
         CommandKind::Advance => advance(
             alloc,
             crew,

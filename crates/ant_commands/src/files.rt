@@ -8,13 +8,13 @@ ghost use Rattle.ant_commands.specs.Inner.Reading.{FetchesFile, IsNamed, ReadsFi
 ghost use Rattle.ant_commands.specs.FaultLines.{reason_of};
 
 use crate::stop::{CommandStop, FileFault};
-use ant_asm::Assembled;
+use ant_asm::{Assembled, Source};
 use ant_base::{FetchFault, Shelf};
 use brain_read::Brain;
 use break_view::{BreakFault, Breaks, read_breaks};
 use cell_world::World;
 use std::alloc::Global;
-use text_fault::{Source, TextFault, TextStop, open_brain, open_program, open_source, open_world};
+use text_fault::{TextFault, TextStop, open_brain, open_program, open_source, open_world};
 
 /// What the bytes of a file can be read as.
 pub trait FileText: Sized {
@@ -97,7 +97,7 @@ impl FileText for Source {
 
     ghost kind = { LabelledFile true };
 
-    ghost content = { λ source. SourceContent source.labels source.lines };
+    ghost content = { SourceContent };
 
     #[tactic(auto, using(crate::proofs::Texts::text_read))]
     fn read<'w>(alloc: Global, name: &'w str, bytes: &[u8]) -> Result<Source, CommandStop<'w>> {

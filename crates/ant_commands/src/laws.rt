@@ -24,6 +24,7 @@ pub fn refused_words()
 
 /// Contents that have each file of a command judge them in exactly one way: all are accepted, as the same contents, or one and the same file is the first
 /// that is refused, with the same fault.
+#[tactic(auto, using(crate::proofs::Judgements::judges_once))]
 pub fn contents_judge_once()
     ensures { JudgesOnce }
 {}
@@ -31,31 +32,37 @@ pub fn contents_judge_once()
 /// Each output of a command whose numbers and names are within the limits, and whose files were accepted, ends in LF; or it has no bytes, and
 /// is that of `asm` with `--labels` and without `--lines`, whose program has no label. So where the output can tell, nothing of it waits to be flushed once all of it
 /// was written.
+#[tactic(auto, using(crate::proofs::JobTexts::texts_end_in_lf))]
 pub fn texts_end_in_lf()
     ensures { TextsEndInLf }
 {}
 
 /// A command has at most one output for the same contents of its files.
+#[tactic(auto, using(crate::proofs::JobTexts::one_text))]
 pub fn one_text()
     ensures { OneText }
 {}
 
 /// Two command lines that differ in the number of workers alone, or in `--far`, read the same files and have the same output.
+#[tactic(auto, using(crate::proofs::WorkerLaws::workers_change_nothing))]
 pub fn workers_change_nothing()
     ensures { WorkersChangeNothing }
 {}
 
 /// Without its counts the output of a `run` is the same for every number of turns that a window has.
+#[tactic(auto, using(crate::proofs::JobTexts::windows_change_counts_alone))]
 pub fn windows_change_counts_alone()
     ensures { WindowsChangeCountsAlone }
 {}
 
 /// A command within the limits whose files were accepted, and whose elements have room, has an output.
+#[tactic(auto, using(crate::proofs::JobTexts::has_output))]
 pub fn has_output()
     ensures { HasOutput }
 {}
 
 /// What `asm` writes, minimised, still plays the labelled game of the program: state for address, and with the same score.
+#[tactic(auto, using(crate::proofs::LabelledGames::assembled_and_minimised))]
 pub fn assembled_and_minimised()
     ensures { AssembledAndMinimised }
 {}
@@ -64,6 +71,7 @@ pub fn assembled_and_minimised()
 /// the rest of that text: before it stand the line of the seed and the chosen dumps up to the saved round. The seed, the window, the sheet, the
 /// dumps and the counts are those of `run`; each of the three may have any number of workers. So it is after whichever round the game is saved. What `advance` prints of
 /// such a save is what `save` prints of the game after the later round, byte for byte, so all of this holds of it too.
+#[tactic(auto, using(crate::proofs::ResumedGames::saves_are_resumed))]
 pub fn saves_are_resumed()
     ensures { SavesAreResumed }
 {}

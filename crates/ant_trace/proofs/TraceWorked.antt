@@ -10,7 +10,7 @@ use Rattle.cell_world.specs.Grid.{cell_in, world_of}
 use Rattle.cell_world.specs.Opening.{floor, opening}
 use Rattle.cell_world.specs.World.{World, place_in, put_cell}
 use Rattle.cell_world.proofs.OpeningWorked.{one_hill}
-use Rattle.dump_print.specs.Content.{clear_text, content_text, standing_ant_text}
+use Rattle.dump_print.specs.Content.{content_text, standing_ant_text}
 use Rattle.dump_print.specs.Texts.{cell_line, seed_text}
 use Rattle.hex_geometry.specs.Position.{same_pos}
 use Rattle.match_run.specs.Run.{world_after}
@@ -27,13 +27,13 @@ two_rounds_told : trace_text flipping 12345 start 2 0 0 ≡
     +++ codes "round 0: cell (1, 1): red hill; red ant of id 0, dir 0, food 0, state 0, resting 0\n"
     +++ codes "round 1: cell (1, 1): red hill; red ant of id 0, dir 0, food 0, state 1, resting 0\n"
     +++ codes "round 2: cell (1, 1): red hill; red ant of id 0, dir 0, food 0, state 2, resting 0\n"
-unfolding trace_text way_text told_line numbered digits seed_text cell_line content_text clear_text standing_ant_text world_after after_round after_turn turn place_in cell_in opening floor rock put_cell same_pos drawn random_at state_at
+unfolding trace_text way_text told_line numbered digits seed_text cell_line content_text standing_ant_text world_after after_round after_turn turn place_in cell_in opening floor rock put_cell same_pos drawn random_at state_at
 two_rounds_told = refl
 
 -- the last round alone, and a first one above it
 last_round_told : (trace_text flipping 12345 start 2 0 2 ≡ codes "random seed: 12345\nround 2: cell (1, 1): red hill; red ant of id 0, dir 0, food 0, state 2, resting 0\n")
     × (trace_text flipping 12345 start 2 0 3 ≡ codes "random seed: 12345\n")
-unfolding trace_text way_text told_line numbered digits seed_text cell_line content_text clear_text standing_ant_text world_after after_round after_turn turn place_in cell_in opening floor rock put_cell same_pos drawn random_at state_at
+unfolding trace_text way_text told_line numbered digits seed_text cell_line content_text standing_ant_text world_after after_round after_turn turn place_in cell_in opening floor rock put_cell same_pos drawn random_at state_at
 last_round_told = (refl, refl)
 
 -- ids are counted from 0: there is none of id 1, whatever the first round
@@ -48,7 +48,7 @@ gone it = start
 
 -- its death is told once, and nothing behind it
 death_told : way_text gone 0 17 4 ≡ codes "round 17: cell (1, 1): red hill; red ant of id 0, dir 0, food 0, state 0, resting 0\nround 18: dead\n"
-unfolding way_text told_line numbered digits cell_line content_text clear_text standing_ant_text place_in cell_in opening floor rock
+unfolding way_text told_line numbered digits cell_line content_text standing_ant_text place_in cell_in opening floor rock
 death_told = refl
 
 -- where it is dead at the first round that is told, that is the one line

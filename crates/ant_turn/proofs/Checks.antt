@@ -1,11 +1,13 @@
 -- What one check does, and what checks of a list of places do.
-use Rattle.std.proofs.Common.{inl, inr, Option, ◌≡◌, ℕ, true, false, nat_le, List, [], ◌∷◌, ◌++◌, Some, None, refl, ap, ◌∙◌}
+use Rattle.std.proofs.Common.{inl, inr, Option, ◌≡◌, ℕ, true, false, nat_le, List, [], ◌∷◌, ◌++◌, Some, None, refl, ap, ◌∙◌, append_assoc, append-nil}
 use Rattle.std.proofs.lemmas.Bool.{cases_Bool, cond-true, cond-false, false≢true}
 use Rattle.hex_geometry.specs.declared.position.Pos.{Pos}
 use Rattle.hex_geometry.specs.Neighbourhood.{neighbours_of}
 use Rattle.cell_world.specs.declared.ant.Ant.{Ant}
+use Rattle.cell_world.specs.declared.ant.PlacedAnt.{PlacedAnt}
 use Rattle.cell_world.specs.Colour.{foe_of}
 use Rattle.cell_world.specs.World.{Cells, put_cell}
+use Rattle.ant_turn.specs.Deaths.{dead_all, dead_around, dead_at, placed, with_noted}
 use Rattle.ant_turn.specs.Kills.{ants_among, has_foes, is_surrounded, after_kill, check_at, check_all, id_of, killed_at, killed_all, places_around, check_around_at, killed_around}
 use Rattle.ant_turn.specs.Sheet.{Sheet}
 
@@ -39,6 +41,15 @@ check_at-struck sheet cells p struck = cond-true _ _ _ struck
 pub killed_at-struck : (sheet : Sheet) (cells : Cells) (p : Pos) (ant : Ant) → (cells p).ant ≡ Some ant → is_surrounded sheet cells p ≡ true → killed_at sheet cells p ≡ ant.id ∷ []
 unfolding killed_at
 killed_at-struck sheet cells p ant is struck = cond-true _ _ _ struck ∙ ap id_of is
+
+-- so it is with the ants themselves
+pub dead_at-spared : (sheet : Sheet) (cells : Cells) (p : Pos) → is_surrounded sheet cells p ≡ false → dead_at sheet cells p ≡ []
+unfolding dead_at
+dead_at-spared sheet cells p spared = cond-false _ _ _ spared
+
+pub dead_at-struck : (sheet : Sheet) (cells : Cells) (p : Pos) (ant : Ant) → (cells p).ant ≡ Some ant → is_surrounded sheet cells p ≡ true → dead_at sheet cells p ≡ Some (record { place = p; ant = ant }) ∷ []
+unfolding dead_at
+dead_at-struck sheet cells p ant is struck = cond-true _ _ _ struck ∙ ap (placed p) is
 
 -- the ant of a cell that is surrounded
 pub record Struck (sheet : Sheet) (cells : Cells) (p : Pos) : Type 0 where
@@ -77,3 +88,17 @@ check_around_at-first sheet cells p = refl
 pub killed_around-first : (sheet : Sheet) (cells : Cells) (p : Pos) → killed_around sheet cells p ≡ killed_at sheet cells p ++ killed_all sheet (check_at sheet cells p) (neighbours_of p)
 unfolding places_around
 killed_around-first sheet cells p = refl
+
+pub dead_around-first : (sheet : Sheet) (cells : Cells) (p : Pos) → dead_around sheet cells p ≡ dead_at sheet cells p ++ dead_all sheet (check_at sheet cells p) (neighbours_of p)
+unfolding places_around
+dead_around-first sheet cells p = refl
+
+-- some and then more are noted
+pub noted-more : (noted : Option (List (Option PlacedAnt))) (dead more : List (Option PlacedAnt)) → with_noted more (with_noted dead noted) ≡ with_noted (dead ++ more) noted
+noted-more None dead more = refl
+noted-more (Some all) dead more = ap Some (append_assoc all dead more)
+
+-- none are noted
+pub noted-none : (noted : Option (List (Option PlacedAnt))) → with_noted [] noted ≡ noted
+noted-none None = refl
+noted-none (Some all) = ap Some (append-nil all)

@@ -7,6 +7,7 @@ use Rattle.cell_world.specs.declared.ant.Ant.{Ant}
 use Rattle.cell_world.specs.World.{World, place_in}
 use Rattle.brain_read.specs.declared.instr.Instr.{Instr}
 use Rattle.brain_read.specs.declared.instr.Instr.TheVariants.{Drop}
+use Rattle.ant_turn.specs.Deaths.{dead_after, dead_by, dead_from, dead_in, dead_with}
 use Rattle.ant_turn.specs.Minds.{Minds, mind_of}
 use Rattle.ant_turn.specs.Turn.{idle, ant_becomes, execute, acts, turn_at, turn_from, turn}
 
@@ -33,3 +34,16 @@ turn-executes minds seed w place t p ant instruction found is ready at =
     turn-acts minds seed w place t p ant found is
     ∙ ap (λ n. acts n minds seed w.cells place p ant) ready
     ∙ ap (execute minds.sheet seed w.cells place p ant) (get_or_from_slice_get (mind_of minds ant.colour) ant.state instruction (Drop 0) at)
+
+-- who is killed in the turn of an id is killed by the ant at its place
+pub dead_in-acts : (minds : Minds) (w : World) (t : ℕ) (p : Pos) (ant : Ant) → place_in w t ≡ Some p → (w.cells p).ant ≡ Some ant → dead_in minds w t ≡ dead_after ant.resting minds w.cells p ant
+unfolding dead_in
+dead_in-acts minds w t p ant found is = ap (dead_with minds w.cells) found ∙ ap (dead_from minds w.cells p) is
+
+-- by one that doesn't rest whom its instruction kills
+pub dead_in-executes : (minds : Minds) (w : World) (t : ℕ) (p : Pos) (ant : Ant) (instruction : Instr) → place_in w t ≡ Some p → (w.cells p).ant ≡ Some ant → ant.resting ≡ 0 → slice_get (mind_of minds ant.colour) ant.state ≡ Some instruction →
+    dead_in minds w t ≡ dead_by minds.sheet w.cells p ant instruction
+dead_in-executes minds w t p ant instruction found is ready at =
+    dead_in-acts minds w t p ant found is
+    ∙ ap (λ n. dead_after n minds w.cells p ant) ready
+    ∙ ap (dead_by minds.sheet w.cells p ant) (get_or_from_slice_get (mind_of minds ant.colour) ant.state instruction (Drop 0) at)

@@ -1,4 +1,5 @@
 pub mod Conditions
+pub mod Deaths
 pub mod FoodLaws
 pub mod HillLaws
 pub mod InPlace

@@ -1,7 +1,7 @@
 -- Turns and rounds, one after another (the task's kinetics).
 use Rattle.std.specs.Prelude.{ℕ, zero, suc, ◌+◌}
 use Rattle.cell_world.specs.Cell.{one_if}
-use Rattle.cell_world.specs.World.{World, with_cells}
+use Rattle.cell_world.specs.World.{World}
 use Rattle.ant_turn.specs.Minds.{Minds}
 use Rattle.ant_turn.specs.Turn.{Outcome, turn}
 
@@ -12,7 +12,7 @@ pub record Moment : Type 0 where
 
 -- the moment that an outcome makes of one
 abbrev pub moment_after : Moment → Outcome → Moment
-moment_after m outcome = record { world = with_cells m.world outcome.cells; place = m.place + one_if outcome.drew }
+moment_after m outcome = record { world = record m.world { cells = outcome.cells }; place = m.place + one_if outcome.drew }
 
 -- the moment after the turn of id t
 unfoldable pub after_turn : Minds → ℕ → Moment → ℕ → Moment

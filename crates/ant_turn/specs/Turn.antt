@@ -1,5 +1,5 @@
 -- One turn (the task's kinetics).
-use Rattle.std.specs.Prelude.{ℕ, zero, suc, ◌+◌, ◌-◌, Bool, true, false, if◌then◌else◌, ◌||◌, ◌==◌, List, [], slice_index_or, Option, Some, None}
+use Rattle.std.specs.Prelude.{ℕ, zero, suc, ◌+◌, ◌-◌, Bool, true, false, if◌then◌else◌, ◌||◌, ◌==◌, List, [], slice_index_or, Option, Some, None, is_some}
 use Rattle.hex_geometry.specs.declared.position.Pos.{Pos}
 use Rattle.hex_geometry.specs.Direction.{turned_by}
 use Rattle.hex_geometry.specs.Neighbourhood.{adjacent_pos, sensed_pos}
@@ -14,7 +14,7 @@ use Rattle.brain_read.specs.declared.instr.Instr.{Instr}
 use Rattle.brain_read.specs.declared.instr.Instr.TheVariants.{Sense, Mark, Unmark, PickUp, Drop, Turn, Move, Flip}
 use Rattle.ant_random.specs.Stream.{drawn}
 use Rattle.ant_turn.specs.Conditions.{meets}
-use Rattle.ant_turn.specs.Kills.{check_around_at, killed_around}
+use Rattle.ant_turn.specs.Kills.{check_all, killed_all, places_around}
 use Rattle.ant_turn.specs.Minds.{Minds, mind_of}
 use Rattle.ant_turn.specs.Sheet.{Sheet}
 
@@ -44,12 +44,11 @@ unmarked cell Black i = record cell { black = without_mark cell.black i }
 
 -- whether there is an ant
 abbrev pub has_ant : Option Ant → Bool
-has_ant None = false
-has_ant (Some ant) = true
+has_ant ant = is_some ant
 
 -- whether no ant can move onto a cell: it is rocky or holds an ant
 abbrev pub is_blocked : Cell → Bool
-is_blocked cell = cell.rocky || has_ant cell.ant
+is_blocked cell = cell.rocky || is_some cell.ant
 
 -- the cell without its ant
 abbrev pub left_by_ant : Cell → Cell
@@ -61,7 +60,8 @@ arrived sheet ant next = record ant { state = next; resting = sheet.rest }
 
 -- the cells when the ant of p has moved to q
 unfoldable pub stepped : Sheet → Cells → Pos → Ant → Pos → ℕ → Cells
-stepped sheet cells p ant q next = put_cell (put_cell cells p (left_by_ant (cells p))) q (with_ant (cells q) (arrived sheet ant next))
+stepped sheet cells p ant q next =
+    put_cell (put_cell cells p (record (cells p) { ant = None })) q (record (cells q) { ant = Some (record ant { state = next; resting = sheet.rest }) })
 
 -- nothing happens
 abbrev pub idle : Cells → Outcome
@@ -73,25 +73,25 @@ cell_becomes cells p cell = record { cells = put_cell cells p cell; drew = false
 
 -- the ant of p becomes this one, and nothing else happens
 abbrev pub ant_becomes : Cells → Pos → Ant → Outcome
-ant_becomes cells p ant = cell_becomes cells p (with_ant (cells p) ant)
+ant_becomes cells p ant = cell_becomes cells p (record (cells p) { ant = Some ant })
 
 -- the surrounded ants are checked around q, and nothing else happens
 abbrev pub checked : Sheet → Cells → Pos → Outcome
-checked sheet cells q = record { cells = check_around_at sheet cells q; drew = false; killed = killed_around sheet cells q }
+checked sheet cells q = record { cells = check_all sheet cells (places_around q); drew = false; killed = killed_all sheet cells (places_around q) }
 
 -- what the ant of p does by its instruction, on these cells and at this place of a seed's stream
 abbrev pub execute : Sheet → ℕ → Cells → ℕ → Pos → Ant → Instr → Outcome
 -- the state becomes met if the sensed cell meets the condition for the ant's colour, else unmet
 execute sheet seed cells place p ant (Sense sight met unmet condition) =
-    ant_becomes cells p (in_state ant (if meets (cells (sensed_pos p ant.facing sight)) condition ant.colour then met else unmet))
+    ant_becomes cells p (record ant { state = if meets (cells (sensed_pos p ant.facing sight)) condition ant.colour then met else unmet })
 -- the own colour's marker i is set on its own cell; the state becomes next
-execute sheet seed cells place p ant (Mark i next) = cell_becomes cells p (with_ant (marked (cells p) ant.colour i) (in_state ant next))
+execute sheet seed cells place p ant (Mark i next) = cell_becomes cells p (record (marked (cells p) ant.colour i) { ant = Some (record ant { state = next }) })
 -- the own colour's marker i is cleared on its own cell; the state becomes next
-execute sheet seed cells place p ant (Unmark i next) = cell_becomes cells p (with_ant (unmarked (cells p) ant.colour i) (in_state ant next))
+execute sheet seed cells place p ant (Unmark i next) = cell_becomes cells p (record (unmarked (cells p) ant.colour i) { ant = Some (record ant { state = next }) })
 -- if the ant carries food or its cell has none, the state becomes unmet; else one particle goes from the cell to the ant and the state becomes met
 execute sheet seed cells place p ant (PickUp met unmet) =
     cell_becomes cells p (if ant.laden || (cells p).food == 0
-    then with_ant (cells p) (in_state ant unmet)
+    then record (cells p) { ant = Some (record ant { state = unmet }) }
     else record (cells p) { food = (cells p).food - 1; ant = Some (record ant { laden = true; state = met }) })
 -- if the ant carries food, the cell's food rises by one and the ant carries none; the state becomes next in any case
 execute sheet seed cells place p ant (Drop next) =
@@ -102,12 +102,12 @@ execute sheet seed cells place p ant (Turn side next) = ant_becomes cells p (rec
 -- and the surrounded ants are checked around the new cell
 execute sheet seed cells place p ant (Move met unmet) =
     let ahead = adjacent_pos p ant.facing in
-    if is_blocked (cells ahead)
-    then ant_becomes cells p (in_state ant unmet)
+    if (cells ahead).rocky || is_some (cells ahead).ant
+    then ant_becomes cells p (record ant { state = unmet })
     else checked sheet (stepped sheet cells p ant ahead met) ahead
 -- one random number below the bound is drawn; the state becomes met if it is 0, else unmet
 execute sheet seed cells place p ant (Flip bound met unmet) =
-    record (ant_becomes cells p (in_state ant (if drawn seed place bound == 0 then met else unmet))) { drew = true }
+    record (ant_becomes cells p (record ant { state = if drawn seed place bound == 0 then met else unmet })) { drew = true }
 
 -- the instruction of a state
 abbrev pub instruction_at : List Instr → ℕ → Instr
@@ -116,7 +116,7 @@ instruction_at mind state = slice_index_or mind state (Drop 0)
 -- the turn of the ant of p: where its resting count is above 0, it falls by one and nothing else happens; else the instruction at
 -- its state in its colour's brain is executed
 abbrev pub acts : ℕ → Minds → ℕ → Cells → ℕ → Pos → Ant → Outcome
-acts zero minds seed cells place p ant = execute minds.sheet seed cells place p ant (instruction_at (mind_of minds ant.colour) ant.state)
+acts zero minds seed cells place p ant = execute minds.sheet seed cells place p ant (slice_index_or (mind_of minds ant.colour) ant.state (Drop 0))
 acts (suc left) minds seed cells place p ant = ant_becomes cells p (record ant { resting = left })
 
 -- the turn at a position that may hold an ant

@@ -7,12 +7,14 @@ ghost use Rattle.cell_world.specs.Limits.{most_weight};
 ghost use Rattle.cell_world.specs.Valid.{Valid};
 ghost use Rattle.cell_world.specs.World.{with_cells};
 ghost use Rattle.arrayvec.specs.ArrayVec.{array_vec_len};
+ghost use Rattle.ant_turn.specs.Deaths.{dead_around, dead_at, with_noted};
 ghost use Rattle.ant_turn.specs.Kills as kill;
 ghost use Rattle.ant_turn.specs.Sheet.{sheet_of};
 
+use crate::notes::{Notes, Unnoted};
 use crate::sheet::Sheet;
 use arrayvec::ArrayVec;
-use cell_world::{Ant, Cell, Ground};
+use cell_world::{Ant, Cell, Ground, PlacedAnt};
 use hex_geometry::{Pos, neighbours};
 
 /// Whether an ant is at `p` and foes of it are on as many of the six neighbours as the sheet asks for, or more (the task's martial arts).
@@ -46,25 +48,54 @@ pub fn check_around<G: Ground>(ground: &mut G, sheet: Sheet, p: Pos) -> ArrayVec
     ensures room { G.room ground.old ≤ G.room ground.new + 7 }
     ensures valid { Valid (G.world ground.new) }
 {
+    kill_around(ground, sheet, p, &mut Unnoted)
+}
+
+// The same checks, whose killed are noted, each where and as it stood when its cell was checked.
+#[inline(always)]
+pub(crate) fn kill_around<G: Ground, N: Notes>(
+    ground: &mut G,
+    sheet: Sheet,
+    p: Pos,
+    notes: &mut N,
+) -> ArrayVec<u32, 7>
+    requires inner { IsInner (G.world ground.old).width (G.world ground.old).height p }
+    requires room { 7 ≤ G.room ground.old }
+    requires notes { 7 ≤ N.room notes.old }
+    ensures world { G.world ground.new ≡ with_cells (G.world ground.old) (kill.check_around_at (sheet_of sheet) (G.world ground.old).cells p) }
+    ensures killed { result.items ≡ kill.killed_around (sheet_of sheet) (G.world ground.old).cells p }
+    ensures noted { N.noted notes.new ≡ with_noted (dead_around (sheet_of sheet) (G.world ground.old).cells p) (N.noted notes.old) }
+    ensures room { G.room ground.old ≤ G.room ground.new + 7 }
+    ensures valid { Valid (G.world ground.new) }
+{
     let mut killed = ArrayVec::new();
-    check(ground, sheet, p, &mut killed);
+    check(ground, sheet, p, &mut killed, notes);
     let nearby = neighbours(p);
     for q in nearby {
-        check(ground, sheet, q, &mut killed);
+        check(ground, sheet, q, &mut killed, notes);
     }
     killed
 }
 
-// The check of one cell: where its ant is surrounded, kills it and adds its id. Most checked cells hold no ant, so it is
+// The check of one cell: where its ant is surrounded, kills it and adds it to the killed. Most checked cells hold no ant, so it is
 // part of the loop over rounds and ids, and the count of foes alone is a call.
 #[inline(always)]
-fn check<G: Ground>(ground: &mut G, sheet: Sheet, p: Pos, killed: &mut ArrayVec<u32, 7>)
+fn check<G: Ground, N: Notes>(
+    ground: &mut G,
+    sheet: Sheet,
+    p: Pos,
+    killed: &mut ArrayVec<u32, 7>,
+    notes: &mut N,
+)
     requires inside { IsInside (G.world ground.old).width (G.world ground.old).height p }
     requires room { 1 ≤ G.room ground.old }
     requires free { array_vec_len killed.old < 7 }
+    requires notes { 1 ≤ N.room notes.old }
     ensures world { G.world ground.new ≡ with_cells (G.world ground.old) (kill.check_at (sheet_of sheet) (G.world ground.old).cells p) }
     ensures killed { killed.new.items ≡ killed.old.items ++ kill.killed_at (sheet_of sheet) (G.world ground.old).cells p }
+    ensures noted { N.noted notes.new ≡ with_noted (dead_at (sheet_of sheet) (G.world ground.old).cells p) (N.noted notes.old) }
     ensures count { array_vec_len killed.new ≤ array_vec_len killed.old + 1 }
+    ensures noted_room { N.room notes.old ≤ N.room notes.new + 1 }
     ensures room { G.room ground.old ≤ G.room ground.new + 1 }
     ensures valid { Valid (G.world ground.new) }
 {
@@ -75,6 +106,7 @@ fn check<G: Ground>(ground: &mut G, sheet: Sheet, p: Pos, killed: &mut ArrayVec<
     if has_foes(ground, p, &ant, sheet.surround()) {
         ground.set(p, after_kill(sheet, &cell, &ant));
         killed.push(ant.id);
+        notes.note(PlacedAnt { place: p, ant });
     }
 }
 

@@ -5,6 +5,7 @@ ghost use Rattle.cell_world.specs.Valid.{Valid, CanThink};
 ghost use Rattle.cell_world.specs.Inner.Replaces.{Replaces};
 ghost use Rattle.cell_world.specs.World.{put, with_cells};
 ghost use Rattle.brain_read.specs.Soundness.{IsSound};
+ghost use Rattle.ant_turn.specs.Deaths.{dead_around, dead_by, dead_in, with_noted};
 ghost use Rattle.ant_turn.specs.Listed.{IsUp};
 ghost use Rattle.ant_turn.specs.Minds.{Fits, minds_of};
 ghost use Rattle.ant_turn.specs.Sheet.{sheet_of};
@@ -14,7 +15,8 @@ ghost use Rattle.ant_turn.specs.Turn as turn;
 
 use crate::brains::Brains;
 use crate::conditions::meets;
-use crate::kills::check_around;
+use crate::kills::kill_around;
+use crate::notes::{Notes, Unnoted};
 use crate::own_cell::{
     ant_after_branch, ant_after_rest, ant_after_turn, cell_after_arrival, cell_after_drop,
     cell_after_mark, cell_after_pick_up, cell_after_unmark, cell_without_ant, in_state, is_blocked,
@@ -82,22 +84,25 @@ fn think<G: Ground>(ground: &mut G, p: Pos, ant: Ant) -> Deed
 
 // The ant steps from its place onto `q`, and surrounded ants are checked around `q`.
 #[inline(always)]
-fn step<G: Ground>(
+fn step<G: Ground, N: Notes>(
     ground: &mut G,
     sheet: Sheet,
     standing: PlacedAnt,
     q: Pos,
     there: &Cell,
     next: u16,
+    notes: &mut N,
 ) -> Deed
     requires stands { StandsAt (G.world ground.old) standing.place ((G.world ground.old).cells standing.place) standing.ant }
     requires there { there.now ≡ (G.world ground.old).cells q }
     requires free { turn.is_blocked there.now ≡ false }
     requires room { 9 ≤ G.room ground.old }
+    requires notes { 7 ≤ N.room notes.old }
     ensures world { G.world ground.new ≡ with_cells (G.world ground.old)
         (turn.checked (sheet_of sheet) (turn.stepped (sheet_of sheet) (G.world ground.old).cells standing.place standing.ant q next) q).cells }
     ensures drew { result.drew ≡ false }
     ensures killed { result.killed.items ≡ (turn.checked (sheet_of sheet) (turn.stepped (sheet_of sheet) (G.world ground.old).cells standing.place standing.ant q next) q).killed }
+    ensures noted { N.noted notes.new ≡ with_noted (dead_around (sheet_of sheet) (turn.stepped (sheet_of sheet) (G.world ground.old).cells standing.place standing.ant q next) q) (N.noted notes.old) }
     ensures room { G.room ground.old ≤ G.room ground.new + 9 }
     ensures valid { Valid (G.world ground.new) }
 {
@@ -107,19 +112,28 @@ fn step<G: Ground>(
     ground.set(q, cell_after_arrival(sheet, there, ant, next));
     Deed {
         drew: false,
-        killed: check_around(ground, sheet, q),
+        killed: kill_around(ground, sheet, q, notes),
     }
 }
 
 // A Move of the ant.
 #[inline(always)]
-fn go<G: Ground>(ground: &mut G, sheet: Sheet, standing: PlacedAnt, met: u16, unmet: u16) -> Deed
+fn go<G: Ground, N: Notes>(
+    ground: &mut G,
+    sheet: Sheet,
+    standing: PlacedAnt,
+    met: u16,
+    unmet: u16,
+    notes: &mut N,
+) -> Deed
     requires stands { StandsAt (G.world ground.old) standing.place ((G.world ground.old).cells standing.place) standing.ant }
     requires room { 9 ≤ G.room ground.old }
+    requires notes { 7 ≤ N.room notes.old }
     ensures world { (seed place : ℕ) → G.world ground.new ≡ with_cells (G.world ground.old)
         (turn.execute (sheet_of sheet) seed (G.world ground.old).cells place standing.place standing.ant (Instr.Move met unmet)).cells }
     ensures drew { result.drew ≡ false }
     ensures killed { (seed place : ℕ) → result.killed.items ≡ (turn.execute (sheet_of sheet) seed (G.world ground.old).cells place standing.place standing.ant (Instr.Move met unmet)).killed }
+    ensures noted { N.noted notes.new ≡ with_noted (dead_by (sheet_of sheet) (G.world ground.old).cells standing.place standing.ant (Instr.Move met unmet)) (N.noted notes.old) }
     ensures room { G.room ground.old ≤ G.room ground.new + 9 }
     ensures valid { Valid (G.world ground.new) }
 {
@@ -129,7 +143,7 @@ fn go<G: Ground>(ground: &mut G, sheet: Sheet, standing: PlacedAnt, met: u16, un
     if is_blocked(&there) {
         return think(ground, p, in_state(ant, unmet));
     }
-    step(ground, sheet, standing, ahead, &there, met)
+    step(ground, sheet, standing, ahead, &there, met, notes)
 }
 
 // Executes the instruction of the ant.
@@ -184,7 +198,7 @@ fn execute<G: Ground>(
             stay(ground, p, cell_after_drop(&cell, ant, next))
         }
         Instr::Turn { side, next } => think(ground, p, ant_after_turn(ant, side, next)),
-        Instr::Move { yes, no } => go(ground, sheet, standing, yes, no),
+        Instr::Move { yes, no } => go(ground, sheet, standing, yes, no, &mut Unnoted),
         Instr::Flip { bound, yes, no } => {
             let number = stream.draw(bound);
             Deed {
@@ -195,9 +209,10 @@ fn execute<G: Ground>(
     }
 }
 
-// Takes the turn of an ant that doesn't rest: executes the instruction of its state.
+/// Takes the turn of an ant that stands there and doesn't rest: executes the instruction of its state. What `take_acting_turn` does, for an ant that
+/// was found (the task's kinetics).
 #[inline(always)]
-fn act<G: Ground>(
+pub fn take_found_turn<G: Ground>(
     ground: &mut G,
     brains: Brains<'_>,
     stream: &mut Stream,
@@ -214,6 +229,34 @@ fn act<G: Ground>(
     let ant = standing.ant;
     let instruction = brains.of(ant.colour).instruction(ant.state);
     execute(ground, brains.sheet, stream, standing, instruction)
+}
+
+/// The same, and notes each ant that is killed, in the order of the checks, where and as it stood when it was killed: the one whose turn it is has
+/// stepped ahead (the task's martial arts). There is room for 7.
+#[inline(always)]
+pub fn take_told_turn<G: Ground, N: Notes>(
+    ground: &mut G,
+    brains: Brains<'_>,
+    stream: &mut Stream,
+    standing: PlacedAnt,
+    notes: &mut N,
+) -> Deed
+    requires valid { Valid (G.world ground.old) }
+    requires fit { Fits (G.world ground.old) (minds_of brains) }
+    requires here { ((G.world ground.old).cells standing.place).ant ≡ Some standing.ant }
+    requires up { standing.ant.resting ≡ 0 }
+    requires place { stream.old.place + 1 < 2 ^ 63 }
+    requires room { 9 ≤ G.room ground.old }
+    requires notes { 7 ≤ N.room notes.old }
+    ensures taken { TakesTurn (minds_of brains.entry) standing.ant.id (G.world ground.old) (G.world ground.new) (G.room ground.old) (G.room ground.new) stream.old stream.new result }
+    ensures noted { N.noted notes.new ≡ with_noted (dead_in (minds_of brains.entry) (G.world ground.old) standing.ant.id) (N.noted notes.old) }
+{
+    let ant = standing.ant;
+    let instruction = brains.of(ant.colour).instruction(ant.state);
+    match *instruction {
+        Instr::Move { yes, no } => go(ground, brains.sheet, standing, yes, no, notes),
+        _ => take_found_turn(ground, brains, stream, standing),
+    }
 }
 
 /// Takes the turn of the ant of this id: nothing where it is dead; one turn less to rest where it rests; else the instruction at its
@@ -240,7 +283,7 @@ pub fn take_turn<G: Ground>(
     if standing.ant.resting > 0 {
         return think(ground, standing.place, ant_after_rest(standing.ant));
     }
-    act(ground, brains, stream, standing)
+    take_found_turn(ground, brains, stream, standing)
 }
 
 /// Takes the turn of the ant of this id, which doesn't rest, if it is alive: what `take_turn` does, without asking whether it rests (the
@@ -260,7 +303,7 @@ pub fn take_acting_turn<G: Ground>(
     ensures { TakesTurn (minds_of brains.entry) id (G.world ground.old) (G.world ground.new) (G.room ground.old) (G.room ground.new) stream.old stream.new result }
 {
     match ground.ant_of(id) {
-        Some(standing) => act(ground, brains, stream, standing),
+        Some(standing) => take_found_turn(ground, brains, stream, standing),
         None => idle(),
     }
 }

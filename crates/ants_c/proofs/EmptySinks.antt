@@ -156,13 +156,8 @@ run_alone words shelf new_shelf out new_out err new_err ended run =
 -- a run whose output never fails doesn't end so
 
 never_cut : (words : List (List ℕ)) (before after : Outside) (fetches : List Fetched) (ending : Ending) → before.out.faults ≡ 0 → after.out.faults ≡ 0 → Ends words before after fetches ending → ending_status ending ≡ status.Write → ⊥
-never_cut words before after fetches Done none still ends same = cc
-never_cut words before after fetches (RefusedWord word) none still ends same = cc
-never_cut words before after fetches (Stopped (AtFile name)) none still ends same = cc
 never_cut words before after fetches (Stopped AtOutput) none still ends same = let rose = ends.stopped.cut.rose in omega (arith, rose, none, still)
-never_cut words before after fetches (Stopped (AtInput name fault)) none still ends same = cc
-never_cut words before after fetches (Stopped (AtRoom element)) none still ends same = cc
-never_cut words before after fetches (Stopped AtMemory) none still ends same = cc
+never_cut words before after fetches ending none still ends same = cc
 
 pub never_failed : (words : List (List ℕ)) (before after : Outside) (ended : Status) → before.out.faults ≡ 0 → after.out.faults ≡ 0 → IsRun words before after ended → ended ≡ status.Write → ⊥
 never_failed words before after ended none still run same = never_cut words before after run.fetches run.ending none still run.ends (sym run.is_status ∙ same)

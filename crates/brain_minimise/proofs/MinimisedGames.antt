@@ -83,9 +83,9 @@ module _ (minds : Minds) (side : Colour) (brain : List Instr) (numbers : Numbers
       ∙ after_rounds-renumbered numbers side minds brain seed (start_of start) r carries start-numbered
 
 -- so is that with the minimised brain
-pub game-minimised : (minds : Minds) (side : Colour) (brain : List Instr) (numbers : List (Option ℕ)) (seed width height : ℕ) (kinds : List Kind) (r : ℕ) → IsMinimised (mind_of minds side) brain numbers →
+pub game_minimised : (minds : Minds) (side : Colour) (brain : List Instr) (numbers : List (Option ℕ)) (seed width height : ℕ) (kinds : List Kind) (r : ℕ) → IsMinimised (mind_of minds side) brain numbers →
     game (with_mind minds side brain) seed width height kinds r ≡ renumbered_moment (new_number numbers) side (game minds seed width height kinds r)
-game-minimised minds side brain numbers seed width height kinds r minimised =
+game_minimised minds side brain numbers seed width height kinds r minimised =
     game-carried minds side brain (new_number numbers) seed width height kinds r (Carries-minimised (mind_of minds side) brain numbers minimised) (zero-number (mind_of minds side) brain numbers minimised)
 
 -- renumbering changes no score
@@ -94,10 +94,10 @@ unfolding score_of hill_food_of
 score_of-renumbered numbers side w = refl
 
 -- the scores are equal
-pub score-minimised : (minds : Minds) (side : Colour) (brain : List Instr) (numbers : List (Option ℕ)) (seed width height : ℕ) (kinds : List Kind) (r : ℕ) → IsMinimised (mind_of minds side) brain numbers →
+pub score_minimised : (minds : Minds) (side : Colour) (brain : List Instr) (numbers : List (Option ℕ)) (seed width height : ℕ) (kinds : List Kind) (r : ℕ) → IsMinimised (mind_of minds side) brain numbers →
     score_of (game (with_mind minds side brain) seed width height kinds r).world ≡ score_of (game minds seed width height kinds r).world
-score-minimised minds side brain numbers seed width height kinds r minimised =
-    ap (λ (m : Moment). score_of m.world) (game-minimised minds side brain numbers seed width height kinds r minimised)
+score_minimised minds side brain numbers seed width height kinds r minimised =
+    ap (λ (m : Moment). score_of m.world) (game_minimised minds side brain numbers seed width height kinds r minimised)
     ∙ score_of-renumbered (new_number numbers) side (game minds seed width height kinds r).world
 
 -- the other side's states stay
@@ -122,8 +122,8 @@ DiffersInStates-renumbered numbers side w = record {
 }
 
 -- so what a dump shows differs in them alone
-pub dump-minimised : (minds : Minds) (side : Colour) (brain : List Instr) (numbers : List (Option ℕ)) (seed width height : ℕ) (kinds : List Kind) (r : ℕ) → IsMinimised (mind_of minds side) brain numbers →
+pub dump_minimised : (minds : Minds) (side : Colour) (brain : List Instr) (numbers : List (Option ℕ)) (seed width height : ℕ) (kinds : List Kind) (r : ℕ) → IsMinimised (mind_of minds side) brain numbers →
     DiffersInStates side (game minds seed width height kinds r).world (game (with_mind minds side brain) seed width height kinds r).world
-dump-minimised minds side brain numbers seed width height kinds r minimised =
-    subst (λ (m : Moment). DiffersInStates side (game minds seed width height kinds r).world m.world) (sym (game-minimised minds side brain numbers seed width height kinds r minimised))
+dump_minimised minds side brain numbers seed width height kinds r minimised =
+    subst (λ (m : Moment). DiffersInStates side (game minds seed width height kinds r).world m.world) (sym (game_minimised minds side brain numbers seed width height kinds r minimised))
     (DiffersInStates-renumbered (new_number numbers) side (game minds seed width height kinds r).world)

@@ -9,6 +9,7 @@ use Rattle.hex_geometry.specs.declared.neighbourhood.Sight.{Sight}
 use Rattle.hex_geometry.specs.declared.neighbourhood.Sight.TheVariants.{Here, Ahead, LeftAhead, RightAhead}
 use Rattle.ant_base.specs.Lines.{lines_of}
 use Rattle.ant_base.proofs.Linewise.{lines_of-line}
+use Rattle.line_tokens.proofs.LinesByTokens.{by_tokens}
 use Rattle.line_tokens.proofs.PrintedLemmas.{IsToken, IsPrinted, body, line_text-body, tokens_of-body, no_lf-body, spelled_again, token}
 use Rattle.brain_read.specs.declared.instr.Cond.{Cond}
 use Rattle.brain_read.specs.declared.instr.Cond.TheVariants.{Friend, Foe, FriendWithFood, FoeWithFood, Food, Rock, Marker, FoeMarker, Home, FoeHome}
@@ -139,7 +140,8 @@ unfolding brain_text
 text_again list b bounds =
     let all = all_printed (length list) list b.sound bounds in
     record {
-      lines = subst (λ lines. AreLines (token_lines 1 lines) list) (sym (lines_of-text (length list) list b.few all)) (are_lines_again (length list) 1 list b.few all);
+      lines = by_tokens InstrLine (flat_map instruction_text list) list
+          (subst (λ lines. AreLines (token_lines 1 lines) list) (sym (lines_of-text (length list) list b.few all)) (are_lines_again (length list) 1 list b.few all));
       some = b.some;
       few = b.few;
       states = all_below (length list) list all;

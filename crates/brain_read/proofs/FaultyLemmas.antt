@@ -21,6 +21,7 @@ use Rattle.brain_read.proofs.FirstFaults.{first_of_line, faithful, NamesNoState,
 use Rattle.line_tokens.proofs.LineFaults.{first_line_fault-found, first_line_fault-first}
 use Rattle.line_tokens.proofs.LineLemmas.{fault_of_judged, judged_err, judged_ok, put_before_fault, put_before_ok, kept, lines_again}
 use Rattle.line_tokens.proofs.LineLemmas as generic
+use Rattle.line_tokens.proofs.LinesByTokens.{by_lines, by_tokens}
 
 -- the reading stops at the first line at fault
 lines_faulted : (lines : List TokenLine) → first_line_fault line_fault 0 lines ≡ fault_of_judged (read_lines brain_reader 0 lines)
@@ -130,7 +131,7 @@ module _ (text : List ℕ) where
           let size : length list ≡ length (p ∷ placed) = ap length all.0 ∙ length-map (p ∷ placed) (λ k. k.instruction) in
           let few : 0 + length (p ∷ placed) ≤ most_states = read.few (omega arith) in
           record {
-            lines = subst (AreLines (lines_with_tokens text)) (sym all.0) (are_lines (lines_with_tokens text) (p ∷ placed) read.placed);
+            lines = by_tokens InstrLine text list (subst (AreLines (lines_with_tokens text)) (sym all.0) (are_lines (lines_with_tokens text) (p ∷ placed) read.placed));
             some = omega arith;
             few = omega arith;
             states = subst (λ n. StatesBelow n list) (sym size) all.1;
@@ -141,11 +142,12 @@ module _ (text : List ℕ) where
   unfolding read_text
   brain_read_again list b =
       let placed = kept brain_reader (lines_with_tokens text) list in
-      let same = instructions_kept (lines_with_tokens text) list b.lines in
+      let lines = by_lines InstrLine text list b.lines in
+      let same = instructions_kept (lines_with_tokens text) list lines in
       let size : length placed ≡ length list = sym (length-map placed (λ k. k.instruction)) ∙ ap length same in
       let some : 1 ≤ length placed = (let one = b.some in omega arith) in
       let below : StatesBelow (length placed) (instructions placed) = subst (StatesBelow (length placed)) (sym same) (subst (λ n. StatesBelow n list) (sym size) b.states) in
-      ap settle_read (lines_again brain_reader InstrLine first_of_line faithful (lines_with_tokens text) 0 list b.lines (let few = b.few in omega arith))
+      ap settle_read (lines_again brain_reader InstrLine first_of_line faithful (lines_with_tokens text) 0 list lines (let few = b.few in omega arith))
       ∙ settle_some placed some ∙ settle_again (length placed) placed below ∙ ap Ok same
 
   -- the fault that is answered is the text's

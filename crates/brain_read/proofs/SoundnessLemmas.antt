@@ -4,8 +4,9 @@ use Rattle.std.specs.List.{AllByRecursion}
 use Rattle.brain_read.specs.declared.instr.Instr.{Instr}
 use Rattle.brain_read.specs.declared.instr.Instr.TheVariants.{Sense, Mark, Unmark, PickUp, Drop, Turn, Move, Flip}
 use Rattle.brain_read.specs.Soundness.{IsSound, IsBrain}
-use Rattle.brain_read.specs.Forms.{IsInRange}
+use Rattle.brain_read.specs.Forms.{InstrLine, IsInRange}
 use Rattle.line_tokens.specs.TokenLines.{TokenLine, lines_with_tokens}
+use Rattle.line_tokens.proofs.LinesByTokens.{by_lines}
 use Rattle.brain_read.specs.Grammar.{AreLines, states_of, StatesBelow, IsBrainText}
 
 -- an instruction in range whose states are below n is sound
@@ -42,5 +43,5 @@ pub brain_of : (text : List ℕ) (list : List Instr) → IsBrainText text list �
 brain_of text list b = record {
   some = b.some;
   few = b.few;
-  sound = λ i instruction at. sound_of (length list) instruction (range_at (lines_with_tokens text) list i instruction b.lines at) (below_at (length list) list i instruction b.states at);
+  sound = λ i instruction at. sound_of (length list) instruction (range_at (lines_with_tokens text) list i instruction (by_lines InstrLine text list b.lines) at) (below_at (length list) list i instruction b.states at);
 }

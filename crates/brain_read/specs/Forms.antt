@@ -1,10 +1,11 @@
 -- The words and the forms of the language; the clauses of the public calls rest on them (the task's neurology).
 use Rattle.std.specs.Prelude.{ℕ, ◌≤◌, ◌<◌, List, [], ◌∷◌, map, codes}
+use Rattle.std.specs.List.{AllZip}
 use Rattle.hex_geometry.specs.declared.direction.Side.{Side}
 use Rattle.hex_geometry.specs.declared.direction.Side.TheVariants.{Left, Right}
 use Rattle.hex_geometry.specs.declared.neighbourhood.Sight.{Sight}
 use Rattle.hex_geometry.specs.declared.neighbourhood.Sight.TheVariants.{Here, Ahead, LeftAhead, RightAhead}
-use Rattle.line_tokens.specs.Fields.{LineField, SpellsAll}
+use Rattle.line_tokens.specs.Fields.{LineField, Spells}
 use Rattle.line_tokens.specs.Fields.LineField.{Word, Number}
 use Rattle.brain_read.specs.declared.instr.Cond.{Cond}
 use Rattle.brain_read.specs.declared.instr.Cond.TheVariants.{Friend, Foe, FriendWithFood, FoeWithFood, Food, Rock, Marker, FoeMarker, Home, FoeHome}
@@ -85,27 +86,27 @@ condition_words = map word_of_condition conditions
 
 -- how a condition is spelled
 abbrev pub fields_of_condition : Cond → List LineField
-fields_of_condition Friend = Word (word_of_condition ConditionWord.Friend) ∷ []
-fields_of_condition Foe = Word (word_of_condition ConditionWord.Foe) ∷ []
-fields_of_condition FriendWithFood = Word (word_of_condition ConditionWord.FriendWithFood) ∷ []
-fields_of_condition FoeWithFood = Word (word_of_condition ConditionWord.FoeWithFood) ∷ []
-fields_of_condition Food = Word (word_of_condition ConditionWord.Food) ∷ []
-fields_of_condition Rock = Word (word_of_condition ConditionWord.Rock) ∷ []
-fields_of_condition (Marker i) = Word (word_of_condition ConditionWord.Marker) ∷ Number i ∷ []
-fields_of_condition FoeMarker = Word (word_of_condition ConditionWord.FoeMarker) ∷ []
-fields_of_condition Home = Word (word_of_condition ConditionWord.Home) ∷ []
-fields_of_condition FoeHome = Word (word_of_condition ConditionWord.FoeHome) ∷ []
+fields_of_condition Friend = Word (codes "Friend") ∷ []
+fields_of_condition Foe = Word (codes "Foe") ∷ []
+fields_of_condition FriendWithFood = Word (codes "FriendWithFood") ∷ []
+fields_of_condition FoeWithFood = Word (codes "FoeWithFood") ∷ []
+fields_of_condition Food = Word (codes "Food") ∷ []
+fields_of_condition Rock = Word (codes "Rock") ∷ []
+fields_of_condition (Marker i) = Word (codes "Marker") ∷ Number i ∷ []
+fields_of_condition FoeMarker = Word (codes "FoeMarker") ∷ []
+fields_of_condition Home = Word (codes "Home") ∷ []
+fields_of_condition FoeHome = Word (codes "FoeHome") ∷ []
 
 -- how an instruction is spelled: the table of forms
 abbrev pub fields_of : Instr → List LineField
-fields_of (Sense sight met unmet condition) = Word (word_of_form Form.Sense) ∷ Word (word_of_sight sight) ∷ Number met ∷ Number unmet ∷ fields_of_condition condition
-fields_of (Mark i next) = Word (word_of_form Form.Mark) ∷ Number i ∷ Number next ∷ []
-fields_of (Unmark i next) = Word (word_of_form Form.Unmark) ∷ Number i ∷ Number next ∷ []
-fields_of (PickUp met unmet) = Word (word_of_form Form.PickUp) ∷ Number met ∷ Number unmet ∷ []
-fields_of (Drop next) = Word (word_of_form Form.Drop) ∷ Number next ∷ []
-fields_of (Turn side next) = Word (word_of_form Form.Turn) ∷ Word (word_of_side side) ∷ Number next ∷ []
-fields_of (Move met unmet) = Word (word_of_form Form.Move) ∷ Number met ∷ Number unmet ∷ []
-fields_of (Flip bound met unmet) = Word (word_of_form Form.Flip) ∷ Number bound ∷ Number met ∷ Number unmet ∷ []
+fields_of (Sense sight met unmet condition) = Word (codes "Sense") ∷ Word (word_of_sight sight) ∷ Number met ∷ Number unmet ∷ fields_of_condition condition
+fields_of (Mark i next) = Word (codes "Mark") ∷ Number i ∷ Number next ∷ []
+fields_of (Unmark i next) = Word (codes "Unmark") ∷ Number i ∷ Number next ∷ []
+fields_of (PickUp met unmet) = Word (codes "PickUp") ∷ Number met ∷ Number unmet ∷ []
+fields_of (Drop next) = Word (codes "Drop") ∷ Number next ∷ []
+fields_of (Turn side next) = Word (codes "Turn") ∷ Word (word_of_side side) ∷ Number next ∷ []
+fields_of (Move met unmet) = Word (codes "Move") ∷ Number met ∷ Number unmet ∷ []
+fields_of (Flip bound met unmet) = Word (codes "Flip") ∷ Number bound ∷ Number met ∷ Number unmet ∷ []
 
 -- the largest bound, the last value of a u32
 abbrev pub most_bound : ℕ
@@ -121,10 +122,10 @@ abbrev pub IsInRange : Instr → Type 0
 IsInRange (Sense sight met unmet condition) = IsSoundCondition condition
 IsInRange (Mark i next) = i < 6
 IsInRange (Unmark i next) = i < 6
-IsInRange (Flip bound met unmet) = (1 ≤ bound) × (bound ≤ most_bound)
+IsInRange (Flip bound met unmet) = (1 ≤ bound) × (bound ≤ 4294967295)
 IsInRange _ = Unit {0}
 
 -- the tokens of a line are those of an instruction
 pub record InstrLine (tokens : List (List ℕ)) (instruction : Instr) : Type 0 where
-  pub spelled : SpellsAll (fields_of instruction) tokens
+  pub spelled : AllZip Spells (fields_of instruction) tokens
   pub in_range : IsInRange instruction

@@ -1,10 +1,11 @@
 -- Which texts are brains (the task's neurology).
-use Rattle.std.specs.Prelude.{ℕ, ◌≤◌, ◌<◌, List, [], ◌∷◌, length}
-use Rattle.std.specs.List.{AllByRecursion}
-use Rattle.line_tokens.specs.TokenLines.{TokenLine, lines_with_tokens, AreLinesOf}
+use Rattle.std.specs.Prelude.{ℕ, ◌≤◌, ◌<◌, List, [], ◌∷◌, length, filter, map}
+use Rattle.std.specs.List.{AllByRecursion, AllZip}
+use Rattle.ant_base.specs.Lines.{lines_of}
+use Rattle.line_tokens.specs.TokenLines.{TokenLine, AreLinesOf}
+use Rattle.line_tokens.specs.Tokens.{has_any, tokens_of}
 use Rattle.brain_read.specs.declared.instr.Instr.{Instr}
 use Rattle.brain_read.specs.declared.instr.Instr.TheVariants.{Sense, Mark, Unmark, PickUp, Drop, Turn, Move, Flip}
-use Rattle.brain_read.specs.Soundness.{most_states}
 use Rattle.brain_read.specs.Forms.{InstrLine}
 
 -- the lines are those of the instructions
@@ -28,7 +29,7 @@ StatesBelow n list = AllByRecursion (λ instruction. AllByRecursion (λ state. s
 
 -- the text is that of the brain
 pub record IsBrainText (text : List ℕ) (brain : List Instr) : Type 0 where
-  pub lines : AreLines (lines_with_tokens text) brain
+  pub lines : AllZip InstrLine (filter has_any (map tokens_of (lines_of text))) brain
   pub some : 1 ≤ length brain
-  pub few : length brain ≤ most_states
-  pub states : StatesBelow (length brain) brain
+  pub few : length brain ≤ 10000
+  pub states : AllByRecursion (λ instruction. AllByRecursion (λ state. state < length brain) (states_of instruction)) brain

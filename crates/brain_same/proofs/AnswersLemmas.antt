@@ -103,20 +103,8 @@ IsNoLater-number answers others low =
 pub next_by-redirected : (f : ℕ → ℕ) (x : Instr) (met : Bool) → next_by (redirected f x) met ≡ option_map f (next_by x met)
 next_by-redirected f (Sense sight taken unmet condition) true = refl
 next_by-redirected f (Sense sight taken unmet condition) false = refl
-next_by-redirected f (Mark i next) true = refl
-next_by-redirected f (Mark i next) false = refl
-next_by-redirected f (Unmark i next) true = refl
-next_by-redirected f (Unmark i next) false = refl
-next_by-redirected f (PickUp taken unmet) true = refl
-next_by-redirected f (PickUp taken unmet) false = refl
-next_by-redirected f (Drop next) true = refl
-next_by-redirected f (Drop next) false = refl
-next_by-redirected f (Turn side next) true = refl
-next_by-redirected f (Turn side next) false = refl
-next_by-redirected f (Move taken unmet) true = refl
-next_by-redirected f (Move taken unmet) false = refl
-next_by-redirected f (Flip bound taken unmet) true = refl
-next_by-redirected f (Flip bound taken unmet) false = refl
+next_by-redirected f x true = refl
+next_by-redirected f x false = refl
 
 -- two options that are both there, or both not
 pub data AreBoth (o p : Option ℕ) : Type 0 where

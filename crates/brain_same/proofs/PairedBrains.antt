@@ -84,20 +84,8 @@ by_answer false o p = p
 next_by-filled_by : (x : Instr) (o p : Option ℕ) (met : Bool) → next_by (filled_by x o p) met ≡ option_map (λ _. unwrap_or (by_answer met o p) 0) (next_by x met)
 next_by-filled_by (Sense sight taken unmet condition) o p true = refl
 next_by-filled_by (Sense sight taken unmet condition) o p false = refl
-next_by-filled_by (Mark i next) o p true = refl
-next_by-filled_by (Mark i next) o p false = refl
-next_by-filled_by (Unmark i next) o p true = refl
-next_by-filled_by (Unmark i next) o p false = refl
-next_by-filled_by (PickUp taken unmet) o p true = refl
-next_by-filled_by (PickUp taken unmet) o p false = refl
-next_by-filled_by (Drop next) o p true = refl
-next_by-filled_by (Drop next) o p false = refl
-next_by-filled_by (Turn side next) o p true = refl
-next_by-filled_by (Turn side next) o p false = refl
-next_by-filled_by (Move taken unmet) o p true = refl
-next_by-filled_by (Move taken unmet) o p false = refl
-next_by-filled_by (Flip bound taken unmet) o p true = refl
-next_by-filled_by (Flip bound taken unmet) o p false = refl
+next_by-filled_by x o p true = refl
+next_by-filled_by x o p false = refl
 
 -- what holds of the successors by each answer holds of all states that it names
 all-next : (P : ℕ → Type 0) (x : Instr) → ((met : Bool) (a : ℕ) → next_by x met ≡ Some a → P a) → AllByRecursion P (states_of x)

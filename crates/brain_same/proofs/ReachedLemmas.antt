@@ -270,14 +270,14 @@ module _ (first second : List Instr) where
   AreSame-ends reached o (NoneDiffers same) is = same
   AreSame-ends reached o (DiffersAt place ways way it are led here difference by) is = absurd (none-some place (sym is))
 
-  pub inside-ends : (reached : List Reached) (o : Option ℕ) (place : ℕ) (it : Reached) → EndsAt first second reached o → o ≡ Some place → IsBrain first → IsBrain second → slice_get reached place ≡ Some it → IsInside first second it.pair
-  inside-ends reached o place it (NoneDiffers same) is sound too there = absurd (none-some place is)
-  inside-ends reached o place it (DiffersAt k ways way that are led here difference by) is sound too there = kept-inside reached (record { ways = ways; are = are }) sound too place it there
+  pub inside_ends : (reached : List Reached) (o : Option ℕ) (place : ℕ) (it : Reached) → EndsAt first second reached o → o ≡ Some place → IsBrain first → IsBrain second → slice_get reached place ≡ Some it → IsInside first second it.pair
+  inside_ends reached o place it (NoneDiffers same) is sound too there = absurd (none-some place is)
+  inside_ends reached o place it (DiffersAt k ways way that are led here difference by) is sound too there = kept-inside reached (record { ways = ways; are = are }) sound too place it there
 
-  pub IsWayComparison-ends : (reached : List Reached) (o : Option ℕ) (place : ℕ) (it : Reached) (steps : List Step) → EndsAt first second reached o → o ≡ Some place → slice_get reached place ≡ Some it → AreStepsTo first second reached place steps →
+  pub IsWayComparison_ends : (reached : List Reached) (o : Option ℕ) (place : ℕ) (it : Reached) (steps : List Step) → EndsAt first second reached o → o ≡ Some place → slice_get reached place ≡ Some it → AreStepsTo first second reached place steps →
       IsWayComparison first second (Different it.pair.answers (found_of first it.pair.first) (found_of second it.pair.second)) steps
-  IsWayComparison-ends reached o place it steps (NoneDiffers same) is there told = absurd (none-some place is)
-  IsWayComparison-ends reached o place it steps (DiffersAt k ways way that are led here difference by) is there told =
+  IsWayComparison_ends reached o place it steps (NoneDiffers same) is there told = absurd (none-some place is)
+  IsWayComparison_ends reached o place it steps (DiffersAt k ways way that are led here difference by) is there told =
       let at : k ≡ place = same_Some k place is in
       let same : that ≡ it = same_Some that it (sym here ∙ ap (slice_get reached) at ∙ there) in
       subst (λ (x : Reached). IsWayComparison first second (Different x.pair.answers (found_of first x.pair.first) (found_of second x.pair.second)) steps) same

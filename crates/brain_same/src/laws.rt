@@ -4,11 +4,13 @@ ghost use Rattle.brain_same.specs.Laws.{HasComparison, HasWay, MinimisedIsSame, 
 
 /// A law: to be the same is an equivalence: each brain is the same as itself, and what is the same as another is so the other way round
 /// and through a third.
+#[tactic(auto, using(crate::proofs::SameLaws::same_is_equivalence))]
 pub fn same_is_equivalence()
     ensures { SameIsEquivalence }
 {}
 
 /// A law: a brain is the same as its minimised one.
+#[tactic(auto, using(crate::proofs::SameLaws::minimised_is_same))]
 pub fn minimised_is_same()
     ensures { MinimisedIsSame }
 {}
@@ -19,26 +21,31 @@ pub fn same_is_not_apart()
 {}
 
 /// A law: two brains come to one comparison: what `compare` promises leaves nothing open.
+#[tactic(auto, using(crate::proofs::SameLaws::one_comparison))]
 pub fn one_comparison()
     ensures { OneComparison }
 {}
 
 /// A law: two brains come to some comparison.
+#[tactic(auto, using(crate::proofs::HasComparison::has_comparison))]
 pub fn has_comparison()
     ensures { HasComparison }
 {}
 
 /// A law: with the way two brains come to the same comparison as without it.
+#[tactic(auto, using(crate::proofs::WayLemmas::way_is_comparison))]
 pub fn way_is_comparison()
     ensures { WayIsComparison }
 {}
 
 /// A law: two brains come to one comparison by one way: what `compare_way` promises leaves nothing open.
+#[tactic(auto, using(crate::proofs::WayLemmas::one_way))]
 pub fn one_way()
     ensures { OneWay }
 {}
 
 /// A law: two brains come to some comparison by some way.
+#[tactic(auto, using(crate::proofs::WayLemmas::has_way))]
 pub fn has_way()
     ensures { HasWay }
 {}
@@ -52,11 +59,13 @@ pub fn way_leads()
 /// A law: by any opening world, other brain, numbers of the rules, seed, side and number of rounds, the game with a brain that is the same
 /// is the same but for the states of that side's ants: the same cells, ants, food and markers, as many random numbers used, and an equal
 /// score (the task's kinetics, number generation and game play).
+#[tactic(auto, using(crate::proofs::SameGames::plays_same))]
 pub fn plays_same()
     ensures { PlaysSame }
 {}
 
 /// A law: so is the game with other brains on both sides, each the same as the one before, but for the states of all ants.
+#[tactic(auto, using(crate::proofs::SameGames::both_play_same))]
 pub fn both_play_same()
     ensures { BothPlaySame }
 {}

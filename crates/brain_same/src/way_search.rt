@@ -138,6 +138,7 @@ fn keep_after(
 }
 
 // The comparison by the pair of a place, and the way there.
+#[tactic(auto, using(crate::proofs::ReachedLemmas::IsWayComparison_ends, crate::proofs::ReachedLemmas::inside_ends))]
 fn way_to(
     alloc: Global,
     first: &Brain,

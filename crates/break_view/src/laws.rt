@@ -7,28 +7,33 @@ pub fn one_list_or_one_fault()
 {}
 
 /// A law: a game has one first stop, or none; it has one end, and one text of its view.
+#[tactic(auto, using(crate::proofs::ViewLaws::one_first_stop))]
 pub fn one_first_stop()
     ensures { OneFirstStop }
 {}
 
 /// A law: with fewer breaks a game doesn't stop earlier, and where it doesn't stop with more it doesn't with fewer.
+#[tactic(auto, using(crate::proofs::ViewLaws::fewer_stop_later))]
 pub fn fewer_stop_later()
     ensures { FewerStopLater }
 {}
 
 /// A law: a break counts only after a turn: a stop is in round 1 or later, and there is none without rounds, without ants or without
 /// breaks.
+#[tactic(auto, using(crate::proofs::ViewLaws::stops_follow_turns))]
 pub fn stops_follow_turns()
     ensures { StopsFollowTurns }
 {}
 
 /// A law: rounds beyond a stop change nothing: it is the first stop of the longer game too.
+#[tactic(auto, using(crate::proofs::ViewLaws::later_rounds_add_nothing))]
 pub fn later_rounds_add_nothing()
     ensures { LaterRoundsAddNothing }
 {}
 
 /// A law: every game has an end, which searching its turns in order finds; so the text of its view is a function of the world, the brains,
 /// the seed, the rounds and the breaks.
+#[tactic(auto, using(crate::proofs::FirstStops::ends_are_found))]
 pub fn ends_are_found()
     ensures { EndsAreFound }
 {}

@@ -42,6 +42,7 @@ fn push_end<K: Sink>(
 }
 
 // Pushes the line of a stop, and the lines of the cells.
+#[tactic(auto, using(ant_base::proofs::Pushes::pushed_then))]
 fn push_stop<K: Sink>(world: &World, stop: Stop, sink: &mut K) -> Result<(), Failed>
     ensures { Pushed (K.state sink.old) (K.state sink.new) (stop_line stop +++ cells_text (world_of world.now)) result }
 {

@@ -13,8 +13,8 @@ use Rattle.hex_geometry.proofs.RowLemmas.{index_of-pos_at}
 use Rattle.hex_geometry.specs.RowOrder.{index_of, pos_at}
 use Rattle.cell_world.specs.Score.{alive_in, alive_of}
 use Rattle.cell_world.specs.Valid.{Valid}
-use Rattle.cell_world.specs.World.{World, area, first_of, or_here, place_in, sum_over, total}
-use Rattle.cell_world.proofs.Places.{first_of-found}
+use Rattle.cell_world.specs.World.{World, area, first_of, place_in, sum_over, total}
+use Rattle.cell_world.proofs.Places.{first_of-found, or_here}
 use Rattle.cell_world.proofs.Totals.{sum_over-both, sum_over-same}
 
 -- whether the ant, if there is one, has an id below this number

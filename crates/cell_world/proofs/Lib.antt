@@ -23,6 +23,7 @@ pub mod CatchUpLemmas
 -- Those that rest, told apart.
 pub mod RestingLemmas
 -- Worlds that are made: at an opening, and of cells without ants.
+pub mod Rims
 pub mod Plans
 pub mod Openings
 pub mod OpeningWeight

@@ -19,6 +19,7 @@ use Rattle.cell_world.proofs.GridLemmas.{cell_in-beyond, cell_in-column}
 use Rattle.cell_world.proofs.OpeningWeight.{weight-light}
 use Rattle.cell_world.proofs.Openings.{HasMarksOfSix-opening_cell, HasMarksOfSix-rock, ant-opening_cell, cell_weight-opening_cell, get_or-opening_cells, hill_count-later, hill_count-take, holds_id-opening_cell, length-opening_cells, opening_cell-rocky, rocky-opening_cell}
 use Rattle.cell_world.proofs.Places.{holds_id-rock}
+use Rattle.cell_world.proofs.Rims.{clear_inner}
 use Rattle.cell_world.proofs.Weights.{cell_weight-rock}
 
 module _ (width height : ℕ) (kinds : List Kind) where
@@ -60,7 +61,7 @@ module _ (width height : ℕ) (kinds : List Kind) where
     unfolding rock
     opening_rim = opening-all (λ p c. c.rocky ≡ false → IsInner width height p) (λ p clear. absurd (true≢false clear)) λ p column clear.
         let not_rock : is_rock (kind_at width kinds p) ≡ false = sym (rocky-opening_cell (hills_before width kinds p) (kind_at width kinds p)) ∙ clear in
-        plan.rim p (record { column = column; row = row_of_kind p column not_rock }) not_rock
+        clear_inner width height kinds plan.rim p (record { column = column; row = row_of_kind p column not_rock }) not_rock
 
     -- what is rocky is bare
     opening_bare : (p : Pos) → (cell_in (opening width height kinds) p).rocky ≡ true → cell_in (opening width height kinds) p ≡ rock

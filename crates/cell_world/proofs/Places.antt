@@ -1,6 +1,7 @@
 -- Where an ant stands: the search in row order, as look-ups.
 use Rattle.std.proofs.Common.{◌≡◌, ◌≢◌, inl, inr, ℕ, ◌<◌, ◌≤◌, Bool, true, false, cond, Option, Some, None, refl, sym, subst, ◌∙◌, ap, arith, suc, zero}
 use Rattle.std.proofs.Math.Path.{fun_ext}
+use Rattle.std.specs.Option.{option_or}
 use Rattle.std.proofs.lemmas.Bool.{cases_Bool, cases_eq, cond-true, cond-false, false_from_ne_true, both_ways, eqb-true, eq-eqb}
 use Rattle.hex_geometry.specs.declared.position.Pos.{Pos}
 use Rattle.hex_geometry.specs.Position.{IsInside, HasNeighbours}
@@ -10,9 +11,13 @@ use Rattle.cell_world.specs.declared.cell.Cell.{Cell}
 use Rattle.cell_world.specs.Cell.{rock, holds_id, is_ant}
 use Rattle.hex_geometry.proofs.RowLemmas.{index_of-inside, pos_at-index_of, pos_at-inside}
 use Rattle.hex_geometry.specs.RowOrder.{index_of, pos_at}
-use Rattle.cell_world.specs.World.{World, first_of, or_here, place_in, area, put, put_cell}
+use Rattle.cell_world.specs.World.{World, first_of, place_in, area, put, put_cell}
 use Rattle.cell_world.specs.Valid.{Valid, CanSet}
 use Rattle.cell_world.proofs.Puts.{put_cell-same, put_cell-other, cases_pos}
+
+-- this position where there is none yet and the test holds
+abbrev pub or_here : Option Pos → Bool → Pos → Option Pos
+or_here found here p = option_or found (cond here (Some p) None)
 
 -- a search that finds nothing anywhere
 pub first_of-nowhere : (width : ℕ) (test : Pos → Bool) (n : ℕ) → ((p : Pos) → test p ≡ false) → first_of width test n ≡ None

@@ -11,6 +11,7 @@ use Rattle.hex_geometry.proofs.RowLemmas.{index_of-inside, pos_at-index_of}
 use Rattle.hex_geometry.specs.RowOrder.{index_of, pos_at}
 use Rattle.cell_world.specs.Limits.{least_size, most_ants, most_size}
 use Rattle.cell_world.specs.Opening.{IsFed, IsPlan, hill_count, is_rock}
+use Rattle.cell_world.proofs.Rims.{rim_rock}
 
 -- whether food is in range
 abbrev pub is_fed : Kind → Bool
@@ -93,7 +94,7 @@ IsPlan-test width height kinds passes =
       tall = leb-true least_size height rows.0;
       low = leb-true height most_size rows.1;
       full = eqb-true (length kinds) (width * height) cells.0;
-      rim = λ p inside clear. subst (IsInner width height) (pos_at-index_of width p inside.column)
+      rim = rim_rock width height kinds λ p inside clear. subst (IsInner width height) (pos_at-index_of width p inside.column)
           (rim-test width height kinds (width * height) (index_of width p) cells.1 (index_of-inside width height p inside) clear);
       fed = All-fed kinds stock.0;
       few = leb-true (hill_count kinds) most_ants stock.1;

@@ -1,7 +1,6 @@
 -- A world as its cells in row order, and how it reads as a function from positions to cells.
-use Rattle.std.specs.Prelude.{◌≡◌, ℕ, ◌*◌, if◌then◌else◌, nat_lt, List, length, None, slice_index_or}
+use Rattle.std.specs.Prelude.{◌≡◌, ℕ, ◌+◌, ◌*◌, if◌then◌else◌, nat_lt, List, length, None, slice_index_or}
 use Rattle.std.specs.List.{AllByRecursion}
-use Rattle.hex_geometry.specs.RowOrder.{index_of}
 use Rattle.cell_world.specs.declared.cell.Cell.{Cell}
 use Rattle.cell_world.specs.Cell.{rock}
 use Rattle.cell_world.specs.World.{World, Cells}
@@ -16,7 +15,7 @@ pub record Grid : Type 0 where
 
 -- the cell at a position: right of the rows and below the last there is rock
 unfoldable pub cell_in : Grid → Cells
-cell_in g p = if nat_lt p.x g.width then slice_index_or g.cells (index_of g.width p) rock else rock
+cell_in g p = if nat_lt p.x g.width then slice_index_or g.cells (p.y * g.width + p.x) rock else rock
 
 -- the world that a grid stands for
 abbrev pub world_of : Grid → World

@@ -1,8 +1,8 @@
 -- The world at the start of a game (the task's geography and biology).
-use Rattle.std.specs.Prelude.{◌≡◌, ℕ, ◌+◌, ◌*◌, ◌≤◌, Bool, true, false, List, [], ◌∷◌, length, slice_index_or, take, Some, None}
+use Rattle.std.specs.Prelude.{◌≡◌, ℕ, ◌+◌, ◌*◌, ◌≤◌, ◌<◌, Bool, true, false, List, [], ◌∷◌, length, slice_index_or, take, Some, None}
 use Rattle.std.specs.List.{All}
 use Rattle.hex_geometry.specs.declared.position.Pos.{Pos}
-use Rattle.hex_geometry.specs.Position.{IsInside, IsInner}
+use Rattle.hex_geometry.specs.Position.{is_on_rim}
 use Rattle.hex_geometry.specs.declared.direction.Dir.TheVariants.{East}
 use Rattle.cell_world.specs.declared.ant.Ant.{Ant}
 use Rattle.cell_world.specs.declared.ant.Colour.{Colour}
@@ -13,7 +13,6 @@ use Rattle.cell_world.specs.declared.kind.Kind.TheVariants.{Rock, Clear, RedHill
 use Rattle.cell_world.specs.Cell.{rock, one_if}
 use Rattle.cell_world.specs.Grid.{Grid}
 use Rattle.hex_geometry.specs.RowOrder.{index_of}
-use Rattle.cell_world.specs.Limits.{least_size, most_size, most_ants}
 use Rattle.cell_world.specs.Marks.{no_marks}
 
 -- a clear cell without food, marks, ant or hill
@@ -32,8 +31,8 @@ hill_cell colour t = record floor { hill = Some colour; ant = Some (new_ant colo
 abbrev pub opening_cell : ℕ → Kind → Cell
 opening_cell t Rock = rock
 opening_cell t Clear = floor
-opening_cell t RedHill = hill_cell Red t
-opening_cell t BlackHill = hill_cell Black t
+opening_cell t RedHill = record floor { hill = Some Red; ant = Some (new_ant Red t) }
+opening_cell t BlackHill = record floor { hill = Some Black; ant = Some (new_ant Black t) }
 opening_cell t (Food n) = record floor { food = n }
 
 -- whether a cell of this kind is of a hill
@@ -74,13 +73,13 @@ kind_at width kinds p = slice_index_or kinds (index_of width p) Rock
 abbrev pub hills_before : ℕ → List Kind → Pos → ℕ
 hills_before width kinds p = hill_count (take (index_of width p) kinds)
 
--- the kinds of a world: the sizes are in range, there is one for each cell, the rim is rock, food is in range, and there are not too many hill cells
+-- the kinds of a world, in row order: the sizes are in range, there is one for each cell, the rim is rock, food is in range, and there are not too many hill cells
 pub record IsPlan (width height : ℕ) (kinds : List Kind) : Type 0 where
-  pub wide : least_size ≤ width
-  pub narrow : width ≤ most_size
-  pub tall : least_size ≤ height
-  pub low : height ≤ most_size
+  pub wide : 3 ≤ width
+  pub narrow : width ≤ 512
+  pub tall : 3 ≤ height
+  pub low : height ≤ 512
   pub full : length kinds ≡ width * height
-  pub rim : (p : Pos) → IsInside width height p → is_rock (kind_at width kinds p) ≡ false → IsInner width height p
+  pub rim : (p : Pos) → p.x < width → p.y < height → is_on_rim width height p ≡ true → slice_index_or kinds (p.y * width + p.x) Rock ≡ Rock
   pub fed : All IsFed kinds
-  pub few : hill_count kinds ≤ most_ants
+  pub few : hill_count kinds ≤ 16384

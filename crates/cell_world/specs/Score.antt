@@ -1,11 +1,11 @@
 -- The score, the food and the ants of a world (the task's game play and biology).
-use Rattle.std.specs.Prelude.{ℕ, if◌then◌else◌}
+use Rattle.std.specs.Prelude.{ℕ, ◌*◌, if◌then◌else◌}
 use Rattle.cell_world.specs.declared.ant.Colour.{Colour}
 use Rattle.cell_world.specs.declared.ant.Colour.TheVariants.{Red, Black}
 use Rattle.cell_world.specs.declared.cell.Cell.{Cell}
 use Rattle.cell_world.specs.declared.score.Score.{Score}
 use Rattle.cell_world.specs.Cell.{food_in, is_hill_of, is_ant_of, one_if}
-use Rattle.cell_world.specs.World.{World, total}
+use Rattle.cell_world.specs.World.{World, sum_over, total}
 
 -- the food on a cell, where it is of this colour's hill
 abbrev pub hill_food_in : Colour → Cell → ℕ
@@ -13,7 +13,7 @@ hill_food_in colour cell = if is_hill_of colour cell.hill then cell.food else 0
 
 -- the food on the cells of this colour's hill
 unfoldable pub hill_food_of : World → Colour → ℕ
-hill_food_of w colour = total (hill_food_in colour) w
+hill_food_of w colour = sum_over w.width (λ p. if is_hill_of colour (w.cells p).hill then (w.cells p).food else 0) (w.width * w.height)
 
 -- all food of a world, lying and carried
 unfoldable pub food_of : World → ℕ

@@ -1,10 +1,11 @@
 -- The world as a function from positions to cells (the task's geography).
 use Rattle.std.specs.Prelude.{ℕ, ◌+◌, ◌*◌, Bool, if◌then◌else◌, List, [], ◌∷◌, Option, Some, None, suc, zero}
+use Rattle.std.specs.Option.{option_or}
 use Rattle.hex_geometry.specs.declared.position.Pos.{Pos}
 use Rattle.hex_geometry.specs.Position.{same_pos}
 use Rattle.hex_geometry.specs.RowOrder.{pos_at}
 use Rattle.cell_world.specs.declared.cell.Cell.{Cell}
-use Rattle.cell_world.specs.Cell.{holds_id, cell_weight}
+use Rattle.cell_world.specs.Cell.{is_ant, cell_weight}
 
 -- what is at each position
 abbrev pub Cells : Type 0
@@ -34,15 +35,10 @@ abbrev pub sum_over : ℕ → (Pos → ℕ) → ℕ → ℕ
 sum_over width f zero = 0
 sum_over width f (suc n) = sum_over width f n + f (pos_at width n)
 
--- this position where there is none yet and the test holds
-abbrev pub or_here : Option Pos → Bool → Pos → Option Pos
-or_here (Some found) here p = Some found
-or_here None here p = if here then Some p else None
-
--- the first of the first n positions in row order at which the test holds
+-- the first of the first n positions in row order at which the test holds, if there is one
 abbrev pub first_of : ℕ → (Pos → Bool) → ℕ → Option Pos
 first_of width test zero = None
-first_of width test (suc n) = or_here (first_of width test n) (test (pos_at width n)) (pos_at width n)
+first_of width test (suc n) = option_or (first_of width test n) (if test (pos_at width n) then Some (pos_at width n) else None)
 
 -- how many positions there are
 abbrev pub area : World → ℕ
@@ -54,7 +50,7 @@ total f w = sum_over w.width (λ p. f (w.cells p)) (area w)
 
 -- the position whose cell holds the ant of this id, where there is one (the task's biology)
 unfoldable pub place_in : World → ℕ → Option Pos
-place_in w t = first_of w.width (λ p. holds_id t (w.cells p)) (area w)
+place_in w t = first_of w.width (λ p. is_ant t (w.cells p).ant) (w.width * w.height)
 
 -- what a world weighs: the sum over its cells
 unfoldable pub weight : World → ℕ

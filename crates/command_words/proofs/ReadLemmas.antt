@@ -230,17 +230,17 @@ read-refuses (word ∷ rest) number e =
         ])
 
 -- what the reader's answer says
-pub result-command : (words : List (List ℕ)) (result : Result Asked Refused) → plain_result result ≡ read_of words
+pub result_command : (words : List (List ℕ)) (result : Result Asked Refused) → plain_result result ≡ read_of words
     → IfOk result (λ command. IsCommand words (plain command))
-result-command words (Ok command) e = read-accepts words (plain command) (sym e)
-result-command words (Err refused) e = tt
+result_command words (Ok command) e = read-accepts words (plain command) (sym e)
+result_command words (Err refused) e = tt
 
-pub result-refused : (words : List (List ℕ)) (result : Result Asked Refused) → plain_result result ≡ read_of words
+pub result_refused : (words : List (List ℕ)) (result : Result Asked Refused) → plain_result result ≡ read_of words
     → IfErr result (λ refused. IsRefusedAt words refused.word)
-result-refused words (Ok command) e = tt
-result-refused words (Err refused) e = read-refuses words refused.word (sym e)
+result_refused words (Ok command) e = tt
+result_refused words (Err refused) e = read-refuses words refused.word (sym e)
 
-pub result-none : (words : List (List ℕ)) (result : Result Asked Refused) → plain_result result ≡ read_of words
+pub result_none : (words : List (List ℕ)) (result : Result Asked Refused) → plain_result result ≡ read_of words
     → IfErr result (λ _. (command : PlainAsked) → ¬ IsCommand words command)
-result-none words (Ok command) e = tt
-result-none words (Err refused) e = read-none words refused.word (sym e)
+result_none words (Ok command) e = tt
+result_none words (Err refused) e = read-none words refused.word (sym e)

@@ -98,11 +98,8 @@ has-is kind front given words form choice =
 
 -- without a word the default is said
 said-none : (places : List Place) (default : ℕ) → said_for places default None ≡ default
-said-none [] default = refl
 said-none (Word (Number kind) ∷ []) default = refl
-said-none (Word (Number kind) ∷ place ∷ places) default = refl
-said-none (Word slot ∷ places) default = refl
-said-none (Names list ∷ places) default = refl
+said-none places default = refl
 
 pub says_its_words : SaysItsWords
 says_its_words = record {

@@ -111,11 +111,8 @@ sample-fits (Keyword list) = bytes_eq-same (keyword_of list)
 
 no_option_fits : (slot : Slot) → list_all (λ choice. not (fits slot (option_of choice))) choices ≡ true
 unfolding is_file_name is_dumps dumps_of decimal_value
-no_option_fits FileName = refl
-no_option_fits (Number kind) = refl
-no_option_fits Dumps = refl
 no_option_fits (Keyword Worlds) = refl
-no_option_fits (Keyword Brains) = refl
+no_option_fits slot = refl
 
 -- no option's word fits a slot
 pub option-unfit : (slot : Slot) (choice : Choice) → fits slot (option_of choice) ≡ false
@@ -125,11 +122,8 @@ option-unfit slot choice =
 -- nor does a word without a byte
 pub empty-unfit : (slot : Slot) → fits slot [] ≡ false
 unfolding is_file_name is_dumps dumps_of decimal_value
-empty-unfit FileName = refl
-empty-unfit (Number kind) = refl
-empty-unfit Dumps = refl
 empty-unfit (Keyword Worlds) = refl
-empty-unfit (Keyword Brains) = refl
+empty-unfit slot = refl
 
 -- a list's word
 abbrev pub is_keyword : Slot → Bool
@@ -156,11 +150,9 @@ keyword-not_first Brains kind = not-true (bytes_eq (word_of kind) (keyword_of Br
 pub keyword-unfit : (list : NameList) (slot : Slot) → is_keyword slot ≡ false → fits slot (keyword_of list) ≡ false
 unfolding is_dumps dumps_of decimal_value
 keyword-unfit list FileName other = keyword-no_name list
-keyword-unfit Worlds (Number kind) other = refl
-keyword-unfit Brains (Number kind) other = refl
-keyword-unfit Worlds Dumps other = refl
-keyword-unfit Brains Dumps other = refl
 keyword-unfit list (Keyword same) other = absurd (false≢true (sym other))
+keyword-unfit Worlds slot other = refl
+keyword-unfit Brains slot other = refl
 
 -- no option's word is a command's first word
 pub option-not_first : (kind : CommandKind) (choice : Choice) → bytes_eq (word_of kind) (option_of choice) ≡ false

@@ -7,7 +7,7 @@ use Rattle.std.proofs.lemmas.Slice.Eq.{bytes_eq-Decides}
 use Rattle.command_words.specs.declared.table.NameList.{NameList}
 use Rattle.command_words.specs.declared.table.NameList.TheVariants.{Worlds, Brains}
 use Rattle.command_words.specs.declared.slot.Slot.{Slot}
-use Rattle.command_words.specs.declared.slot.Slot.TheVariants.{FileName, Number, Dumps, Keyword}
+use Rattle.command_words.specs.declared.slot.Slot.TheVariants.{FileName, Keyword}
 use Rattle.command_words.specs.declared.slot.Place.{Place}
 use Rattle.command_words.specs.declared.slot.Place.TheVariants.{Word, Names}
 use Rattle.command_words.specs.declared.table.CommandKind.{CommandKind}
@@ -114,10 +114,9 @@ further kind words names before word here =
 pub walk-same : (kind : CommandKind) (due : List Place) (words names before : List (List ℕ)) → Stops due
     → walk kind words due names before ≡ walk kind words due [] before
 walk-same kind [] [] names before stops = refl
-walk-same kind [] (word ∷ words) names before stops = refl
 walk-same kind (Word slot ∷ due) [] names before stops = refl
-walk-same kind (Word slot ∷ due) (word ∷ words) names before stops = refl
 walk-same kind (Names list ∷ due) words names before stops = elim stops [ ]
+walk-same kind due words names before stops = refl
 
 further-stops : (kind : CommandKind) (due : List Place) (words names before : List (List ℕ)) (word : List ℕ) → Stops due
     → further kind words names before word due ≡ walk kind (word ∷ words) due [] before
@@ -194,9 +193,8 @@ names-enough list names are = le-leb (fewest_names list) (length names) are.enou
 -- what is a list's word is no name
 pub keyword-ends : (slot : Slot) (word : List ℕ) → is_keyword slot ≡ true → fits slot word ≡ true → is_file_name word ≡ false
 keyword-ends FileName word is same = absurd (false≢true is)
-keyword-ends (Number kind) word is same = absurd (false≢true is)
-keyword-ends Dumps word is same = absurd (false≢true is)
 keyword-ends (Keyword list) word is same = ap is_file_name ((bytes_eq-Decides word (keyword_of list)).0 same) ∙ keyword-no_name list
+keyword-ends slot word is same = absurd (false≢true is)
 
 -- the words of places that stop names begin with no name
 pub stops-no_name : (due : List Place) (parts : List (List (List ℕ))) (words : List (List ℕ)) → Stops due → FitAll due parts → NoName words

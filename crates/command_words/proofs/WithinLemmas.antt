@@ -62,9 +62,8 @@ numbers-within (piece ∷ pieces) rounds e = go (number_in RoundCount piece) ref
 list-said : (none all : Bool) (o : Option (List ℕ)) (rounds : List ℕ)
     → cond none (Some NoDump) (cond all (Some EveryDump) (option_map ChosenDumps o)) ≡ Some (ChosenDumps rounds) → o ≡ Some rounds
 list-said true all o rounds e = (let no : ⊥ = cc in absurd no)
-list-said false true o rounds e = (let no : ⊥ = cc in absurd no)
-list-said false false None rounds e = (let no : ⊥ = cc in absurd no)
 list-said false false (Some others) rounds e = cc
+list-said none all o rounds e = (let no : ⊥ = cc in absurd no)
 
 chosen-said : (word : List ℕ) (rounds : List ℕ) → dumps_of word ≡ Some (ChosenDumps rounds) → numbers_of (pieces_of word) ≡ Some rounds
 unfolding dumps_of
@@ -93,19 +92,15 @@ default-within choice kind has =
     (leb-true (least_of kind) (default_of choice) parts.0, leb-true (default_of choice) (most_of kind) parts.1)
 
 -- no option says more than it may
-pub option-most : (choice : Choice) (o : Option (List ℕ)) → said_for (values_of choice) (default_of choice) o ≤ most_for (values_of choice)
-option-most choice o = go (values_of choice) refl where
+pub option_most : (choice : Choice) (o : Option (List ℕ)) → said_for (values_of choice) (default_of choice) o ≤ most_for (values_of choice)
+option_most choice o = go (values_of choice) refl where
   small : default_of choice ≤ 4294967295
   small = leb-true (default_of choice) 4294967295 (default-small choice)
 
   go : (places : List Place) → values_of choice ≡ places → said_for places (default_of choice) o ≤ most_for places
   go [] has = small
   go (Word (Number kind) ∷ []) has = (said-in kind (default_of choice) (default-within choice kind has) o).1
-  go (Word (Number kind) ∷ place ∷ places) has = small
-  go (Word FileName ∷ places) has = small
-  go (Word Dumps ∷ places) has = small
-  go (Word (Keyword list) ∷ places) has = small
-  go (Names list ∷ places) has = small
+  go places has = small
 
 dumps-in : (o : Option (List ℕ)) → AreWithin (dumps_said o)
 dumps-in None = tt
@@ -146,9 +141,7 @@ after-names (Word slot ∷ places) ((word ∷ other ∷ more) ∷ front) end fit
 after-names (Word (Keyword list) ∷ places) ((word ∷ []) ∷ front) end fit =
     ap is_file_name ((bytes_eq-Decides word (keyword_of list)).0 fit.0) ∙ keyword-no_name list
 after-names (Word FileName ∷ places) ((word ∷ []) ∷ front) end fit = absurd (false≢true end)
-after-names (Word (Number kind) ∷ places) ((word ∷ []) ∷ front) end fit = absurd (false≢true end)
-after-names (Word Dumps ∷ places) ((word ∷ []) ∷ front) end fit = absurd (false≢true end)
-after-names (Names list ∷ places) (names ∷ front) end fit = absurd (false≢true end)
+after-names places front end fit = absurd (false≢true end)
 
 -- the names that stand first are those of the list
 first-names : (list : NameList) (places : List Place) (front : List (List (List ℕ))) → begins_with list places ≡ true → FitAll places front

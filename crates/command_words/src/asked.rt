@@ -49,6 +49,7 @@ impl<'w> Asked<'w> {
     }
 
     /// The number that an option says, or the one that holds without it: within the limits of the option's kind.
+    #[tactic(auto, using(crate::proofs::WithinLemmas::option_most))]
     pub fn option(self, choice: Choice) -> u32
         requires has { HasNumberOption self.kind choice }
         ensures is { result ≡ (plain self.entry).option choice }

@@ -3,11 +3,13 @@ ghost use Rattle.command_words.specs.Far.{RefusesFar};
 ghost use Rattle.command_words.specs.Laws.{AnyOrder, FrontBegins, NeverBoth, OneCommand, OneOfBoth, OneRefusedWord, SaysItsWords, WithinLimits};
 
 /// Some words are at most one command.
+#[tactic(auto, using(crate::proofs::WordLaws::one_command))]
 pub fn one_command()
     ensures { OneCommand }
 {}
 
 /// Some words have at most one refused word.
+#[tactic(auto, using(crate::proofs::WordLaws::one_refused_word))]
 pub fn one_refused_word()
     ensures { OneRefusedWord }
 {}
@@ -23,6 +25,7 @@ pub fn one_of_both()
 {}
 
 /// The front of a command's beginning is the beginning of a command.
+#[tactic(auto, using(crate::proofs::WordLaws::front_begins))]
 pub fn front_begins()
     ensures { FrontBegins }
 {}
@@ -38,11 +41,13 @@ pub fn within_limits()
 {}
 
 /// To a reader that doesn't know `--far`, a run among whose words it stands is no command, and all other words are as they are.
+#[tactic(auto, using(crate::proofs::FarWords::refuses_far))]
 pub fn refuses_far()
     ensures { RefusesFar }
 {}
 
 /// What is asked for stands among the words; what holds without an option is what the table says.
+#[tactic(auto, using(crate::proofs::SaidLemmas::says_its_words))]
 pub fn says_its_words()
     ensures { SaysItsWords }
 {}

@@ -47,6 +47,7 @@ impl<'t> Iterator for Pieces<'t> {
 }
 
 // The first piece, and what stands after its comma.
+#[tactic(auto, using(crate::proofs::PiecesLemmas::pieces_of_cut))]
 fn cut_piece(text: &[u8]) -> (&[u8], Option<&[u8]>)
     ensures { pieces_of text.now ≡ result.0.now ∷ pieces_left (option_copied result.1) }
 {

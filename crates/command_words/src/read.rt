@@ -10,6 +10,7 @@ use crate::{Asked, Refused};
 /// What the program's words ask for, without the program's own name. Refused exactly where they are no command, at the first word,
 /// counted from 1, with which the words up to and including it are not the beginning of any command, or at the number of words plus one
 /// where all of them are a beginning and no command. It takes no memory.
+#[tactic(auto, using(crate::proofs::ReadLemmas::result_command, crate::proofs::ReadLemmas::result_refused, crate::proofs::ReadLemmas::result_none))]
 pub fn read_words<'w>(words: &'w [String]) -> Result<Asked<'w>, Refused>
     ensures command { IfOk result (λ asked. IsCommand (texts words.now) (plain asked)) }
     ensures refused { IfErr result (λ refused. IsRefusedAt (texts words.now) refused.word) }

@@ -10,12 +10,12 @@ use Rattle.cell_world.specs.Grid.{cell_in}
 use Rattle.cell_world.specs.Marks.{no_marks, with_mark}
 use Rattle.cell_world.specs.Opening.{floor, opening}
 use Rattle.cell_world.proofs.OpeningWorked.{one_hill}
-use Rattle.dump_print.specs.Content.{clear_text, content_text, standing_ant_text}
+use Rattle.dump_print.specs.Content.{content_text, standing_ant_text}
 use Rattle.dump_print.specs.Texts.{cell_line, cells_text, row_text, score_text, stats_text}
 
 -- the one hill cell of a small opening world
 line-hill : cell_line 1 1 (cell_in (opening 3 3 one_hill) (record { x = 1; y = 1 })) ≡ codes "cell (1, 1): red hill; red ant of id 0, dir 0, food 0, state 0, resting 0\n"
-unfolding digits numbered cell_line content_text clear_text standing_ant_text cell_in opening floor rock
+unfolding digits numbered cell_line content_text standing_ant_text cell_in opening floor rock
 line-hill = refl
 
 -- a cell of its rim
@@ -25,7 +25,7 @@ line-rock = refl
 
 -- a clear cell on which nothing is: the line ends in a space
 line-clear : cell_line 10 7 floor ≡ codes "cell (10, 7): \n"
-unfolding digits cell_line content_text clear_text floor
+unfolding digits cell_line content_text floor
 line-clear = refl
 
 -- a cell on which everything is
@@ -40,7 +40,7 @@ full = record {
 }
 
 line-full : cell_line 1 12 full ≡ codes "cell (1, 12): 20 food; black hill; red marks: 03; black marks: 5; red ant of id 107, dir 5, food 1, state 9999, resting 14\n"
-unfolding digits cell_line content_text clear_text standing_ant_text numbered
+unfolding digits cell_line content_text standing_ant_text numbered
 line-full = refl
 
 -- four rocky cells, row by row from the top, each row from the left

@@ -1,5 +1,5 @@
 -- The text of a cell's content (this project's own layout).
-use Rattle.std.specs.Prelude.{ℕ, List, [], codes, decimal, if◌then◌else◌, ◌==◌, Bool, Option, Some, None}
+use Rattle.std.specs.Prelude.{ℕ, List, [], codes, decimal, if◌then◌else◌, ◌==◌, Option, Some, None}
 use Rattle.hex_geometry.specs.Direction.{number_of}
 use Rattle.cell_world.specs.declared.ant.Ant.{Ant}
 use Rattle.cell_world.specs.declared.ant.Colour.{Colour}
@@ -23,35 +23,23 @@ abbrev pub hill_text : Option Colour → List ℕ
 hill_text None = []
 hill_text (Some colour) = colour_text colour +++ codes " hill; "
 
--- the digit of a marker, where it is set
-abbrev pub digit_text : Marks → ℕ → List ℕ
-digit_text marks i = if has_mark marks i then decimal i else []
-
 -- the markers of a colour in rising order, where any is set
 abbrev pub marks_text : Colour → Marks → List ℕ
 marks_text colour marks =
-    if has_any_mark marks then colour_text colour +++ codes " marks: " +++ numbered (digit_text marks) 6 +++ codes "; " else []
-
--- what an ant carries
-abbrev pub load_text : Bool → List ℕ
-load_text laden = if laden then codes "1" else codes "0"
+    if has_any_mark marks then colour_text colour +++ codes " marks: " +++ numbered (λ i. if has_mark marks i then decimal i else []) 6 +++ codes "; " else []
 
 -- an ant
 unfoldable pub standing_ant_text : Ant → List ℕ
 standing_ant_text ant =
     colour_text ant.colour +++ codes " ant of id " +++ decimal ant.id +++ codes ", dir " +++ decimal (number_of ant.facing)
-    +++ codes ", food " +++ load_text ant.laden +++ codes ", state " +++ decimal ant.state +++ codes ", resting " +++ decimal ant.resting
+    +++ codes ", food " +++ (if ant.laden then codes "1" else codes "0") +++ codes ", state " +++ decimal ant.state +++ codes ", resting " +++ decimal ant.resting
 
 -- the ant, where one stands there
 abbrev pub ant_text : Option Ant → List ℕ
 ant_text None = []
 ant_text (Some ant) = standing_ant_text ant
 
--- the content of a clear cell: its parts in this order, each only where it applies
-unfoldable pub clear_text : Cell → List ℕ
-clear_text cell =
-    food_text cell.food +++ hill_text cell.hill +++ marks_text Red cell.red +++ marks_text Black cell.black +++ ant_text cell.ant
-
--- the content of a cell
+-- the content of a cell: of a clear one its parts in this order, each only where it applies
 unfoldable pub content_text : Cell → List ℕ
-content_text cell = if cell.rocky then codes "rock" else clear_text cell
+content_text cell =
+    if cell.rocky then codes "rock" else food_text cell.food +++ hill_text cell.hill +++ marks_text Red cell.red +++ marks_text Black cell.black +++ ant_text cell.ant

@@ -13,7 +13,7 @@ cell_words x y cell = codes "cell (" +++ decimal x +++ codes ", " +++ decimal y 
 
 -- the line of a cell
 unfoldable pub cell_line : ℕ → ℕ → Cell → List ℕ
-cell_line x y cell = cell_words x y cell +++ codes "\n"
+cell_line x y cell = (codes "cell (" +++ decimal x +++ codes ", " +++ decimal y +++ codes "): " +++ content_text cell) +++ codes "\n"
 
 -- the lines of the cells of row y, from the left
 unfoldable pub row_text : World → ℕ → List ℕ
@@ -33,7 +33,7 @@ seed_words seed = codes "random seed: " +++ decimal seed
 
 -- the line of a seed
 unfoldable pub seed_text : ℕ → List ℕ
-seed_text seed = seed_words seed +++ codes "\n"
+seed_text seed = (codes "random seed: " +++ decimal seed) +++ codes "\n"
 
 -- an empty line and the line of a score
 unfoldable pub score_text : Score → List ℕ

@@ -1,6 +1,7 @@
 // What a cell's line says of its content.
-ghost use Rattle.std.specs.Prelude.{decimal};
-ghost use Rattle.dump_print.specs.Content.{food_text, hill_text, digit_text, marks_text, clear_text, content_text, colour_text, load_text, standing_ant_text};
+ghost use Rattle.std.specs.Prelude.{[], codes, decimal, if◌then◌else◌};
+ghost use Rattle.cell_world.specs.Marks.{has_mark};
+ghost use Rattle.dump_print.specs.Content.{food_text, hill_text, marks_text, content_text, colour_text, standing_ant_text};
 ghost use Rattle.hex_geometry.specs.Direction.{number_of};
 
 use ant_base::{Each, Failed, Layout, Parts, Sink, layout};
@@ -61,7 +62,7 @@ pub struct Digits(pub Marks);
 impl Parts for Digits {
     ghost count = { λ _. 6 };
 
-    ghost part = { λ digits i. digit_text digits.0 i };
+    ghost part = { λ digits i. if has_mark digits.0 i then decimal i else [] };
 
     fn count(&self) -> usize {
         6
@@ -95,7 +96,7 @@ impl Layout for Marked {
 pub struct Load(pub bool);
 
 impl Layout for Load {
-    ghost text = { λ load. load_text load.0 };
+    ghost text = { λ load. if load.0 then codes "1" else codes "0" };
 
     fn push_to<K: Sink>(&self, sink: &mut K) -> Result<(), Failed> {
         if self.0 {
@@ -150,7 +151,7 @@ pub struct Content(pub Cell);
 impl Layout for Content {
     ghost text = { λ content. content_text content.0 };
 
-    #[tactic(auto, unfolding(crate::specs::Content::content_text, crate::specs::Content::clear_text))]
+    #[tactic(auto, unfolding(crate::specs::Content::content_text))]
     fn push_to<K: Sink>(&self, sink: &mut K) -> Result<(), Failed> {
         if self.0.rocky {
             "rock".push_to(sink)

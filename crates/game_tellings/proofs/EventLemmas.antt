@@ -1,16 +1,16 @@
 -- The lines of events, as they are told and as they are pushed.
-use Rattle.std.proofs.Common.{◌≡◌, ℕ, ◌≤◌, ◌&&◌, List, [], ◌∷◌, ◌++◌, Option, Some, None, map, codes, decimal, refl, sym, ◌∙◌, ap, ap₂, append_assoc}
+use Rattle.std.proofs.Common.{◌≡◌, ℕ, ◌&&◌, List, [], ◌∷◌, ◌++◌, Option, Some, None, map, codes, decimal, refl, sym, ◌∙◌, ap, ap₂, append_assoc}
 use Rattle.std.specs.List.{flat_map}
 use Rattle.std.proofs.lemmas.Bool.{cond-true, eq-eqb}
 use Rattle.std.proofs.lemmas.Grind.{flat_map-append}
 use Rattle.std.proofs.lemmas.List.Folds.{flat_map-map}
 use Rattle.hex_geometry.specs.declared.position.Pos.{Pos}
-use Rattle.ant_base.specs.Layout.{text_of_option, ◌+++◌}
+use Rattle.ant_base.specs.Layout.{◌+++◌}
 use Rattle.ant_turn.specs.Minds.{Minds}
 use Rattle.ant_turn.specs.Rounds.{Moment, start_of}
 use Rattle.ant_turn.specs.Turn.{Outcome, turn}
-use Rattle.ant_turn.specs.FoodLaws.{world_after_turn}
-use Rattle.ant_turn.proofs.Turns.{turn-dead}
+use Rattle.ant_turn.specs.Deaths.{dead_in}
+use Rattle.ant_turn.proofs.Turns.{dead_in-acts, turn-acts, turn-dead}
 use Rattle.cell_world.specs.declared.ant.Ant.{Ant}
 use Rattle.cell_world.specs.declared.ant.PlacedAnt.{PlacedAnt}
 use Rattle.cell_world.specs.declared.score.Score.{Score}
@@ -18,13 +18,11 @@ use Rattle.cell_world.specs.Score.{score_of}
 use Rattle.cell_world.specs.Valid.{Valid}
 use Rattle.cell_world.specs.World.{World, place_in, with_cells}
 use Rattle.dump_print.specs.Texts.{seed_text, seed_words}
-use Rattle.game_tellings.specs.declared.death.Watch.{Watch}
-use Rattle.game_tellings.specs.Events.{ant_in, ant_words, changed_score, death_place, death_words, deaths_in, events_text, place_words, score_words, scores_in, turn_lines}
-use Rattle.game_tellings.specs.Inner.Broken.{broken, broken_death, broken_score, watched_death, watched_deaths}
-use Rattle.game_tellings.specs.Inner.Watch.{killed_among, watch_ahead, watch_of}
+use Rattle.game_tellings.specs.Events.{ant_in, ant_words, changed_score, death_words, deaths_in, events_text, score_words, scores_in, turn_lines}
+use Rattle.game_tellings.specs.Inner.Broken.{broken, broken_score, told_death}
 use Rattle.game_tellings.specs.Told.{told_in_rounds}
 use Rattle.game_tellings.proofs.ToldLemmas.{flat_map-same}
-use Rattle.game_tellings.proofs.WatchLemmas.{IsVictim, ant_in-at, killed_among-victim, unwatched-spares, watched-goes}
+use Rattle.game_tellings.proofs.DeathLines.{acts-told, ant_in-at}
 
 -- lines behind LFs and a last LF are lines before LFs, and a first one
 shift : (lines : List (List ℕ)) → codes "\n" ++ flat_map (λ words. words ++ codes "\n") lines ≡ broken lines ++ codes "\n"
@@ -46,7 +44,7 @@ pub broken-append : (lines more : List (List ℕ)) → broken (lines ++ more) �
 broken-append lines more = flat_map-append (λ words. codes "\n" ++ words) lines more
 
 -- a score is the same as itself
-changed_score-same : (s : Score) → changed_score s s ≡ []
+pub changed_score-same : (s : Score) → changed_score s s ≡ []
 changed_score-same s = cond-true _ _ _ (ap₂ ◌&&◌ (eq-eqb s.red s.red refl) (eq-eqb s.black s.black refl))
 
 -- what is told of an outcome
@@ -65,41 +63,25 @@ broken-dead minds seed round m t dead =
     ∙ ap (of_outcome round m.world t) (turn-dead minds seed m.world m.place t dead)
     ∙ ap (λ scores. broken (map (score_words round m.world t) scores)) (changed_score-same (score_of m.world))
 
--- the line of a death
-death-line : (round : ℕ) (w : World) (t u : ℕ) (actor : Ant) (answer : Option PlacedAnt) → ant_in w t ≡ Some actor → IsVictim w t u answer → codes "\n" ++ death_words round w t u ≡ text_of_option (broken_death round actor) answer
-unfolding death_words
-death-line round w t u actor answer own it =
-    let line : Option Ant → Option Ant → Option Pos → List ℕ =
-    λ a b q. codes "\n" ++ ((codes "round " +++ decimal round +++ codes ", " +++ ant_words a +++ codes ": ") +++ ant_words b +++ codes " dies on " +++ place_words q) in
-    ap (λ a. line a (ant_in w u) (death_place w t u)) own
-    ∙ ap (λ b. line (Some actor) b (death_place w t u)) it.ant
-    ∙ ap (λ q. line (Some actor) (Some it.victim.ant) q) it.place
-    ∙ ap (text_of_option (broken_death round actor)) (sym it.is)
-
 -- the line of a score
 score-line : (round : ℕ) (w : World) (t : ℕ) (actor : Ant) (score : Score) → ant_in w t ≡ Some actor → codes "\n" ++ score_words round w t score ≡ broken_score round actor score
 unfolding score_words
 score-line round w t actor score own =
     ap (λ (a : Option Ant). codes "\n" ++ ((codes "round " +++ decimal round +++ codes ", " +++ ant_words a +++ codes ": ") +++ codes "score: red " +++ decimal score.red +++ codes " black " +++ decimal score.black)) own
 
-module _ (minds : Minds) (seed round : ℕ) (m : Moment) (t : ℕ) (p : Pos) (ant : Ant) (light : minds.sheet.corpse ≤ 9) (valid : Valid m.world) (still : Valid (world_after_turn minds seed m.world m.place t))
-    (found : place_in m.world t ≡ Some p) (is : (m.world.cells p).ant ≡ Some ant) where
+module _ (minds : Minds) (seed round : ℕ) (m : Moment) (t : ℕ) (p : Pos) (ant : Ant) (valid : Valid m.world) (found : place_in m.world t ≡ Some p) (is : (m.world.cells p).ant ≡ Some ant) where
   own : ant_in m.world t ≡ Some ant
   own = ant_in-at m.world t p ant found is
 
   -- the lines of the killed
-  deaths-watched : (watch : Option Watch) → watch_of minds m.world.cells p ant ≡ watch
-      → flat_map (λ u. codes "\n" ++ death_words round m.world t u) (turn minds seed m.world m.place t).killed ≡ watched_deaths round ant watch (turn minds seed m.world m.place t).killed
-  deaths-watched None nobody =
-      ap (flat_map (λ u. codes "\n" ++ death_words round m.world t u)) (unwatched-spares minds seed m.world m.place t p ant found is nobody)
-  deaths-watched (Some watch) some =
-      let goes = watched-goes minds m.world.cells p ant watch some in
-      flat_map-same (λ u. codes "\n" ++ death_words round m.world t u) (watched_death round ant watch) (turn minds seed m.world m.place t).killed λ u killed.
-      death-line round m.world t u ant (killed_among (watch_ahead m.world.cells p ant).stepped (watch_ahead m.world.cells p ant).near u) own (killed_among-victim minds seed m.world m.place t p ant light valid still found is goes.0 u killed)
-      ∙ ap (λ (noted : Watch). watched_death round ant noted u) (sym goes.1)
+  deaths-told : flat_map (λ u. codes "\n" ++ death_words round m.world t u) (turn minds seed m.world m.place t).killed ≡ flat_map (told_death round ant) (dead_in minds m.world t)
+  deaths-told =
+      ap (λ (o : Outcome). flat_map (λ u. codes "\n" ++ death_words round m.world t u) o.killed) (turn-acts minds seed m.world m.place t p ant found is)
+      ∙ acts-told minds seed round m.world m.place t p ant valid found is ant.resting
+      ∙ ap (flat_map (told_death round ant)) (sym (dead_in-acts minds m.world t p ant found is))
 
   -- the lines of a turn, as they are pushed
-  pub broken-told : broken (turn_lines minds seed round m t) ≡ watched_deaths round ant (watch_of minds m.world.cells p ant) (turn minds seed m.world m.place t).killed
+  broken-told : broken (turn_lines minds seed round m t) ≡ flat_map (told_death round ant) (dead_in minds m.world t)
       ++ flat_map (broken_score round ant) (changed_score (score_of m.world) (score_of (with_cells m.world (turn minds seed m.world m.place t).cells)))
   broken-told =
       let killed = (turn minds seed m.world m.place t).killed in
@@ -107,17 +89,17 @@ module _ (minds : Minds) (seed round : ℕ) (m : Moment) (t : ℕ) (p : Pos) (an
       of_turn minds seed round m t
       ∙ broken-append (map (death_words round m.world t) killed) (map (score_words round m.world t) scores)
       ∙ ap₂ ◌++◌
-      (flat_map-map (λ words. codes "\n" ++ words) (death_words round m.world t) killed ∙ deaths-watched (watch_of minds m.world.cells p ant) refl)
+      (flat_map-map (λ words. codes "\n" ++ words) (death_words round m.world t) killed ∙ deaths-told)
       (flat_map-map (λ words. codes "\n" ++ words) (score_words round m.world t) scores
       ∙ flat_map-same (λ s. codes "\n" ++ score_words round m.world t s) (broken_score round ant) scores (λ s _. score-line round m.world t ant s own))
 
   -- from what was found of them
-  pub turn-text : (watch : Option Watch) (killed : List ℕ) (before after : Score) → watch ≡ watch_of minds m.world.cells p ant → killed ≡ (turn minds seed m.world m.place t).killed → before ≡ score_of m.world
+  pub turn-text : (dead : List (Option PlacedAnt)) (before after : Score) → dead ≡ dead_in minds m.world t → before ≡ score_of m.world
       → after ≡ score_of (with_cells m.world (turn minds seed m.world m.place t).cells)
-      → broken (turn_lines minds seed round m t) ≡ watched_deaths round ant watch killed ++ flat_map (broken_score round ant) (changed_score before after)
-  turn-text watch killed before after noted dead was now =
+      → broken (turn_lines minds seed round m t) ≡ flat_map (told_death round ant) dead ++ flat_map (broken_score round ant) (changed_score before after)
+  turn-text dead before after gone was now =
       broken-told
       ∙ sym
       (ap₂ ◌++◌
-      (ap₂ (watched_deaths round ant) noted dead)
+      (ap (flat_map (told_death round ant)) gone)
       (ap₂ (λ (b a : Score). flat_map (broken_score round ant) (changed_score b a)) was now))

@@ -1,5 +1,5 @@
 -- The score of a world after a change of one cell.
-use Rattle.std.proofs.Common.{◌≡◌, ℕ, ◌+◌, ◌-◌, ◌≤◌, ap, ap₂, ◌∙◌, sym, subst, arith, if◌then◌else◌}
+use Rattle.std.proofs.Common.{◌≡◌, ℕ, ◌+◌, ◌-◌, ◌≤◌, ap, ap₂, ◌∙◌, refl, sym, subst, arith, if◌then◌else◌}
 use Rattle.hex_geometry.specs.declared.position.Pos.{Pos}
 use Rattle.hex_geometry.specs.Position.{IsInside}
 use Rattle.cell_world.specs.declared.ant.Colour.{Colour}
@@ -9,6 +9,7 @@ use Rattle.cell_world.specs.declared.score.Score.{Score}
 use Rattle.cell_world.specs.Cell.{cell_weight, is_hill_of}
 use Rattle.cell_world.specs.Grid.{Grid, IsWorld, world_of}
 use Rattle.cell_world.specs.Limits.{most_weight}
+use Rattle.cell_world.specs.Resting.{with_rests}
 use Rattle.cell_world.specs.Score.{hill_food_in, hill_food_of, score_of}
 use Rattle.cell_world.specs.World.{World, put, put_cell, weight}
 use Rattle.cell_world.proofs.GridSums.{hill_food_in-le-cell_weight, hill_food_in-light, hill_food_of-list}
@@ -64,3 +65,8 @@ score-mind w p cell inside food hill =
         let put : hill_food_of w colour - hill_food_in colour (w.cells p) + hill_food_in colour cell ≡ hill_food_of (put w p cell) colour = hill_food-put w colour p cell inside in
         let part : hill_food_in colour (w.cells p) ≤ hill_food_of w colour = hill_food-part w colour p inside in
         omega arith
+
+-- so does how long ants rest
+pub score-with_rests : (f : ℕ → ℕ → ℕ) (w : World) → score_of (with_rests f w) ≡ score_of w
+unfolding score_of hill_food_of
+score-with_rests f w = refl

@@ -1,30 +1,31 @@
 // The text of a game's events.
-ghost use Rattle.std.specs.Prelude.{◌≡◌, ◌+◌, ◌<◌, ◌≤◌, ◌^◌, Some, flat_map, is_some, OnOk};
+ghost use Rattle.std.specs.Prelude.{◌≡◌, ◌+◌, ◌-◌, ◌<◌, ◌≤◌, ◌^◌, flat_map, length, OnOk};
 ghost use Rattle.ant_base.specs.Layout.{text_of_option};
 ghost use Rattle.ant_base.specs.Sink.{Pushed};
+ghost use Rattle.ant_turn.specs.Listed.{AreUp, IsUp, after_listed};
 ghost use Rattle.ant_turn.specs.Minds.{Fits, minds_of};
-ghost use Rattle.ant_turn.specs.Rounds.{start_of};
+ghost use Rattle.ant_turn.specs.Rounds.{after_turns, start_of};
 ghost use Rattle.ant_turn.specs.Turn.{turn};
 ghost use Rattle.cell_world.specs.Cell.{one_if};
 ghost use Rattle.cell_world.specs.Grid.{world_of};
-ghost use Rattle.cell_world.specs.Valid.{Valid};
 ghost use Rattle.cell_world.specs.World.{with_cells};
 ghost use Rattle.match_run.specs.Run.{most_rounds};
 ghost use Rattle.match_run.specs.Inner.Sequential.{LastsARound, RoundTaken, moment_from};
 ghost use Rattle.game_tellings.specs.Events.{changed_score, events_text, turn_lines};
-ghost use Rattle.game_tellings.specs.Inner.Broken.{broken, broken_death, broken_score, watched_death, watched_deaths};
-ghost use Rattle.game_tellings.specs.Inner.Watch.{watch_of};
-ghost use Rattle.game_tellings.specs.Told.{told_in_round, told_in_rounds};
+ghost use Rattle.game_tellings.specs.Inner.Broken.{broken, broken_death, broken_score, told_death};
+ghost use Rattle.game_tellings.specs.Inner.Chunks.{PlayedTo, is_quiet, told_in_listed};
+ghost use Rattle.game_tellings.specs.Told.{told_in_round, told_in_rounds, told_in_turns};
 
-use crate::death::{DeathWords, TurnWords, Watch, standing_around};
+use crate::death::{DeathWords, TurnWords};
 use crate::scored::ScoredWorld;
 use ant_base::{Failed, Layout, Sink, layout};
 use ant_random::Stream;
-use ant_turn::{Brains, is_blocked, take_turn};
+use ant_turn::{Brains, take_found_turn, take_told_turn};
+use arrayvec::ArrayVec;
 use brain_read::Instr;
 use cell_world::{Ground, PlacedAnt, Score, World};
 use dump_print::SeedWords;
-use hex_geometry::adjacent;
+use round_book::recall_validity;
 
 /// Plays a game and pushes who died in it and how the score went: the line of the seed, and then, turn after turn, a line for each ant that is
 /// killed in it, in the order of the checks, as `round 1, black ant 1: red ant 2 dies on (3, 3)`, with the ant whose turn it is, the killed
@@ -72,7 +73,7 @@ fn push_rounds<K: Sink>(
     Ok(())
 }
 
-// Plays a round and pushes its lines.
+// Plays a round and pushes its lines, 64 ids after another.
 fn push_round<K: Sink>(
     ground: &mut ScoredWorld,
     brains: Brains<'_>,
@@ -86,58 +87,80 @@ fn push_round<K: Sink>(
         (broken (told_in_round (turn_lines (minds_of brains.entry) stream.old.seed round) (minds_of brains.entry) stream.old.seed (moment_from ground.old stream.old))) result }
     ensures taken { OnOk result (RoundTaken (minds_of brains.entry) ground.old stream.old ground.new stream.new) }
 {
-    for id in 0..ground.ant_count() {
-        push_turn(ground, brains, stream, id, round, sink)?;
+    let ids = ground.world().ant_count();
+    let mut from = 0;
+    while from < ids {
+        let to = ids.min(from + 64);
+        push_chunk(ground, brains, stream, from, to, round, sink)?;
+        from = to;
     }
     Ok(())
 }
 
-// The ants that the turn of this one may kill, where it is about to step ahead: itself there, and those around that cell.
+// Plays the turns of the ids from `from` to below `to`, at most 64, and pushes their lines: those of resting ants first, of which nothing is told,
+// and then the others in rising order.
 #[inline(always)]
-fn watched(ground: &mut ScoredWorld, brains: Brains<'_>, standing: PlacedAnt) -> Option<Watch>
+fn push_chunk<K: Sink>(
+    ground: &mut ScoredWorld,
+    brains: Brains<'_>,
+    stream: &mut Stream,
+    from: u32,
+    to: u32,
+    round: u32,
+    sink: &mut K,
+) -> Result<(), Failed>
     requires fit { Fits (world_of ground.old) (minds_of brains) }
-    requires valid { Valid (world_of ground.old) }
-    requires here { ((world_of ground.old).cells standing.place).ant ≡ Some standing.ant }
-    ensures watch { result ≡ watch_of (minds_of brains.entry) (world_of ground.old).cells standing.place standing.ant }
-    ensures world { world_of ground.new ≡ world_of ground.old }
+    requires order { from ≤ to }
+    requires made { to ≤ ground.old.ids }
+    requires few { to ≤ from + 64 }
+    requires place { stream.old.place + (to - from) < 2 ^ 63 }
+    ensures text { Pushed (K.state sink.old) (K.state sink.new)
+        (broken (told_in_turns (turn_lines (minds_of brains.entry) stream.old.seed round) (minds_of brains.entry) stream.old.seed (moment_from ground.old stream.old) from (to - from))) result }
+    ensures taken { OnOk result (PlayedTo (minds_of brains.entry)
+        (after_turns (minds_of brains.entry) stream.old.seed (moment_from ground.old stream.old) from (to - from)) stream.old ground.new stream.new) }
 {
-    let (p, ant) = (standing.place, standing.ant);
-    if ant.resting > 0 {
-        return None;
-    }
-    let Instr::Move { .. } = brains.of(ant.colour).at(ant.state) else {
-        return None;
-    };
-    let ahead = adjacent(p, ant.facing);
-    if is_blocked(&ground.cell_at(ahead)) {
-        return None;
-    }
-    Some(Watch {
-        stepped: PlacedAnt { place: ahead, ant },
-        near: standing_around(ground, ahead),
-    })
+    recall_validity(brains, ground.world());
+    let mut acting = [0; 64];
+    let count = ground.rest_some(from, to, &mut acting);
+    push_listed(ground, brains, stream, &acting[..count], round, sink)
 }
 
-// Whether the ant is about to step ahead: it doesn't rest, and its instruction is a Move onto a cell that isn't blocked.
+// Takes the turns of these ids, whose ants don't rest, and pushes their lines.
 #[inline(always)]
-fn steps(ground: &mut ScoredWorld, brains: Brains<'_>, standing: PlacedAnt) -> bool
+fn push_listed<K: Sink>(
+    ground: &mut ScoredWorld,
+    brains: Brains<'_>,
+    stream: &mut Stream,
+    ids: &[u16],
+    round: u32,
+    sink: &mut K,
+) -> Result<(), Failed>
     requires fit { Fits (world_of ground.old) (minds_of brains) }
-    requires valid { Valid (world_of ground.old) }
-    requires here { ((world_of ground.old).cells standing.place).ant ≡ Some standing.ant }
-    ensures steps { result ≡ is_some (watch_of (minds_of brains.entry) (world_of ground.old).cells standing.place standing.ant) }
-    ensures world { world_of ground.new ≡ world_of ground.old }
+    requires up { AreUp (world_of ground.old) ids.now }
+    requires place { stream.old.place + length ids.now < 2 ^ 63 }
+    ensures text { Pushed (K.state sink.old) (K.state sink.new)
+        (broken (told_in_listed (turn_lines (minds_of brains.entry) stream.old.seed round) (minds_of brains.entry) stream.old.seed (moment_from ground.old stream.old) ids.now)) result }
+    ensures taken { OnOk result (PlayedTo (minds_of brains.entry)
+        (after_listed (minds_of brains.entry) stream.old.seed (moment_from ground.old stream.old) ids.now) stream.old ground.new stream.new) }
 {
-    let (p, ant) = (standing.place, standing.ant);
-    if ant.resting > 0 {
-        return false;
+    for id in ids {
+        push_turn(ground, brains, stream, u32::from(*id), round, sink)?;
     }
-    match brains.of(ant.colour).at(ant.state) {
-        Instr::Move { .. } => !is_blocked(&ground.cell_at(adjacent(p, ant.facing))),
-        _ => false,
+    Ok(())
+}
+
+// Whether an instruction kills nobody and moves no food, whatever comes of it.
+#[inline(always)]
+fn is_quiet(instruction: &Instr) -> bool
+    ensures { result ≡ is_quiet instruction.now }
+{
+    match *instruction {
+        Instr::Move { .. } | Instr::PickUp { .. } | Instr::Drop { .. } => false,
+        _ => true,
     }
 }
 
-// Takes a turn and pushes its lines.
+// Takes the turn of an ant that doesn't rest, if it is alive, and pushes its lines.
 #[inline(always)]
 fn push_turn<K: Sink>(
     ground: &mut ScoredWorld,
@@ -149,6 +172,7 @@ fn push_turn<K: Sink>(
 ) -> Result<(), Failed>
     requires fit { Fits (world_of ground.old) (minds_of brains) }
     requires id { id < ground.old.ids }
+    requires up { IsUp (world_of ground.old) id }
     requires place { stream.old.place + 1 < 2 ^ 63 }
     ensures text { Pushed (K.state sink.old) (K.state sink.new)
         (broken (turn_lines (minds_of brains.entry) stream.old.seed round (moment_from ground.old stream.old) id)) result }
@@ -162,92 +186,90 @@ fn push_turn<K: Sink>(
     let Some(standing) = ground.ant_of(id) else {
         return Ok(());
     };
-    if steps(ground, brains, standing) {
-        return push_step(ground, brains, stream, id, round, sink);
+    let ant = standing.ant;
+    if is_quiet(brains.of(ant.colour).instruction(ant.state)) {
+        let _deed = take_found_turn(ground, brains, stream, standing);
+        return Ok(());
     }
-    let before = ground.score();
-    let _deed = take_turn(ground, brains, stream, id);
-    let turn = TurnWords {
-        round,
-        actor: standing.ant,
-    };
-    push_score(turn, before, ground.score(), sink)
+    push_deed(ground, &brains, stream, id, round, sink)
 }
 
-// Takes the turn of an ant that is about to step ahead, or any, and pushes its lines. It stands alone, so that what it notes costs no other turn.
+// The same, of a turn that may kill or move food. It stands alone, so that what is noted costs no other turn,
+// and takes the brains lent, since a copy of them would be made in each.
 #[inline(never)]
-fn push_step<K: Sink>(
+fn push_deed<K: Sink>(
     ground: &mut ScoredWorld,
-    brains: Brains<'_>,
+    brains: &Brains<'_>,
     stream: &mut Stream,
     id: u32,
     round: u32,
     sink: &mut K,
 ) -> Result<(), Failed>
-    requires fit { Fits (world_of ground.old) (minds_of brains) }
+    requires fit { Fits (world_of ground.old) (minds_of brains.now) }
     requires id { id < ground.old.ids }
+    requires up { IsUp (world_of ground.old) id }
     requires place { stream.old.place + 1 < 2 ^ 63 }
     ensures text { Pushed (K.state sink.old) (K.state sink.new)
-        (broken (turn_lines (minds_of brains.entry) stream.old.seed round (moment_from ground.old stream.old) id)) result }
+        (broken (turn_lines (minds_of brains.now) stream.old.seed round (moment_from ground.old stream.old) id)) result }
     ensures world { world_of ground.new ≡ with_cells (world_of ground.old)
-        (turn (minds_of brains.entry) stream.old.seed (world_of ground.old) stream.old.place id).cells }
+        (turn (minds_of brains.now) stream.old.seed (world_of ground.old) stream.old.place id).cells }
     ensures stream { stream.new ≡ record stream.old {
-      place = stream.old.place + one_if (turn (minds_of brains.entry) stream.old.seed (world_of ground.old) stream.old.place id).drew;
+      place = stream.old.place + one_if (turn (minds_of brains.now) stream.old.seed (world_of ground.old) stream.old.place id).drew;
     } }
-    ensures fit { Fits (world_of ground.new) (minds_of brains.entry) }
+    ensures fit { Fits (world_of ground.new) (minds_of brains.now) }
 {
     let Some(standing) = ground.ant_of(id) else {
         return Ok(());
     };
     let before = ground.score();
+    let mut dead = ArrayVec::new();
+    let _deed = take_told_turn(ground, *brains, stream, standing, &mut dead);
     let turn = TurnWords {
         round,
         actor: standing.ant,
     };
-    let watch = watched(ground, brains, standing);
-    let deed = take_turn(ground, brains, stream, id);
-    push_deaths(turn, watch, &deed.killed, sink)?;
+    push_deaths(turn, &dead, sink)?;
     push_score(turn, before, ground.score(), sink)
 }
 
-// Pushes the lines of the killed, if any were watched.
-#[inline]
+// Pushes the lines of the killed, if there are any.
+#[inline(always)]
 fn push_deaths<K: Sink>(
     turn: TurnWords,
-    watch: Option<Watch>,
-    killed: &[u32],
+    dead: &[Option<PlacedAnt>],
     sink: &mut K,
 ) -> Result<(), Failed>
-    ensures { Pushed (K.state sink.old) (K.state sink.new) (watched_deaths turn.round turn.actor watch killed.now) result }
+    ensures { Pushed (K.state sink.old) (K.state sink.new) (flat_map (told_death turn.round turn.actor) dead.now) result }
 {
-    match watch {
-        Some(watch) => push_watched(turn, &watch, killed, sink),
-        None => Ok(()),
+    if dead.is_empty() {
+        return Ok(());
     }
+    push_each_death(turn, dead, sink)
 }
 
-// Pushes the lines of the killed, which were watched.
-fn push_watched<K: Sink>(
+// Pushes the lines of the killed.
+fn push_each_death<K: Sink>(
     turn: TurnWords,
-    watch: &Watch,
-    killed: &[u32],
+    dead: &[Option<PlacedAnt>],
     sink: &mut K,
 ) -> Result<(), Failed>
-    ensures { Pushed (K.state sink.old) (K.state sink.new)
-        (flat_map (watched_death turn.round turn.actor watch.now) killed.now) result }
+    ensures { Pushed (K.state sink.old) (K.state sink.new) (flat_map (told_death turn.round turn.actor) dead.now) result }
 {
-    for id in killed {
-        death(turn, watch, *id).push_to(sink)?;
+    for killed in dead {
+        death(turn, killed).push_to(sink)?;
     }
     Ok(())
 }
 
-// The words of the killed ant of this id.
-fn death(turn: TurnWords, watch: &Watch, id: u32) -> Option<DeathWords>
-    ensures { text_of_option (λ words. broken_death words.turn.round words.turn.actor words.killed) result ≡ watched_death turn.round turn.actor watch.now id }
+// The words of a killed ant.
+fn death(turn: TurnWords, killed: &Option<PlacedAnt>) -> Option<DeathWords>
+    ensures { text_of_option (λ words. broken_death words.turn.round words.turn.actor words.killed) result ≡ told_death turn.round turn.actor killed.now }
 {
-    let killed = watch.killed(id)?;
-    Some(DeathWords { turn, killed })
+    let killed = *killed;
+    Some(DeathWords {
+        turn,
+        killed: killed?,
+    })
 }
 
 // Pushes the line of the score, where it is another than before.

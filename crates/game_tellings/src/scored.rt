@@ -1,8 +1,9 @@
 // A world whose score is known at each time.
-ghost use Rattle.std.specs.Prelude.{◌≡◌, ◌+◌, ◌-◌, ◌≤◌};
+ghost use Rattle.std.specs.Prelude.{◌≡◌, ◌+◌, ◌-◌, ◌≤◌, take};
 ghost use Rattle.cell_world.specs.declared.ant.Colour.TheVariants.{Red, Black};
-ghost use Rattle.cell_world.specs.Grid.{IsWorld, world_of};
+ghost use Rattle.cell_world.specs.Grid.{world_of};
 ghost use Rattle.cell_world.specs.Limits.{most_weight};
+ghost use Rattle.cell_world.specs.Resting.{ActsListed, rested};
 ghost use Rattle.cell_world.specs.Score.{hill_food_in, score_of};
 
 use cell_world::{Ant, Cell, Colour, Ground, PlacedAnt, Score, World};
@@ -45,13 +46,25 @@ impl ScoredWorld {
         self.score
     }
 
-    // How many ids were ever made.
+    // The world as it is.
     #[inline]
-    pub(crate) fn ant_count(&self) -> u32
-        ensures ids { result ≡ self.now.ids }
-        ensures world { IsWorld self.now }
+    pub(crate) fn world(&self) -> &World
+        ensures { result.now ≡ self.now }
     {
-        self.world.ant_count()
+        &self.world
+    }
+
+    // Lets those of at most 64 ids that rest rest one turn less, and lists the others, as a world does.
+    #[inline]
+    pub(crate) fn rest_some(&mut self, from: u32, to: u32, acting: &mut [u16; 64]) -> usize
+        requires order { from ≤ to }
+        requires made { to ≤ self.old.ids }
+        requires few { to ≤ from + 64 }
+        ensures world { world_of self.new ≡ rested from to (world_of self.old) }
+        ensures listed { ActsListed (world_of self.old) from (to - from) (take result acting.new) }
+        ensures count { result ≤ to - from }
+    {
+        self.world.rest_some(from, to, acting)
     }
 }
 
@@ -61,12 +74,12 @@ impl Ground for ScoredWorld {
 
     ghost room = { λ _. 9 };
 
-    #[inline]
+    #[inline(always)]
     fn cell_at(&mut self, p: Pos) -> Cell {
         self.world.cell_at(p)
     }
 
-    #[inline]
+    #[inline(always)]
     fn place_of(&mut self, id: u32) -> Option<Pos> {
         self.world.place_of(id)
     }
@@ -74,19 +87,23 @@ impl Ground for ScoredWorld {
     #[inline]
     fn set(&mut self, p: Pos, cell: Cell) {
         let before = self.world.cell(p);
-        self.score = Score {
-            red: food_after(self.score.red, &before, &cell, Colour::Red),
-            black: food_after(self.score.black, &before, &cell, Colour::Black),
+        self.score = if before.food == cell.food {
+            self.score
+        } else {
+            Score {
+                red: food_after(self.score.red, &before, &cell, Colour::Red),
+                black: food_after(self.score.black, &before, &cell, Colour::Black),
+            }
         };
         self.world.set(p, cell);
     }
 
-    #[inline]
+    #[inline(always)]
     fn ant_of(&mut self, id: u32) -> Option<PlacedAnt> {
         self.world.ant_of(id)
     }
 
-    #[inline]
+    #[inline(always)]
     fn set_mind(&mut self, p: Pos, ant: Ant) {
         self.world.set_mind(p, ant);
     }

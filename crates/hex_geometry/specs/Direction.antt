@@ -1,5 +1,5 @@
 -- Directions by number, and turning (the task's geometry).
-use Rattle.std.specs.Prelude.{ℕ, zero, suc, ◌+◌, ◌%◌, List, [], ◌∷◌}
+use Rattle.std.specs.Prelude.{ℕ, ◌+◌, ◌%◌, List, [], ◌∷◌, slice_index_or}
 use Rattle.hex_geometry.specs.declared.direction.Dir.{Dir}
 use Rattle.hex_geometry.specs.declared.direction.Dir.TheVariants.{East, SouthEast, SouthWest, West, NorthWest, NorthEast}
 use Rattle.hex_geometry.specs.declared.direction.Side.{Side}
@@ -14,27 +14,18 @@ number_of West = 3
 number_of NorthWest = 4
 number_of NorthEast = 5
 
--- the direction of a number below 6
+-- the direction of a number below 6: of 0 to 4 these, and of 5 the last
 abbrev pub dir_of : ℕ → Dir
-dir_of zero = East
-dir_of (suc zero) = SouthEast
-dir_of (suc (suc zero)) = SouthWest
-dir_of (suc (suc (suc zero))) = West
-dir_of (suc (suc (suc (suc zero)))) = NorthWest
-dir_of (suc (suc (suc (suc (suc _))))) = NorthEast
+dir_of number = slice_index_or (East ∷ SouthEast ∷ SouthWest ∷ West ∷ NorthWest ∷ []) number NorthEast
 
 -- the six directions, by number
 unfoldable pub directions : List Dir
 directions = East ∷ SouthEast ∷ SouthWest ∷ West ∷ NorthWest ∷ NorthEast ∷ []
 
--- what a turn to a side adds to the number of a direction, modulo 6
-abbrev pub turn_of : Side → ℕ
-turn_of Left = 5
-turn_of Right = 1
-
--- the direction after a turn to a side
+-- the direction after a turn to a side: the number rises by 1 to the right, and falls by 1 to the left, modulo 6
 unfoldable pub turned_by : Dir → Side → Dir
-turned_by d side = dir_of ((number_of d + turn_of side) % 6)
+turned_by d Left = dir_of ((number_of d + 5) % 6)
+turned_by d Right = dir_of ((number_of d + 1) % 6)
 
 -- the opposite direction, half a turn away
 unfoldable pub opposite : Dir → Dir

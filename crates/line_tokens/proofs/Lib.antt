@@ -8,5 +8,6 @@ pub mod JudgementLemmas
 -- Faults of lines and of texts.
 pub mod LineFaults
 pub mod LineLemmas
+pub mod LinesByTokens
 -- Worked values.
 pub mod Worked

@@ -8,7 +8,7 @@ use Rattle.std.proofs.lemmas.Fmt.{digits_decimal, decimal_nonempty}
 use Rattle.ant_base.specs.Lines.{is_lf, has_no_lf}
 use Rattle.ant_base.proofs.Digits.{decimal_value-decimal, all_ascii_digits-IsNumeralModel}
 use Rattle.ant_base.proofs.Linewise.{has_no_lf-append}
-use Rattle.line_tokens.specs.Tokens.{has_byte, tokens_of}
+use Rattle.line_tokens.specs.Tokens.{has_any, tokens_of}
 use Rattle.line_tokens.specs.Inner.Scan.{is_token_byte}
 use Rattle.line_tokens.specs.Fields.{LineField, SpellsAll, field_text, further_text, line_text}
 use Rattle.line_tokens.specs.Fields.LineField.{Word, Number}
@@ -21,7 +21,7 @@ is_plain_byte byte = is_token_byte byte && not (is_lf byte)
 -- a text that is one token
 pub record IsToken (text : List ℕ) : Type 0 where
   pub bytes : list_all is_plain_byte text ≡ true
-  pub some : has_byte text ≡ true
+  pub some : has_any text ≡ true
 
 -- a field whose text is one token that spells it
 abbrev pub IsPrinted : LineField → Type 0
@@ -41,7 +41,7 @@ digits_token (byte ∷ text) all =
     let parts = and_parts (is_ascii_digit byte) (all_ascii_digits text) all in
     and_from (is_plain_byte byte) (list_all is_plain_byte text) (token_byte byte parts.0) (digits_token text parts.1)
 
-nonempty : (text : List ℕ) → 0 < length text → has_byte text ≡ true
+nonempty : (text : List ℕ) → 0 < length text → has_any text ≡ true
 nonempty [] some = absurd (omega arith)
 nonempty (byte ∷ text) some = refl
 
@@ -97,15 +97,15 @@ pieces-body : (field : LineField) (fields : List LineField) → AllByRecursion I
 pieces-body field fields all =
     pieces-front (field_text field) (further_body fields) (field_token field all.0).bytes ∙ ap (onto_front (field_text field)) (pieces-further fields all.1) ∙ onto_front-empty (field_text field) (map field_text fields)
 
-keep_all : (fields : List LineField) → AllByRecursion IsPrinted fields → filter has_byte (map field_text fields) ≡ map field_text fields
+keep_all : (fields : List LineField) → AllByRecursion IsPrinted fields → filter has_any (map field_text fields) ≡ map field_text fields
 keep_all [] all = refl
 keep_all (field ∷ fields) all =
-    ap (λ b. cond b (field_text field ∷ filter has_byte (map field_text fields)) (filter has_byte (map field_text fields))) (field_token field all.0).some
+    ap (λ b. cond b (field_text field ∷ filter has_any (map field_text fields)) (filter has_any (map field_text fields))) (field_token field all.0).some
     ∙ ap (λ ts. field_text field ∷ ts) (keep_all fields all.1)
 
 -- the tokens of a line that was printed
 pub tokens_of-body : (field : LineField) (fields : List LineField) → AllByRecursion IsPrinted (field ∷ fields) → tokens_of (body (field ∷ fields)) ≡ map field_text (field ∷ fields)
-tokens_of-body field fields all = ap (filter has_byte) (pieces-body field fields all) ∙ keep_all (field ∷ fields) all
+tokens_of-body field fields all = ap (filter has_any) (pieces-body field fields all) ∙ keep_all (field ∷ fields) all
 
 no_lf : (bytes : List ℕ) → list_all is_plain_byte bytes ≡ true → has_no_lf bytes ≡ true
 no_lf [] all = refl
@@ -128,5 +128,5 @@ spelled_again (Word word ∷ fields) all = (refl, spelled_again fields all.1)
 spelled_again (Number n ∷ fields) all = (decimal_value-decimal n all.0, spelled_again fields all.1)
 
 -- the words are tokens
-pub token : (word : List ℕ) → list_all is_plain_byte word ≡ true → has_byte word ≡ true → IsToken word
+pub token : (word : List ℕ) → list_all is_plain_byte word ≡ true → has_any word ≡ true → IsToken word
 token word bytes some = record { bytes = bytes; some = some }

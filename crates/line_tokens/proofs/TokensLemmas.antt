@@ -3,7 +3,7 @@ use Rattle.std.proofs.Common.{◌≡◌, ◌+◌, ℕ, suc, Bool, true, false, n
 use Rattle.std.specs.List.{prefix_len, slice_split, onto_first}
 use Rattle.std.proofs.lemmas.Bool.{or_cases, or_parts, not-true, not-false, false≢true}
 use Rattle.ant_base.specs.Lines.{is_separator, after_separators}
-use Rattle.line_tokens.specs.Tokens.{begins_comment, before_comment, has_byte, tokens_of, has_token}
+use Rattle.line_tokens.specs.Tokens.{begins_comment, before_comment, has_any, tokens_of, has_token}
 use Rattle.line_tokens.specs.Inner.Scan.{is_token_byte, begins_token}
 
 -- a separator is one of three bytes
@@ -92,16 +92,16 @@ cut (byte ∷ line) = go (is_token_byte byte) refl (cut line)
     go false e c = let ended = pieces-ended (byte ∷ line) e in record { others = ended.0; whole = ended.1; left = ended.1 }
 
 -- a token that is cut off is the first one
-tokens_of-cut : (line token rest : List ℕ) → IsCut line token rest → has_byte token ≡ true → tokens_of line ≡ token ∷ tokens_of rest
+tokens_of-cut : (line token rest : List ℕ) → IsCut line token rest → has_any token ≡ true → tokens_of line ≡ token ∷ tokens_of rest
 tokens_of-cut line token rest c some =
-    ap (filter has_byte) c.whole ∙ ap (λ b. cond b (token ∷ filter has_byte c.others) (filter has_byte c.others)) some ∙ ap (λ ts. token ∷ ts) (sym (ap (filter has_byte) c.left))
+    ap (filter has_any) c.whole ∙ ap (λ b. cond b (token ∷ filter has_any c.others) (filter has_any c.others)) some ∙ ap (λ ts. token ∷ ts) (sym (ap (filter has_any) c.left))
 
 -- a token is cut off where one stands in front
-has_byte-token : (line : List ℕ) → has_byte (take (prefix_len is_token_byte line) line) ≡ begins_token line
-has_byte-token [] = refl
-has_byte-token (byte ∷ line) = go (is_token_byte byte)
+has_any-token : (line : List ℕ) → has_any (take (prefix_len is_token_byte line) line) ≡ begins_token line
+has_any-token [] = refl
+has_any-token (byte ∷ line) = go (is_token_byte byte)
   where
-    go : (b : Bool) → has_byte (take (cond b (1 + prefix_len is_token_byte line) 0) (byte ∷ line)) ≡ b
+    go : (b : Bool) → has_any (take (cond b (1 + prefix_len is_token_byte line) 0) (byte ∷ line)) ≡ b
     go true = rw one-add refl
     go false = refl
 
@@ -110,7 +110,7 @@ has_token-past : (line : List ℕ) → begins_separator line ≡ false → begin
 has_token-past line none = go (begins_token line) refl
   where
     go : (b : Bool) → begins_token line ≡ b → begins_token line ≡ has_token (tokens_of line)
-    go true e = e ∙ sym (ap has_token (tokens_of-cut line (take (prefix_len is_token_byte line) line) (drop (prefix_len is_token_byte line) line) (cut line) (has_byte-token line ∙ e)))
+    go true e = e ∙ sym (ap has_token (tokens_of-cut line (take (prefix_len is_token_byte line) line) (drop (prefix_len is_token_byte line) line) (cut line) (has_any-token line ∙ e)))
     go false e = e ∙ sym (ap has_token (tokens_of-ended line e none))
 
 -- what the next token and the rest are to a line
@@ -119,23 +119,23 @@ pub record IsNext (line token rest : List ℕ) : Type 0 where
   pub ended : eqb (length token) 0 ≡ true → tokens_of line ≡ []
   pub left : eqb (length token) 0 ≡ true → tokens_of rest ≡ []
 
-has_byte-length : (token : List ℕ) (b : Bool) → eqb (length token) 0 ≡ not b → has_byte token ≡ b
-has_byte-length [] true e = sym e
-has_byte-length (byte ∷ token) false e = let z : suc (length token) ≡ 0 = eqb-true (suc (length token)) 0 e in absurd (omega arith)
-has_byte-length it that e = refl
+has_any-length : (token : List ℕ) (b : Bool) → eqb (length token) 0 ≡ not b → has_any token ≡ b
+has_any-length [] true e = sym e
+has_any-length (byte ∷ token) false e = let z : suc (length token) ≡ 0 = eqb-true (suc (length token)) 0 e in absurd (omega arith)
+has_any-length it that e = refl
 
 -- a token of no byte is no cut
-cut_nothing : (line token rest : List ℕ) → IsCut line token rest → has_byte token ≡ false → tokens_of rest ≡ tokens_of line
+cut_nothing : (line token rest : List ℕ) → IsCut line token rest → has_any token ≡ false → tokens_of rest ≡ tokens_of line
 cut_nothing line token rest c none =
-    ap (filter has_byte) c.left ∙ sym (ap (filter has_byte) c.whole ∙ ap (λ b. cond b (token ∷ filter has_byte c.others) (filter has_byte c.others)) none)
+    ap (filter has_any) c.left ∙ sym (ap (filter has_any) c.whole ∙ ap (λ b. cond b (token ∷ filter has_any c.others) (filter has_any c.others)) none)
 
 -- the token behind the separators in front
 pub next_of : (line start token rest : List ℕ) (n : ℕ) → start ≡ after_separators line → n ≡ prefix_len is_token_byte start → token ≡ take n start → rest ≡ drop n start → IsNext line token rest
 next_of line start token rest n start_is n_is token_is rest_is =
     record {
-      found = λ some. here ∙ tokens_of-cut start token rest c (has_byte-length token true some);
+      found = λ some. here ∙ tokens_of-cut start token rest c (has_any-length token true some);
       ended = λ none. here ∙ tokens_of-ended start (bare none) no_separator;
-      left = λ none. cut_nothing start token rest c (has_byte-length token false none) ∙ tokens_of-ended start (bare none) no_separator;
+      left = λ none. cut_nothing start token rest c (has_any-length token false none) ∙ tokens_of-ended start (bare none) no_separator;
     }
   where
     here : tokens_of line ≡ tokens_of start
@@ -151,7 +151,7 @@ next_of line start token rest n start_is n_is token_is rest_is =
     c = subst (λ t. IsCut start t rest) (sym token_of_start) (subst (λ r. IsCut start (take (prefix_len is_token_byte start) start) r) (sym (rest_is ∙ ap (λ k. drop k start) n_is)) (cut start))
 
     bare : eqb (length token) 0 ≡ true → begins_token start ≡ false
-    bare none = sym (has_byte-token start) ∙ ap has_byte (sym token_of_start) ∙ has_byte-length token false none
+    bare none = sym (has_any-token start) ∙ ap has_any (sym token_of_start) ∙ has_any-length token false none
 
 -- whether there is a next token
 pub has_next_of : (line : List ℕ) → begins_token (after_separators line) ≡ has_token (tokens_of line)

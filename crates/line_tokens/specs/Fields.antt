@@ -1,5 +1,6 @@
 -- The fields of a line: which tokens spell them, and the text that is printed of them (this project's own).
 use Rattle.std.specs.Prelude.{◌≡◌, ℕ, List, [], ◌∷◌, find, Option, Some, codes, decimal}
+use Rattle.std.specs.List.{AllZip}
 use Rattle.std.specs.Str.{str_eq_ignore_ascii_case}
 use Rattle.ant_base.specs.Layout.{◌+++◌}
 use Rattle.ant_base.specs.Number.{decimal_value}
@@ -21,10 +22,7 @@ Spells (Number n) token = decimal_value token ≡ Some n
 
 -- the tokens spell the fields, one by one
 abbrev pub SpellsAll : List LineField → List (List ℕ) → Type 0
-SpellsAll [] [] = Unit {0}
-SpellsAll [] (token ∷ tokens) = ⊥
-SpellsAll (field ∷ fields) [] = ⊥
-SpellsAll (field ∷ fields) (token ∷ tokens) = Spells field token × SpellsAll fields tokens
+SpellsAll fields tokens = AllZip Spells fields tokens
 
 -- the text of one token
 abbrev pub field_text : LineField → List ℕ

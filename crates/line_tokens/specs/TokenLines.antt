@@ -1,5 +1,6 @@
 -- The lines of a text that have a token, and whose they are (the task's neurology, as this project spells its files).
 use Rattle.std.specs.Prelude.{ℕ, ◌+◌, List, [], ◌∷◌}
+use Rattle.std.specs.List.{AllZip}
 use Rattle.ant_base.specs.Lines.{lines_of}
 use Rattle.line_tokens.specs.Tokens.{tokens_of}
 
@@ -24,7 +25,4 @@ lines_with_tokens text = token_lines 1 (lines_of text)
 
 -- the lines are those of the items of a list, one to one and in order; Says tells of which item a line's tokens are
 abbrev pub AreLinesOf : {A : Type 0} → (List (List ℕ) → A → Type 0) → List TokenLine → List A → Type 0
-AreLinesOf Says [] [] = Unit {0}
-AreLinesOf Says [] (item ∷ list) = ⊥
-AreLinesOf Says (line ∷ lines) [] = ⊥
-AreLinesOf Says (line ∷ lines) (item ∷ list) = Says line.tokens item × AreLinesOf Says lines list
+AreLinesOf Says lines list = AllZip (λ line item. Says line.tokens item) lines list

@@ -7,24 +7,23 @@ use Rattle.ant_base.specs.Lines.{is_separator}
 abbrev pub begins_comment : ℕ → Bool
 begins_comment byte = byte == 59
 
--- what stands before the comment of a line
+-- what stands before the comment of a line, which begins with `;`, the byte 59
 abbrev pub before_comment : List ℕ → List ℕ
 before_comment [] = []
-before_comment (byte ∷ line) = if begins_comment byte then [] else byte ∷ before_comment line
+before_comment (byte ∷ line) = if byte == 59 then [] else byte ∷ before_comment line
 
--- whether a piece has a byte
-abbrev pub has_byte : List ℕ → Bool
-has_byte [] = false
-has_byte (byte ∷ piece) = true
+-- whether a list has a value: a byte, or a token
+abbrev pub has_any : {A : Type 0} → List A → Bool
+has_any [] = false
+has_any (value ∷ values) = true
 
 -- the tokens of a line: the pieces between separators of what stands before its comment
 abbrev pub tokens_of : List ℕ → List (List ℕ)
-tokens_of line = filter has_byte (slice_split is_separator (before_comment line))
+tokens_of line = filter has_any (slice_split is_separator (before_comment line))
 
 -- whether there is a token
 abbrev pub has_token : List (List ℕ) → Bool
-has_token [] = false
-has_token (token ∷ tokens) = true
+has_token tokens = has_any tokens
 
 -- whether a byte is none of tab, LF, CR and 32 to 126
 abbrev pub is_bad_byte : ℕ → Bool

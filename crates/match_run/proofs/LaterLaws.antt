@@ -43,7 +43,7 @@ module _ (minds : Minds) (seed : ℕ) (chosen : ℕ → Bool) (w : World) where
 -- the text of a run without its counts: what it is up to a round, and then the rest
 pub run_text-later : (minds : Minds) (seed : ℕ) (w : World) (round rounds : ℕ) (chosen : ℕ → Bool) → round ≤ rounds → run_text minds seed rounds chosen w
     ≡ seed_text seed ++ (dumps_text minds seed chosen w (round + 1) ++ plain_later_text minds seed (after_rounds minds seed (start_of w) round) round rounds chosen)
-unfolding run_text plain_later_text world_after
+unfolding run_text dumps_text plain_later_text world_after
 run_text-later minds seed w round rounds chosen within =
     let more : ℕ = rounds - round in
     let whole : rounds ≡ round + more = omega (arith, within) in

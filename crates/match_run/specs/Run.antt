@@ -3,7 +3,7 @@ use Rattle.std.specs.Prelude.{ℕ, ◌+◌, Bool, List, [], if◌then◌else◌,
 use Rattle.ant_base.specs.Layout.{numbered, ◌+++◌}
 use Rattle.ant_base.specs.declared.sink.Failed.{Failed}
 use Rattle.ant_turn.specs.Minds.{Minds}
-use Rattle.ant_turn.specs.Rounds.{after_rounds, start_of}
+use Rattle.ant_turn.specs.Rounds.{after_rounds}
 use Rattle.cell_world.specs.Score.{score_of}
 use Rattle.cell_world.specs.declared.score.Score.{Score}
 use Rattle.cell_world.specs.World.{World}
@@ -15,7 +15,7 @@ most_rounds = 1000000
 
 -- the world after a round of a game that starts in w (the task's game play)
 unfoldable pub world_after : Minds → ℕ → World → ℕ → World
-world_after minds seed w round = (after_rounds minds seed (start_of w) round).world
+world_after minds seed w round = (after_rounds minds seed (record { world = w; place = 0 }) round).world
 
 -- the dump after a round, where it is chosen
 abbrev pub chosen_dump : (ℕ → Bool) → World → ℕ → List ℕ
@@ -29,7 +29,7 @@ dumps_text minds seed chosen w n = numbered (λ round. chosen_dump chosen (world
 unfoldable pub run_text : Minds → ℕ → ℕ → (ℕ → Bool) → World → List ℕ
 run_text minds seed rounds chosen w =
     seed_text seed
-    +++ dumps_text minds seed chosen w (rounds + 1)
+    +++ numbered (λ round. if chosen round then dump_text (world_after minds seed w round) round else []) (rounds + 1)
     +++ score_text (score_of (world_after minds seed w rounds))
 
 -- how a run ended, whatever its score

@@ -4,7 +4,7 @@ use Rattle.ant_base.specs.Fetched.{Fetched}
 use Rattle.ant_turn.specs.Minds.{Fits, Minds, contest_minds}
 use Rattle.ant_turn.proofs.FitLemmas.{Fits-opening}
 use Rattle.brain_minimise.specs.Minimised.{IsMinimised}
-use Rattle.brain_minimise.proofs.MinimisedGames.{Carries-minimised, score-minimised}
+use Rattle.brain_minimise.proofs.MinimisedGames.{Carries-minimised, score_minimised}
 use Rattle.brain_minimise.proofs.Ranks.{zero-number}
 use Rattle.brain_read.specs.declared.instr.Instr.{Instr}
 use Rattle.cell_world.specs.declared.ant.Colour.TheVariants.{Red, Black}
@@ -42,5 +42,5 @@ pub score-of-both : (grid : Grid) (old new : List Instr) (numbers : List (Option
 unfolding world_after
 score-of-both grid old new numbers seed rounds opening minimised =
     subst (λ (it : Grid). score_of (world_after (contest_minds new new) seed (world_of it) rounds) ≡ score_of (world_after (contest_minds old old) seed (world_of it) rounds)) (sym opening.is)
-    (score-minimised (contest_minds new old) Black new numbers seed grid.width grid.height opening.kinds rounds minimised
-    ∙ score-minimised (contest_minds old old) Red new numbers seed grid.width grid.height opening.kinds rounds minimised)
+    (score_minimised (contest_minds new old) Black new numbers seed grid.width grid.height opening.kinds rounds minimised
+    ∙ score_minimised (contest_minds old old) Red new numbers seed grid.width grid.height opening.kinds rounds minimised)

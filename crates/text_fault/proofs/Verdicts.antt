@@ -3,11 +3,11 @@ use Rattle.std.proofs.Common.{◌≡◌, ◌⊎◌, inl, inr, ℕ, List, Result,
 use Rattle.std.proofs.lemmas.Bool.{cases_lt}
 use Rattle.ant_asm.proofs.Expansion.{no-fault}
 use Rattle.ant_asm.proofs.HasAssembled.{one-reading, some-reading}
-use Rattle.ant_asm.proofs.LabelsRead.{has-labels, has-lines, labels-fault, one-labels, one-lines}
 use Rattle.ant_asm.proofs.LineLemmas.{lines_decide}
+use Rattle.ant_asm.proofs.SourceRead.{has-source, one-source, source-fault}
 use Rattle.ant_asm.proofs.TextLemmas as program_text
-use Rattle.ant_asm.specs.Program.{Items}
-use Rattle.ant_asm.specs.Text.{IsAsmFault, IsAsmText}
+use Rattle.ant_asm.specs.Source.{IsSourceOf}
+use Rattle.ant_asm.specs.Text.{IsAsmFault}
 use Rattle.brain_read.proofs.FaultyLemmas as brain_text
 use Rattle.brain_read.specs.Grammar.{IsBrainText}
 use Rattle.brain_read.specs.Faulty.{IsBrainFault}
@@ -22,8 +22,7 @@ use Rattle.world_read.specs.Opened.{OpensAs}
 use Rattle.world_read.specs.declared.fault.WorldFault.{WorldFault}
 use Rattle.text_fault.specs.declared.fault.TextFault.{TextFault}
 use Rattle.text_fault.specs.declared.fault.TextFault.TheVariants.{World, Brain, Labelled, Save, AlreadyAt}
-use Rattle.text_fault.specs.declared.source.Source.{Source}
-use Rattle.text_fault.specs.Opens.{IsProgramOf, IsSaveWithin, IsSourceOf}
+use Rattle.text_fault.specs.Opens.{IsProgramOf, IsSaveWithin}
 use Rattle.text_fault.specs.Refusals.{IsNoBrain, IsNoProgram, IsNoSave, IsReadersFault, IsNoWorld, IsPast}
 use Rattle.text_fault.specs.Verdicts.{EveryTextHasOneVerdict, HasOneVerdict}
 
@@ -56,14 +55,10 @@ program_verdict text = by_reader Labelled IsAsmFault IsProgramOf text
     (λ a b first second. let same = one-reading text a.brain b.brain a.places b.places first second in λ i. record { brain = same.0 i; places = same.1 i })
     (program_text.one_fault lines_decide text) (λ made why is wrong. no-fault text made.brain made.places is why wrong)
 
-some_source : (text : List ℕ) (main : Items) → IsAsmText text main → (source : Source) × IsSourceOf text source
-some_source text main is = let labels = has-labels text main is in let lines = has-lines text main is in (record { labels = labels.0; lines = lines.0 }, (labels.1, lines.1))
-
 pub source_verdict : (text : List ℕ) → HasOneVerdict IsSourceOf IsNoProgram text
 source_verdict text = by_reader Labelled IsAsmFault IsSourceOf text
-    (elim (some-reading text) [ inl is ↦ inl (some_source text is.2.main is.2.is) | inr wrong ↦ inr wrong ])
-    (λ a b first second. let labels = one-labels text a.labels b.labels first.0 second.0 in let lines = one-lines text a.lines b.lines first.1 second.1 in λ i. record { labels = labels i; lines = lines i })
-    (program_text.one_fault lines_decide text) (λ source why are wrong. labels-fault text source.labels are.0 why wrong)
+    (elim (some-reading text) [ inl is ↦ inl (has-source text is.2.main is.2.is) | inr wrong ↦ inr wrong ])
+    (one-source text) (program_text.one_fault lines_decide text) (λ source why is wrong. source-fault text source is why wrong)
 
 -- of a save however many rounds are done
 pub any_save_verdict : (text : List ℕ) → HasOneVerdict IsSaveText (IsReadersFault Save IsSaveFault) text

@@ -1,8 +1,6 @@
 -- What the opening of a text answers (this project's own).
 use Rattle.std.specs.Prelude.{ℕ, ◌≤◌, List, length, Result, Ok, Err}
 use Rattle.ant_asm.specs.Answers.{IsAssembledText}
-use Rattle.ant_asm.specs.Labels.{AreLabelsOf}
-use Rattle.ant_asm.specs.StateLines.{AreStateLinesOf}
 use Rattle.ant_asm.specs.declared.assembly.Assembled.{Assembled}
 use Rattle.ant_base.specs.Shelf.{longest}
 use Rattle.brain_read.specs.Grammar.{IsBrainText}
@@ -11,7 +9,6 @@ use Rattle.cell_world.specs.Grid.{Grid}
 use Rattle.match_save.specs.Saved.{IsSaveText, SavedValue}
 use Rattle.world_read.specs.Opened.{OpensAs}
 use Rattle.text_fault.specs.declared.fault.TextFault.{TextFault}
-use Rattle.text_fault.specs.declared.source.Source.{Source}
 use Rattle.text_fault.specs.declared.stop.TextStop.{TextStop}
 use Rattle.text_fault.specs.declared.stop.TextStop.TheVariants.{OutOfMemory, Refused}
 use Rattle.text_fault.specs.Refusals.{IsRefusal}
@@ -31,10 +28,6 @@ GivesBrain = Gives IsBrainText
 -- a text is a labelled program's that becomes this brain, with these places
 abbrev pub IsProgramOf : List ℕ → Assembled → Type 0
 IsProgramOf text made = IsAssembledText text made.brain made.places
-
--- a text is a labelled program's whose labels and states stand there
-abbrev pub IsSourceOf : List ℕ → Source → Type 0
-IsSourceOf text source = AreLabelsOf text source.labels × AreStateLinesOf text source.lines
 
 -- a text is that of this save, of which at most so many rounds are done
 abbrev pub IsSaveWithin : ℕ → List ℕ → SavedValue → Type 0

@@ -1,9 +1,10 @@
 -- That each text is read in one way, or refused in one way (this project's own).
 use Rattle.std.specs.Prelude.{◌≡◌, ◌⊎◌, ℕ, List}
+use Rattle.ant_asm.specs.Source.{IsSourceOf}
 use Rattle.brain_read.specs.Grammar.{IsBrainText}
 use Rattle.world_read.specs.Opened.{OpensAs}
 use Rattle.text_fault.specs.declared.fault.TextFault.{TextFault}
-use Rattle.text_fault.specs.Opens.{IsProgramOf, IsSaveWithin, IsSourceOf}
+use Rattle.text_fault.specs.Opens.{IsProgramOf, IsSaveWithin}
 use Rattle.text_fault.specs.Refusals.{IsNoBrain, IsNoProgram, IsNoSave, IsNoWorld}
 
 -- a text has exactly one value, or exactly one fault, and never both

@@ -8,11 +8,9 @@
 mod fault;
 mod laws;
 mod open;
-mod source;
 mod stop;
 
 pub use fault::TextFault;
 pub use laws::every_text_has_one_verdict;
 pub use open::{open_brain, open_program, open_save, open_source, open_world};
-pub use source::Source;
 pub use stop::TextStop;

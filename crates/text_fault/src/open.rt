@@ -1,20 +1,17 @@
 // Texts that are opened.
 ghost use Rattle.std.specs.Prelude.{◌≡◌, ◌<◌, ◌≤◌, IfErr, IfOk, length};
-ghost use Rattle.ant_asm.specs.Text.{IsAsmFault};
-ghost use Rattle.ant_asm.specs.declared.fault.AsmFault.TheVariants.{OutOfMemory};
-ghost use Rattle.ant_base.specs.Answers.{IsFaultOr};
+ghost use Rattle.ant_asm.specs.Source.{IsSourceOf};
 ghost use Rattle.ant_base.specs.Shelf.{longest};
 ghost use Rattle.brain_read.specs.Grammar.{IsBrainText};
 ghost use Rattle.world_read.specs.Opened.{IsOpeningWorld, OpensAs};
-ghost use Rattle.text_fault.specs.Opens.{IsProgramOf, IsSaveWithin, IsSourceOf, Opens};
+ghost use Rattle.text_fault.specs.Opens.{IsProgramOf, IsSaveWithin, Opens};
 ghost use Rattle.text_fault.specs.Refusals.{IsNoBrain, IsNoProgram, IsNoSave, IsNoWorld};
 ghost use Rattle.text_fault.specs.declared.fault.TextFault.TheVariants.{TooLong};
 ghost use Rattle.text_fault.specs.declared.stop.TextStop.TheVariants.{Refused};
 
 use crate::fault::TextFault;
-use crate::source::Source;
 use crate::stop::TextStop;
-use ant_asm::{AsmFault, Assembled, assemble, read_labels, read_state_lines};
+use ant_asm::{AsmFault, Assembled, Source, assemble, read_source};
 use ant_base::LONGEST;
 use brain_read::{Brain, BrainFault, read_brain};
 use cell_world::World;
@@ -80,17 +77,6 @@ pub fn open_source(alloc: Global, text: &[u8]) -> Result<Source, TextStop>
         Err(AsmFault::OutOfMemory) => Err(TextStop::OutOfMemory),
         Err(fault) => Err(TextStop::Refused(TextFault::Labelled(fault))),
     }
-}
-
-// The labels of a program and the lines of its states, each read of the whole text.
-fn read_source(alloc: Global, text: &[u8]) -> Result<Source, AsmFault>
-    requires { length text.now ≤ longest }
-    ensures source { IfOk result (IsSourceOf text.now) }
-    ensures fault { IfErr result (IsFaultOr OutOfMemory (IsAsmFault text.now)) }
-{
-    let labels = read_labels(alloc, text)?;
-    let lines = read_state_lines(alloc, text)?;
-    Ok(Source { labels, lines })
 }
 
 /// The save of a text, where at most so many of its rounds are done. Lines of a fault are counted from 1; a save of which more rounds are done

@@ -27,6 +27,7 @@ pub struct Played {
 }
 
 // All games, world by world.
+#[tactic(auto, using(crate::proofs::GamesLemmas::all_more, crate::proofs::GamesLemmas::worlds_all))]
 pub fn games_of(alloc: Global, players: u32, worlds: u32) -> Result<Vec<Pairing>, OutOfMemory>
     ensures { IfOk result (λ games. games.items ≡ games_of players worlds) }
 {
@@ -47,6 +48,7 @@ pub fn games_on(alloc: Global, players: u32, world: u32) -> Result<Vec<Pairing>,
 }
 
 // Adds the games on one world.
+#[tactic(auto, using(crate::proofs::GamesLemmas::all_more, crate::proofs::GamesLemmas::players_all))]
 fn add_world(games: &mut Vec<Pairing>, players: u32, world: u32) -> Result<(), OutOfMemory>
     ensures { IfOk result (λ _. games.new.items ≡ games.old.items ++ games_on players world) }
 {
@@ -57,6 +59,7 @@ fn add_world(games: &mut Vec<Pairing>, players: u32, world: u32) -> Result<(), O
 }
 
 // Adds the games on one world of a player with those of a higher number.
+#[tactic(auto, using(crate::proofs::GamesLemmas::pairs_none, crate::proofs::GamesLemmas::pairs_more, crate::proofs::GamesLemmas::pairs_all))]
 fn add_pairs(
     games: &mut Vec<Pairing>,
     players: u32,

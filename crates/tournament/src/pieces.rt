@@ -41,6 +41,7 @@ impl Piece {
 }
 
 // Adds these games with their scores, up to the first that is refused.
+#[tactic(auto, using(crate::proofs::PiecesLemmas::played_push))]
 pub fn add_played<F: Referee>(
     alloc: Global,
     referee: &F,
@@ -76,6 +77,7 @@ pub fn deal(alloc: Global, games: &[Pairing], workers: usize) -> Result<Vec<Piec
 }
 
 // Adds the piece of these games, if there are any.
+#[tactic(auto, using(crate::proofs::PiecesLemmas::dealt_push, crate::proofs::PiecesLemmas::nothing_more))]
 fn add_piece(pieces: &mut Vec<Piece>, alloc: Global, games: &[Pairing]) -> Result<(), OutOfMemory>
     ensures games { IfOk result (λ _. dealt_games pieces.new.items ≡ dealt_games pieces.old.items ++ games.now) }
     ensures fresh { OnOk result (All (λ piece. piece.played.items ≡ []) pieces.old.items → All (λ piece. piece.played.items ≡ []) pieces.new.items) }

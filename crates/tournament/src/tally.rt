@@ -23,6 +23,7 @@ pub fn standing_of(alloc: Global, players: u32, games: &[Played]) -> Result<Stan
 }
 
 // The players' lines, by player number.
+#[tactic(auto, using(crate::proofs::StandingLemmas::lines_more))]
 fn lines_of(alloc: Global, players: u32, games: &[Played]) -> Result<Vec<Line>, OutOfMemory>
     requires few { length games.now < 2 ^ 30 }
     ensures { IfOk result (λ lines. lines.items ≡ map (line_of games.now) (below players)) }

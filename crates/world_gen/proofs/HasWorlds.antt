@@ -32,6 +32,7 @@ use Rattle.world_gen.specs.declared.shape.Shape.{Shape}
 use Rattle.world_gen.specs.declared.spot.Figure.{Figure}
 use Rattle.world_gen.specs.declared.spot.Figure.TheVariants.{Hill, Rock, Blob}
 use Rattle.world_gen.specs.declared.spot.Spot.{Spot}
+use Rattle.cell_world.proofs.Rims.{rim_rock}
 use Rattle.world_gen.proofs.Balls.{ball_has}
 use Rattle.world_gen.proofs.Bares.{bare_blocked_length}
 use Rattle.world_gen.proofs.Follows.{goes_as, goes_fits}
@@ -182,7 +183,7 @@ generated seed shape kinds is made =
           tall = is.tall;
           low = is.low;
           full = made.painted.full;
-          rim = λ p inside clear. elim (dec_inner shape.width shape.height p) [
+          rim = rim_rock shape.width shape.height kinds λ p inside clear. elim (dec_inner shape.width shape.height p) [
             | yes inner ↦ inner
             | no never ↦ absurd (false≢true (sym clear ∙ ap is_rock (made.painted.rim p inside never)))
           ];

@@ -9,6 +9,7 @@ use Rattle.cell_world.specs.Opening.{IsPlan, hill_count}
 use Rattle.world_read.specs.declared.fault.WorldFault.TheVariants.{BadWidth, BadHeight, TooManyAnts}
 use Rattle.world_read.specs.Grammar.{Plan}
 use Rattle.world_read.specs.Inner.Reading.{AreSizes, Rows, after_height, after_width, rows_ended, first_size, limited, open_rim, opened, plan_of, rows_from, world_of_text}
+use Rattle.cell_world.proofs.Rims.{rim_rock}
 use Rattle.world_read.proofs.ScanLemmas.{rim-closed}
 use Rattle.world_read.proofs.RowReads.{length-AreRows, rows_from-known}
 
@@ -60,7 +61,7 @@ IsPlan-read width height lines rows plan sizes told within =
       tall = sizes.tall;
       low = sizes.low;
       full = length-AreRows width read.front rows.kinds read.are_rows ∙ ap (λ n. width * n) read.as_many;
-      rim = rim-closed width height rows.kinds kept.closed;
+      rim = rim_rock width height rows.kinds (rim-closed width height rows.kinds kept.closed);
       fed = read.fed;
       few = kept.few;
     }

@@ -13,7 +13,8 @@ use Rattle.cell_world.specs.Opening.{hill_count, is_hill, is_rock, kind_at}
 use Rattle.hex_geometry.proofs.RowLemmas.{index_of-early, index_of-inside, pos_at-index_of, pos_at-inside}
 use Rattle.hex_geometry.proofs.Rim.{inner-off_rim, off_rim-inner}
 use Rattle.hex_geometry.specs.RowOrder.{index_of, pos_at}
-use Rattle.cell_world.specs.World.{first_of, or_here}
+use Rattle.cell_world.specs.World.{first_of}
+use Rattle.cell_world.proofs.Places.{or_here}
 use Rattle.world_read.specs.Inner.Reading.{is_open, is_open_at, open_rim}
 use Rattle.world_read.specs.Inner.Scan.{IsClosedBefore}
 

@@ -8,10 +8,11 @@ use Rattle.ant_base.specs.Number.{decimal_value, within}
 use Rattle.cell_world.specs.declared.kind.Kind.{Kind}
 use Rattle.cell_world.specs.Limits.{least_size, most_size, most_ants}
 use Rattle.cell_world.specs.Opening.{hill_count}
+use Rattle.cell_world.proofs.Rims.{clear_inner}
 use Rattle.world_read.specs.declared.fault.WorldFault.{WorldFault}
 use Rattle.world_read.specs.declared.fault.WorldFault.TheVariants.{ExtraRow, TooManyAnts}
 use Rattle.world_read.specs.Faulty.{HasSize}
-use Rattle.world_read.specs.Grammar.{IsSizeLine, IsWorldText, Plan}
+use Rattle.world_read.specs.Grammar.{IsWorldText, Plan}
 use Rattle.world_read.specs.Inner.Reading.{AreSizes, Rows, after_height, after_width, rows_ended, first_size, limited, open_rim, plan_of, rows_from, size_of}
 use Rattle.world_read.proofs.PlanReads.{IsPlan-read, limited-known}
 use Rattle.world_read.proofs.ScanLemmas.{open_rim-closed}
@@ -32,7 +33,7 @@ size_of-known line size is = go (decimal_value (trimmed line)) refl is where
   go (Some n) told is = inside n told (leb least_size n && leb n most_size) refl is
 
 -- the size of a line is read from it
-pub size_of-line : (line : List ℕ) (size : ℕ) → IsSizeLine line size → least_size ≤ size → size ≤ most_size → size_of line ≡ Some size
+pub size_of-line : (line : List ℕ) (size : ℕ) → decimal_value (trimmed line) ≡ Some size → least_size ≤ size → size ≤ most_size → size_of line ≡ Some size
 size_of-line line size is least most =
     ap (within least_size most_size) is ∙ cond-true (leb least_size size && leb size most_size) (Some size) None (and_from (leb least_size size) (leb size most_size) (le-leb least_size size least) (le-leb size most_size most))
 
@@ -99,5 +100,5 @@ plan_of-text text width height kinds t =
     ∙ ap (λ o. after_height width o lines) (size_of-line t.second height t.is_height t.plan.tall t.plan.low)
     ∙ ap (rows_ended width height) read
     ∙ cond-true (list_all is_blank t.rest) (limited width height kinds (open_rim width height kinds)) (Err ExtraRow) (list_all-from_AllPass is_blank t.rest t.blank)
-    ∙ ap (limited width height kinds) (open_rim-closed width height kinds t.plan.rim)
+    ∙ ap (limited width height kinds) (open_rim-closed width height kinds (clear_inner width height kinds t.plan.rim))
     ∙ cond-true (leb (hill_count kinds) most_ants) (Ok (record { width = width; height = height; kinds = kinds })) (Err (TooManyAnts (hill_count kinds))) (le-leb (hill_count kinds) most_ants t.plan.few)

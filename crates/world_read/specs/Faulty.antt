@@ -1,7 +1,8 @@
 -- What is wrong with a text that is no world's (this project's own).
-use Rattle.std.specs.Prelude.{◌≡◌, ℕ, ◌+◌, ◌<◌, ◌≤◌, true, false, List, [], ◌∷◌, ◌++◌, length, map, Result, Ok, Err}
+use Rattle.std.specs.Prelude.{◌≡◌, ℕ, ◌+◌, ◌<◌, ◌≤◌, true, false, List, [], ◌∷◌, ◌++◌, length, map, Some, Result, Ok, Err}
 use Rattle.std.specs.List.{All}
-use Rattle.ant_base.specs.Lines.{lines_of, is_blank}
+use Rattle.ant_base.specs.Lines.{lines_of, is_blank, trimmed}
+use Rattle.ant_base.specs.Number.{decimal_value}
 use Rattle.hex_geometry.specs.declared.position.Pos.{Pos}
 use Rattle.hex_geometry.specs.Position.{IsInner, IsInside}
 use Rattle.cell_world.specs.declared.kind.Kind.{Kind}
@@ -11,11 +12,11 @@ use Rattle.cell_world.specs.Opening.{IsFed, hill_count, is_rock, kind_at}
 use Rattle.world_read.specs.declared.fault.WorldFault.{WorldFault}
 use Rattle.world_read.specs.declared.fault.WorldFault.TheVariants.{BadWidth, BadHeight, MissingRow, BadCell, ShortRow, LongRow, ExtraRow, OpenRim, TooManyAnts, OutOfMemory}
 use Rattle.world_read.specs.Bytes.{byte_of, spelled}
-use Rattle.world_read.specs.Grammar.{AreRows, IsSizeLine, IsWorldText, Plan}
+use Rattle.world_read.specs.Grammar.{AreRows, IsWorldText, Plan}
 
 -- a line gives the size of a world
 pub record HasSize (line : List ℕ) (size : ℕ) : Type 0 where
-  pub is : IsSizeLine line size
+  pub is : decimal_value (trimmed line) ≡ Some size
   pub least : least_size ≤ size
   pub most : size ≤ most_size
 

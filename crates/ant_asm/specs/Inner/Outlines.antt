@@ -12,6 +12,7 @@ use Rattle.ant_asm.specs.Standing.{with_name}
 use Rattle.ant_asm.specs.Labels.{LabelState, NumberedLine, Outline, WayStep, block_outline, main_outline, outline_of}
 use Rattle.ant_asm.specs.Labels.NumberedLine.{At}
 use Rattle.ant_asm.specs.Labels.Outline.{Closed, Labelled, Instructed, Used}
+use Rattle.ant_asm.specs.Source.{ReadSource}
 use Rattle.ant_asm.specs.StateLines.{StateLine}
 use Rattle.ant_asm.specs.Inner.Flat.{most}
 use Rattle.ant_asm.specs.Inner.Reading.{Read, read_line}
@@ -167,10 +168,6 @@ inner_states (Used line name block others) at after way =
 abbrev pub all_states : Outline → ℕ → ℕ → List WayStep → List LabelState
 all_states outline at after way = own_states outline at after way ++ inner_states outline at after way
 
--- the labels of main and of all that it puts in place
-abbrev pub listed : List NamedBody → List LabelState
-listed bodies = all_states (outline_at bodies (main_of bodies)) 0 0 []
-
 -- where its instructions stand, one after another, from this number on
 abbrev pub told_lines : Outline → ℕ → List WayStep → List StateLine
 told_lines Closed at way = []
@@ -178,9 +175,9 @@ told_lines (Labelled name others) at way = told_lines others at way
 told_lines (Instructed line others) at way = (record { state = at; line = line; way = way }) ∷ told_lines others (at + 1) way
 told_lines (Used line name block others) at way = told_lines block at (further way name line) ++ told_lines others (at + outline_size block) way
 
--- where those of main stand, and of all that it puts in place
-abbrev pub listed_lines : List NamedBody → List StateLine
-listed_lines bodies = told_lines (outline_at bodies (main_of bodies)) 0 []
+-- the labels of main and of all that it puts in place, and where their instructions stand
+abbrev pub source_seen : List NamedBody → ReadSource
+source_seen bodies = record { labels = all_states (outline_at bodies (main_of bodies)) 0 0 []; lines = told_lines (outline_at bodies (main_of bodies)) 0 [] }
 
 -- the label of a line, if it is one
 abbrev pub label_of : NamedLine → ℕ → List WayStep → List LabelState

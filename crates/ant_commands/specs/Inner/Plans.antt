@@ -17,11 +17,10 @@ use Rattle.world_gen.specs.Placing.{HasNoRoom}
 use Rattle.ant_commands.specs.declared.commands.run.PlannedGame.{PlannedGame}
 use Rattle.ant_commands.specs.declared.commands.run.Setting.{Setting}
 use Rattle.ant_commands.specs.declared.commands.same.Pair.{Pair}
-use Rattle.text_fault.specs.declared.source.Source.{Source}
 use Rattle.ant_commands.specs.declared.stop.CommandStop.{CommandStop}
 use Rattle.ant_commands.specs.declared.stop.CommandStop.TheVariants as stop
 use Rattle.ant_commands.specs.Files.{FileContent}
-use Rattle.ant_commands.specs.Outputs.{ReadGame, ReadPair, ReadSource, chosen_rounds, game_contents, sheet_named}
+use Rattle.ant_commands.specs.Outputs.{ReadGame, ReadPair, chosen_rounds, game_contents, sheet_named}
 use Rattle.ant_commands.specs.FaultLines.{Reason, reason_of}
 
 -- the sheet and the plan are what the words say
@@ -63,10 +62,6 @@ IsGenerating seed shape (Err other) = ⊥
 -- what the files of two brains were read as
 abbrev pub pair_read : Pair → ReadPair
 pair_read pair = record { first = pair.first; second = pair.second }
-
--- where the labels and the states of a labelled program were read to stand
-abbrev pub source_read : Source → ReadSource
-source_read source = record { labels = source.labels; lines = source.lines }
 
 -- the brains of a game that were read, and this sheet
 abbrev pub minds_by : Setting → SheetNumbers → Minds

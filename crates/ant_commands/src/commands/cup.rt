@@ -50,6 +50,7 @@ impl Referee for Games<'_> {
 
     ghost knows = { λ games. CanBePlayed games.worlds.now games.players.now games.rounds };
 
+    #[tactic(auto, using(crate::proofs::Cups::score_between_copy))]
     fn game(&self, alloc: Global, world: u32, red: u32, black: u32) -> Result<Score, OutOfMemory> {
         let field = self.worlds[world as usize].copy(alloc)?;
         let brains = Brains {

@@ -175,6 +175,7 @@ pub fn run_by<'w, C: Crew, S: Shelf, K: Sink>(
 }
 
 /// Plays the game that the words ask for, and writes its text.
+#[tactic(auto, using(crate::proofs::Readings::carries_wanting))]
 pub fn run<'w, C: Crew, S: Shelf, K: Sink>(
     alloc: Global,
     crew: &mut C,

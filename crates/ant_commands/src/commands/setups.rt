@@ -2,11 +2,11 @@
 ghost use Rattle.std.specs.Prelude.{◌≡◌};
 ghost use Rattle.command_words.specs.Command.{AskedWithin, plain};
 ghost use Rattle.command_words.specs.Table.{HasFile};
-ghost use Rattle.command_words.specs.declared.table.CommandKind.TheVariants.{Cup, Events, Gen, Profile, Resume, Run, Save, Trace, View};
+ghost use Rattle.command_words.specs.declared.table.CommandKind.TheVariants.{Cup, Gen, Resume, Run, Save, Trace, View};
 ghost use Rattle.command_words.specs.Words.{texts};
 ghost use Rattle.command_words.specs.declared.table.Choice.TheVariants.{Seed, Rounds, Workers, Games};
 ghost use Rattle.command_words.specs.declared.table.NameList.TheVariants.{Worlds, Brains};
-ghost use Rattle.ant_commands.specs.Setups.{CupWithin, SetupWithin, plain_resume, plain_setup, plain_told, plain_trace, resume_of, save_setup_of, setup_of, shape_of, told_of, trace_of};
+ghost use Rattle.ant_commands.specs.Setups.{CupWithin, SetupWithin, TellsGame, plain_resume, plain_setup, plain_told, plain_trace, resume_of, save_setup_of, setup_of, shape_of, told_of, trace_of};
 
 use command_words::{Asked, Choice, DumpWord, NameList};
 
@@ -43,28 +43,7 @@ pub struct ViewedGame<'w> {
     pub rounds: u32,
 }
 
-/// A game of which an ant is followed.
-#[derive(Clone, Copy)]
-pub struct TracedGame<'w> {
-    /// the names of its files
-    pub names: FileNames<'w>,
-    /// the id of the ant, from 0 to 16,383; there may be none of this id
-    pub id: u32,
-    /// the seed of the random numbers, from 0 to 4,294,967,295
-    pub seed: u32,
-    /// how many rounds are played, from 0 to 1,000,000
-    pub rounds: u32,
-    /// the first round that is told, from 0 to 1,000,000; it may be above `rounds`
-    pub from: u32,
-    /// how many foes surround an ant, from 4 to 6
-    pub surround: u8,
-    /// how many food particles a killed ant leaves, from 0 to 9
-    pub corpse: u8,
-    /// how many rounds an ant rests after a step, from 0 to 255
-    pub rest: u8,
-}
-
-/// A game of which its events or its profile are told.
+/// A game of which its events, its profile or an ant's way are told.
 #[derive(Clone, Copy)]
 pub struct ToldGame<'w> {
     /// the names of its files
@@ -79,6 +58,17 @@ pub struct ToldGame<'w> {
     pub corpse: u8,
     /// how many rounds an ant rests after a step, from 0 to 255
     pub rest: u8,
+}
+
+/// A game of which an ant is followed.
+#[derive(Clone, Copy)]
+pub struct TracedGame<'w> {
+    /// the game
+    pub told: ToldGame<'w>,
+    /// the id of the ant, from 0 to 16,383; there may be none of this id
+    pub id: u32,
+    /// the first round that is told, from 0 to 1,000,000; it may be above that of the last
+    pub from: u32,
 }
 
 /// The entry of a cup: who plays whom, and where.
@@ -261,22 +251,19 @@ impl<'w> ViewedGame<'w> {
     }
 }
 
-impl<'w> TracedGame<'w> {
-    /// The game that `trace` asks for.
+impl<'w> ToldGame<'w> {
+    /// The game that `events`, `profile` or `trace` asks for.
     pub fn of(asked: Asked<'w>) -> Self
-        requires { asked.kind ≡ Trace }
+        requires { TellsGame asked.kind }
         ensures world { result.names.world.now ≡ (plain asked.entry).file 0 }
         ensures red { result.names.red.now ≡ (plain asked.entry).file 1 }
         ensures black { result.names.black.now ≡ (plain asked.entry).file 2 }
-        ensures id { result.id ≡ (plain asked.entry).number 3 }
-        ensures options { plain_trace result ≡ trace_of (plain asked.entry) }
+        ensures options { plain_told result ≡ told_of (plain asked.entry) }
     {
-        TracedGame {
+        ToldGame {
             names: FileNames::of(asked),
-            id: asked.number(3),
             seed: asked.option(Choice::Seed),
             rounds: asked.option(Choice::Rounds),
-            from: asked.option(Choice::From),
             surround: asked.option(Choice::Surround) as u8,
             corpse: asked.option(Choice::Corpse) as u8,
             rest: asked.option(Choice::Rest) as u8,
@@ -284,40 +271,20 @@ impl<'w> TracedGame<'w> {
     }
 }
 
-impl<'w> ToldGame<'w> {
-    /// The game that `events` asks for.
-    pub fn of_events(asked: Asked<'w>) -> Self
-        requires { asked.kind ≡ Events }
-        ensures world { result.names.world.now ≡ (plain asked.entry).file 0 }
-        ensures red { result.names.red.now ≡ (plain asked.entry).file 1 }
-        ensures black { result.names.black.now ≡ (plain asked.entry).file 2 }
-        ensures options { plain_told result ≡ told_of (plain asked.entry) }
+impl<'w> TracedGame<'w> {
+    /// The game that `trace` asks for.
+    pub fn of(asked: Asked<'w>) -> Self
+        requires { asked.kind ≡ Trace }
+        ensures world { result.told.names.world.now ≡ (plain asked.entry).file 0 }
+        ensures red { result.told.names.red.now ≡ (plain asked.entry).file 1 }
+        ensures black { result.told.names.black.now ≡ (plain asked.entry).file 2 }
+        ensures id { result.id ≡ (plain asked.entry).number 3 }
+        ensures options { plain_trace result ≡ trace_of (plain asked.entry) }
     {
-        ToldGame {
-            names: FileNames::of(asked),
-            seed: asked.option(Choice::Seed),
-            rounds: asked.option(Choice::Rounds),
-            surround: asked.option(Choice::Surround) as u8,
-            corpse: asked.option(Choice::Corpse) as u8,
-            rest: asked.option(Choice::Rest) as u8,
-        }
-    }
-
-    /// The game that `profile` asks for.
-    pub fn of_profile(asked: Asked<'w>) -> Self
-        requires { asked.kind ≡ Profile }
-        ensures world { result.names.world.now ≡ (plain asked.entry).file 0 }
-        ensures red { result.names.red.now ≡ (plain asked.entry).file 1 }
-        ensures black { result.names.black.now ≡ (plain asked.entry).file 2 }
-        ensures options { plain_told result ≡ told_of (plain asked.entry) }
-    {
-        ToldGame {
-            names: FileNames::of(asked),
-            seed: asked.option(Choice::Seed),
-            rounds: asked.option(Choice::Rounds),
-            surround: asked.option(Choice::Surround) as u8,
-            corpse: asked.option(Choice::Corpse) as u8,
-            rest: asked.option(Choice::Rest) as u8,
+        TracedGame {
+            told: ToldGame::of(asked),
+            id: asked.number(3),
+            from: asked.option(Choice::From),
         }
     }
 }

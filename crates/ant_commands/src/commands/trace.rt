@@ -47,16 +47,17 @@ pub fn trace<'w, S: Shelf, K: Sink>(
     out: &mut K,
 ) -> Result<(), CommandStop<'w>>
     requires { TraceWithin (plain_trace game) }
-    ensures { CarriesOut (trace_job game.entry.names.world.now game.entry.names.red.now game.entry.names.black.now game.entry.id (plain_trace game.entry))
+    ensures { CarriesOut (trace_job game.entry.told.names.world.now game.entry.told.names.red.now game.entry.told.names.black.now game.entry.id (plain_trace game.entry))
         (S.state shelf.old) (S.state shelf.new) (K.state out.old) (K.state out.new) (ending_of result) }
 {
-    let sheet = Sheet::new(game.surround, game.corpse, game.rest);
+    let told = game.told;
+    let sheet = Sheet::new(told.surround, told.corpse, told.rest);
     let plan = TracePlan {
         id: game.id,
-        seed: game.seed,
-        rounds: game.rounds,
+        seed: told.seed,
+        rounds: told.rounds,
         from: game.from,
     };
-    let setting = setting_of(alloc, game.names, shelf)?;
+    let setting = setting_of(alloc, told.names, shelf)?;
     after_push(push_way(setting, sheet, &plan, out))
 }

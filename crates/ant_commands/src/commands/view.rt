@@ -18,6 +18,7 @@ use break_view::{Breaks, find_stop, push_view};
 use std::alloc::Global;
 
 // Plays a game to its first stop, and pushes its view.
+#[tactic(auto, using(crate::proofs::Viewed::view_text_end))]
 fn push_stop<K: Sink>(
     setting: Setting,
     breaks: &Breaks,

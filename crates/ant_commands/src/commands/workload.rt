@@ -122,6 +122,7 @@ fn push_lines<K: Sink>(seed: u32, rounds: u32, summary: Summary, out: &mut K) ->
 }
 
 // Pushes the end of the fourth line, the score and the counts.
+#[tactic(auto, using(std::proofs::lemmas::Result::err_from_is_err_and, ant_base::proofs::Pushes::front_more, ant_base::proofs::Pushes::pushed_then))]
 fn push_end<K: Sink>(summary: Summary, out: &mut K) -> Result<(), Failed>
     ensures { Pushed (K.state out.old) (K.state out.new) (score_text summary.score +++ stats_text summary.totals) result }
 {

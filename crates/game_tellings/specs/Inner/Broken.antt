@@ -1,12 +1,10 @@
 -- The lines of a game's events as they are pushed: each behind the LF of the line before, and not before its own.
-use Rattle.std.specs.Prelude.{ℕ, List, [], flat_map, Option, Some, None, codes, decimal}
+use Rattle.std.specs.Prelude.{ℕ, List, flat_map, Option, Some, codes, decimal}
 use Rattle.ant_base.specs.Layout.{text_of_option, ◌+++◌}
 use Rattle.cell_world.specs.declared.ant.Ant.{Ant}
 use Rattle.cell_world.specs.declared.ant.PlacedAnt.{PlacedAnt}
 use Rattle.cell_world.specs.declared.score.Score.{Score}
-use Rattle.game_tellings.specs.declared.death.Watch.{Watch}
 use Rattle.game_tellings.specs.Events.{ant_words, place_words}
-use Rattle.game_tellings.specs.Inner.Watch.{killed_among}
 
 -- lines, each behind an LF
 abbrev pub broken : List (List ℕ) → List ℕ
@@ -24,11 +22,6 @@ broken_death round actor killed = broken_turn round actor +++ ant_words (Some ki
 abbrev pub broken_score : ℕ → Ant → Score → List ℕ
 broken_score round actor score = broken_turn round actor +++ codes "score: red " +++ decimal score.red +++ codes " black " +++ decimal score.black
 
--- the words of a killed ant that was watched
-abbrev pub watched_death : ℕ → Ant → Watch → ℕ → List ℕ
-watched_death round actor watch id = text_of_option (broken_death round actor) (killed_among watch.stepped watch.near id)
-
--- the words of the killed, where any were watched
-abbrev pub watched_deaths : ℕ → Ant → Option Watch → List ℕ → List ℕ
-watched_deaths round actor None killed = []
-watched_deaths round actor (Some watch) killed = flat_map (watched_death round actor watch) killed
+-- the words of a killed ant
+abbrev pub told_death : ℕ → Ant → Option PlacedAnt → List ℕ
+told_death round actor killed = text_of_option (broken_death round actor) killed

@@ -1,5 +1,5 @@
 // Labelled programs with their brains, places and faults, written out.
-use ant_asm::{Address, AsmFault, Assembled, assemble, read_labels};
+use ant_asm::{Address, AsmFault, Assembled, assemble, read_source};
 use ant_base::LONGEST;
 use brain_read::{Instr, Side};
 use std::alloc::Global;
@@ -226,7 +226,7 @@ fn check_faults<R: Abort>(rt: &R, alloc: Global, rows: &[Row]) {
     for (text, fault) in rows {
         assert!(rt; text.len() <= LONGEST);
         assert_eq!(rt; assemble(alloc, text).err(), *fault);
-        assert_eq!(rt; read_labels(alloc, text).err(), *fault);
+        assert_eq!(rt; read_source(alloc, text).err(), *fault);
     }
 }
 

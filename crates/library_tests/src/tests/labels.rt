@@ -1,5 +1,5 @@
 // The labels of programs with the states that they became, and the lines of their states, written out.
-use ant_asm::{read_labels, read_state_lines};
+use ant_asm::{Labels, StateLines, read_source};
 use ant_base::{Calls, LONGEST, Layout, MemSink};
 use std::alloc::Global;
 use std::process::Abort;
@@ -80,8 +80,8 @@ fn told<L: Layout, R: Abort>(rt: &R, alloc: Global, layout: &L) -> Result<String
 fn each_program_has_its_labels(rt: HostRuntime) -> Result<(), Fail> {
     for (text, lines) in LABELS {
         assert!(rt; text.len() <= LONGEST);
-        let labels = read_labels(rt.alloc(), text.as_bytes()).expect(&rt, "it is a program");
-        assert_eq!(rt; told(&rt, rt.alloc(), &labels)?.as_str(), lines);
+        let source = read_source(rt.alloc(), text.as_bytes()).expect(&rt, "it is a program");
+        assert_eq!(rt; told(&rt, rt.alloc(), &Labels(&source))?.as_str(), lines);
     }
     Ok(())
 }
@@ -90,8 +90,11 @@ fn each_program_has_its_labels(rt: HostRuntime) -> Result<(), Fail> {
 fn each_program_has_its_lines(rt: HostRuntime) -> Result<(), Fail> {
     for (text, lines) in LINES {
         assert!(rt; text.len() <= LONGEST);
-        let states = read_state_lines(rt.alloc(), text.as_bytes()).expect(&rt, "it is a program");
-        assert_eq!(rt; told(&rt, rt.alloc(), &states)?.as_str(), lines);
+        let source = read_source(rt.alloc(), text.as_bytes()).expect(&rt, "it is a program");
+        assert_eq!(rt;
+            told(&rt, rt.alloc(), &StateLines(&source))?.as_str(),
+            lines
+        );
     }
     Ok(())
 }

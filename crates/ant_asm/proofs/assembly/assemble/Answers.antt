@@ -4,7 +4,7 @@ use Rattle.brain_read.specs.Soundness.{IsBrain}
 use Rattle.ant_asm.specs.Answers.{IsAssembledText}
 use Rattle.ant_asm.specs.Inner.ProgramView.{AreBodiesOf}
 use Rattle.ant_asm.proofs.Expansion.{fault-only, main-brain, no-fault, program-assembled, text-assembled, want-only}
-use Rattle.ant_asm.proofs.LabelGames.{game-labelled}
+use Rattle.ant_asm.proofs.LabelGames.{game_labelled}
 use Rattle.ant_asm.proofs.assembly.assemble.Goals as goal
 use Rattle.ant_asm.proofs.assembly.assemble.Goals.{After-with_brain}
 
@@ -47,6 +47,6 @@ returns-clause-every_fault c = λ fault wrong.
 
 pub returns-clause-plays : goal.returns-clause-plays
 returns-clause-plays c = λ main program side minds seed width height kinds r sound valid.
-    game-labelled main c.with_brain.result.brain c.with_brain.result.places
+    game_labelled main c.with_brain.result.brain c.with_brain.result.places
     (program-assembled c.args.text.now c.with_brain.result.brain c.with_brain.result.places (made (goal.at.returns-clause-plays c).After-with_brain) main program)
     side minds seed width height kinds r sound valid

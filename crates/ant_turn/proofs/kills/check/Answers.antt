@@ -3,8 +3,9 @@ use Rattle.std.proofs.lemmas.List.{append-nil}
 use Rattle.cell_world.specs.Valid.{Valid}
 use Rattle.cell_world.specs.World.{put_cell, with_cells}
 use Rattle.cell_world.proofs.Weights.{food-light}
-use Rattle.ant_turn.proofs.Checks.{is_surrounded-none, is_surrounded-some, check_at-spared, check_at-struck, killed_at-spared, killed_at-struck}
+use Rattle.ant_turn.proofs.Checks.{noted-none, is_surrounded-none, is_surrounded-some, check_at-spared, check_at-struck, dead_at-spared, dead_at-struck, killed_at-spared, killed_at-struck}
 use Rattle.ant_turn.proofs.Corpses.{CanSet-after_kill}
+use Rattle.ant_turn.specs.Deaths.{with_noted}
 use Rattle.ant_turn.specs.Kills.{after_kill, check_at, is_surrounded}
 use Rattle.ant_turn.specs.Sheet.{sheet_of}
 use Rattle.ant_turn.proofs.kills.check.Goals as goal
@@ -69,3 +70,25 @@ returns-else-has_foes-clause-killed g c =
     let spared : is_surrounded (sheet_of c.args.sheet) w.cells c.args.p ≡ false =
     is_surrounded-some (sheet_of c.args.sheet) w.cells c.args.p c.in-Some.ant is ∙ rw (← c.cell_at-cell.ensures.world, ← c.surround.ensures, ← c.has_foes.ensures.foes) c.if-has_foes.false in
     rw (killed_at-spared (sheet_of c.args.sheet) w.cells c.args.p spared) (sym (append-nil c.args.killed.now.items))
+
+pub returns-in_default-clause-noted : goal.returns-in_default-clause-noted
+returns-in_default-clause-noted g c =
+    let w = g.G.Ground.world c.args.ground.now in
+    let nobody : (w.cells c.args.p).ant ≡ None = rw (← c.cell_at-cell.ensures.content) c.in_default.is in
+    rw (dead_at-spared (sheet_of c.args.sheet) w.cells c.args.p (is_surrounded-none (sheet_of c.args.sheet) w.cells c.args.p nobody)) (sym (noted-none (g.N.Notes.noted c.args.notes.now)))
+
+pub returns-then-has_foes-clause-noted : goal.returns-then-has_foes-clause-noted
+returns-then-has_foes-clause-noted g c =
+    let w = g.G.Ground.world c.args.ground.now in
+    let is : (w.cells c.args.p).ant ≡ Some c.in-Some.ant = rw (← c.cell_at-cell.ensures.content) c.in-Some.is in
+    let struck : is_surrounded (sheet_of c.args.sheet) w.cells c.args.p ≡ true =
+    is_surrounded-some (sheet_of c.args.sheet) w.cells c.args.p c.in-Some.ant is ∙ rw (← c.cell_at-cell.ensures.world, ← c.surround.ensures, ← c.has_foes.ensures.foes) c.if-has_foes.true in
+    c.note.ensures.noted ∙ ap (λ dead. with_noted dead (g.N.Notes.noted c.args.notes.now)) (sym (dead_at-struck (sheet_of c.args.sheet) w.cells c.args.p c.in-Some.ant is struck))
+
+pub returns-else-has_foes-clause-noted : goal.returns-else-has_foes-clause-noted
+returns-else-has_foes-clause-noted g c =
+    let w = g.G.Ground.world c.args.ground.now in
+    let is : (w.cells c.args.p).ant ≡ Some c.in-Some.ant = rw (← c.cell_at-cell.ensures.content) c.in-Some.is in
+    let spared : is_surrounded (sheet_of c.args.sheet) w.cells c.args.p ≡ false =
+    is_surrounded-some (sheet_of c.args.sheet) w.cells c.args.p c.in-Some.ant is ∙ rw (← c.cell_at-cell.ensures.world, ← c.surround.ensures, ← c.has_foes.ensures.foes) c.if-has_foes.false in
+    rw (dead_at-spared (sheet_of c.args.sheet) w.cells c.args.p spared) (sym (noted-none (g.N.Notes.noted c.args.notes.now)))

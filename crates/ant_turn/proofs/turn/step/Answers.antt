@@ -24,11 +24,18 @@ returns-clause-world g c =
     let w = g.G.Ground.world c.args.ground.now in
     let moved : g.G.Ground.world c.set-2.new.self ≡ with_cells w (stepped (sheet_of c.args.sheet) w.cells c.args.standing.place c.args.standing.ant c.args.q c.args.next) =
     rw (c.set-2.ensures.set, c.set.ensures.set, c.cell_without_ant.ensures, c.cell_after_arrival.ensures, c.cell_at-cell.ensures.world) (stepped-put (own_read c.requires.stands c.cell_at-cell.ensures.content) (sheet_of c.args.sheet) c.args.q c.args.there.now c.args.next c.requires.there) in
-    rw (c.check_around.ensures.world, moved) refl
+    rw (c.kill_around.ensures.world, moved) refl
 
 pub returns-clause-killed : goal.returns-clause-killed
 returns-clause-killed g c =
     let w = g.G.Ground.world c.args.ground.now in
     let moved : g.G.Ground.world c.set-2.new.self ≡ with_cells w (stepped (sheet_of c.args.sheet) w.cells c.args.standing.place c.args.standing.ant c.args.q c.args.next) =
     rw (c.set-2.ensures.set, c.set.ensures.set, c.cell_without_ant.ensures, c.cell_after_arrival.ensures, c.cell_at-cell.ensures.world) (stepped-put (own_read c.requires.stands c.cell_at-cell.ensures.content) (sheet_of c.args.sheet) c.args.q c.args.there.now c.args.next c.requires.there) in
-    rw (c.check_around.ensures.killed, moved) refl
+    rw (c.kill_around.ensures.killed, moved) refl
+
+pub returns-clause-noted : goal.returns-clause-noted
+returns-clause-noted g c =
+    let w = g.G.Ground.world c.args.ground.now in
+    let moved : g.G.Ground.world c.set-2.new.self ≡ with_cells w (stepped (sheet_of c.args.sheet) w.cells c.args.standing.place c.args.standing.ant c.args.q c.args.next) =
+    rw (c.set-2.ensures.set, c.set.ensures.set, c.cell_without_ant.ensures, c.cell_after_arrival.ensures, c.cell_at-cell.ensures.world) (stepped-put (own_read c.requires.stands c.cell_at-cell.ensures.content) (sheet_of c.args.sheet) c.args.q c.args.there.now c.args.next c.requires.there) in
+    rw (c.kill_around.ensures.noted, moved) refl

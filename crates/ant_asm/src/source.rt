@@ -1,0 +1,47 @@
+// What a program's text tells of where its labels and states stand.
+ghost use Rattle.std.specs.Prelude.{◌≤◌, length, IfOk, IfErr};
+ghost use Rattle.ant_base.specs.Answers.{AnswersFault, AnswersValue, IsFaultOr};
+ghost use Rattle.ant_base.specs.Shelf.{longest};
+ghost use Rattle.ant_asm.specs.Source.{IsSourceOf, ReadSource};
+ghost use Rattle.ant_asm.specs.Text.{IsAsmFault};
+ghost use Rattle.ant_asm.specs.declared.fault.AsmFault.TheVariants.{OutOfMemory};
+
+use crate::fault::AsmFault;
+use crate::named::NamedBody;
+use crate::outline::read_outlines;
+use crate::program::read_bodies;
+use std::alloc::Global;
+use std::marker::Model;
+
+/// Where the labels and the states of a labelled program stand, each with the uses on the way to its body: the state to which each label leads,
+/// and the line of each state's instruction (this project's own). Contracts see the two lists, in the order in which they are told; only the
+/// names in the text's lines are kept, however many labels, states and uses that makes.
+#[derive(Drop)]
+pub struct Source {
+    pub(crate) bodies: Vec<NamedBody>,
+}
+
+impl Model for Source {
+    ghost use Rattle.ant_asm.specs.Source.{ReadSource};
+    ghost use Rattle.ant_asm.specs.Inner.Outlines.{AreListed, source_seen};
+
+    ghost Value = { ReadSource };
+
+    ghost view = { λ source. source_seen source.bodies.items };
+
+    ghost invariant = { λ source. AreListed source.bodies.items };
+}
+
+/// Where the labels and the states of a labelled program of at most 4,194,304 bytes stand, or the text's fault, which is the one that `assemble`
+/// answers. `OutOfMemory` may be answered at any text; every other answer follows from the text alone.
+pub fn read_source(alloc: Global, text: &[u8]) -> Result<Source, AsmFault>
+    requires { length text.now ≤ longest }
+    ensures source { IfOk result (IsSourceOf text.now) }
+    ensures fault { IfErr result (IsFaultOr OutOfMemory (IsAsmFault text.now)) }
+    ensures every_source { (source : ReadSource) → IsSourceOf text.now source → AnswersValue OutOfMemory result source }
+    ensures every_fault { (fault : AsmFault) → IsAsmFault text.now fault → AnswersFault OutOfMemory result fault }
+{
+    let _program = read_bodies(alloc, text)?;
+    let bodies = read_outlines(alloc, text)?;
+    Ok(Source { bodies })
+}

@@ -1,5 +1,0 @@
-use Rattle.brain_same.proofs.SameLaws.{same_is_equivalence}
-use Rattle.brain_same.proofs.laws.same_is_equivalence.Goals as goal
-
-pub returns : goal.returns
-returns c = same_is_equivalence
