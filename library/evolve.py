@@ -1,6 +1,6 @@
 """Evolves a red brain against a black one by so many games, and looks at ten games of it: python3 evolve.py WORLD RED BLACK GAMES
 
-Children of the best brain are played together, each of them in games of the same seeds, and the one with the most food is the best from then on. It is
+The children of the best brain play games of the same seeds, and the one that brings home the most food is the best from then on. In the end it is
 printed, below comments with what was seen in its games. No text of a game is read for that, and no process is begun.
 """
 import pathlib
@@ -35,9 +35,9 @@ def evolved(world: bytes, red: bytes, black: bytes, games: int) -> str:
     """The best brain that came of the red one."""
     r, best = random.Random(1), icfp_ants.brain(red).splitlines()
     for _ in range(games // (CHILDREN * len(SEEDS))):
-        brains = [best] + [child(r, best) for _ in range(1, CHILDREN)]
+        brains = [child(r, best) for _ in range(1, CHILDREN)] + [best]  # of equals the first one lives: the best one changes
         scores = icfp_ants.scores_of_pairs(world, [("\n".join(it), black) for it in brains], SEEDS, ROUNDS, WORKERS)
-        best = max(zip(scores, brains), key=lambda it: sum(score.red - score.black for score in it[0]))[1]
+        best = max(zip(scores, brains), key=lambda it: sum(score.red for score in it[0]))[1]
     return "\n".join(best)
 
 

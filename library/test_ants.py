@@ -284,7 +284,7 @@ class Texts(Beside):
 
 class Session(Beside):
     def test_that_evolves_brains_begins_no_process_and_prints_scores_of_the_program(self):
-        names = [os.path.join(TOP, "examples", it) for it in ("heap.world", "bring_home.brain", "trail.brain")]
+        names = [os.path.join(TOP, "examples", it) for it in ("heap.world", "sample.brain", "trail.brain")]
         begins = "subprocess.", "os.exec", "os.fork", "os.posix_spawn", "os.spawn", "os.system"
         hook = "import runpy, sys\nsys.addaudithook(lambda event, given: event.startswith(%r) and sys.exit(event))\n" % (begins,)
         lines = hook + "sys.argv[1:] = %r\nrunpy.run_path('evolve.py', run_name='__main__')\n" % [*names, "2000"]
@@ -296,7 +296,8 @@ class Session(Beside):
         game = dict(zip(("world", "red", "black"), (example("heap.world"), ran.stdout, example("trail.brain"))))
         for seed, score in seen:
             self.assertIn("score: %s\n" % score, self.written("run", "world", "red", "black", "--seed", seed, "--rounds", 1000, **game))
-        self.assertGreater(sum(int(score.split()[1]) for _, score in seen), 0)
+        before = icfp_ants.scores(game["world"], example("sample.brain"), game["black"], seeds=range(8), rounds=1000)
+        self.assertGreaterEqual(sum(int(score.split()[1]) for _, score in seen[:8]), max(1, sum(it.red for it in before)))
 
 
 class WhatIsNoText(unittest.TestCase):

@@ -50,9 +50,9 @@ fn ant_of(line: &str) -> Option<(usize, Ant)> {
 
 #[test]
 fn looks_are_the_dumps_of_the_program() {
-    let rounds = [30, 0, 7, 7, 13];
+    let rounds = [40, 0, 7, 7, 33];
     let looks = GAME.look(7, &rounds).unwrap();
-    assert_eq!(looks.iter().map(|it| it.round).collect::<Vec<_>>(), [0, 7, 13, 30]);
+    assert_eq!(looks.iter().map(|it| it.round).collect::<Vec<_>>(), [0, 7, 33, 40]);
     for look in &looks {
         let printed = written("look", &format!("run world red black --seed 7 --rounds {0} --dump {0}", look.round));
         let living: BTreeMap<_, _> = printed.lines().filter_map(ant_of).collect();
