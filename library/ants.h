@@ -205,7 +205,7 @@ struct ants_score_data {
     uint32_t black;
 };
 
-// Lays the version of the library over `out`, such as `1.1.0`: what the program's `--version` prints behind `ants ` (this project's own).
+// Lays the version of the library over `out`: what the program's `--version` prints between `ants ` and the LF (this project's own).
 // Returns 0 or 4, and writes for each what `ants_run` writes. This function stays as it is in each version, so that a caller who was built for
 // another one can ask before any other call.
 uint32_t ants_version(
