@@ -9,8 +9,6 @@ mod fetcher;
 mod files;
 mod played;
 mod refusal;
-#[cfg(test)]
-mod tests;
 mod watched;
 
 use crate::fetcher::{fetcher, play_fetchers, small_fetcher};
