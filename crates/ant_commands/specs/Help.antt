@@ -19,8 +19,8 @@ head_lines =
 unfoldable pub tail_lines : List ℕ
 tail_lines =
     codes "\n"
-    +++ codes "Workers of run, save and resume look ahead, which is slower; those of cup play\n"
-    +++ codes "games at the same time, which is faster. Neither changes what is printed.\n"
+    +++ codes "Workers of run, save, resume and advance look ahead, which is slower; those of\n"
+    +++ codes "cup play games at the same time, which is faster. None changes what is printed.\n"
     +++ codes "\n"
     +++ codes "Exit status:\n"
     +++ codes "  0  all of the output was written\n"

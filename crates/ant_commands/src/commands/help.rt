@@ -41,8 +41,8 @@ impl Layout for TailLines {
     fn push_to<K: Sink>(&self, sink: &mut K) -> Result<(), Failed> {
         concat!(
             "\n",
-            "Workers of run, save and resume look ahead, which is slower; those of cup play\n",
-            "games at the same time, which is faster. Neither changes what is printed.\n",
+            "Workers of run, save, resume and advance look ahead, which is slower; those of\n",
+            "cup play games at the same time, which is faster. None changes what is printed.\n",
             "\n",
             "Exit status:\n",
             "  0  all of the output was written\n",
