@@ -13,7 +13,7 @@ TYPE = r"(?:pub(?:\([a-z]+\))? )?(?:enum|struct) %s\b"
 
 
 def count(lines, comment):
-    return sum(1 for line in lines if line.strip() and not line.strip().startswith(comment))
+    return sum(1 for line in map(str.strip, lines) if line.strip("{}(),;") and not line.startswith(comment))
 
 
 def imports(text):

@@ -11,7 +11,7 @@ The page has all that the promise reaches, each once, and each block is its sour
 import html
 import re
 
-from definitions import Call, CodeType, Definition, Tree
+from definitions import Call, CodeType, Tree
 from tree import Unknown, read, rows_of, table
 
 ORDER, WORDS = "docs/run_page.txt", "docs/library_words.txt"
@@ -21,7 +21,7 @@ PACE = 10  # lines a minute, of a reader who reads each
 
 
 def lines_of(parts):
-    """The one measure of what is to be believed: lines of the source without comments, types of the code counted."""
+    """The one measure of what is to be believed: lines of the source without comments and lone brackets, types of the code counted."""
     return sum(it.lines for it in parts)
 
 
@@ -68,8 +68,7 @@ class RunPage:
         if twice or not parts:
             raise Unknown("%s: %s: there already, or not reached: %s" % (ORDER, file, " ".join(twice)))
         self.parts += parts
-        says = parts[0].module.says if isinstance(parts[0], Definition) else "types of the code" if isinstance(parts[0], CodeType) else "a call"
-        return "[%s](../%s): %s\n\n<pre>\n%s\n</pre>" % (re.sub("^crates/", "", file), file, says, "\n\n".join(self.block(it) for it in parts))
+        return "[%s](../%s)\n\n<pre>\n%s\n</pre>" % (re.sub("^crates/", "", file), file, "\n\n".join(self.block(it) for it in parts))
 
     def block(self, it):
         """The source of a definition, a type or a call with links, and nothing else done to it."""

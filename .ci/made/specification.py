@@ -125,7 +125,7 @@ def pages(spec):
     calls = " and ".join("[%s](../%s)" % (it.name, it.file) for it in spec.calls)
     out = ["# Specification", "", (
         "Made from the tree by `.ci/make-documents`; not edited by hand. These files have exactly the definitions that the clauses of %s reach: whoever believes them, and the types of the code that they name, "
-        "knows what the program does. For one `run`, [RUN.md](RUN.md) has all of it on one page. Lines are those of the sources without comments, types of the code counted, of what is reached: the contest %s, a game from its files to its text %s, "
+        "knows what the program does. For one `run`, [RUN.md](RUN.md) has all of it on one page. Lines are those of the sources without comments and lone brackets, types of the code counted, of what is reached: the contest %s, a game from its files to its text %s, "
         "all that a `run` rests on %s, all commands together %s. The law [%s](../%s) says the promise of every command in %s lines; `%s` of it rests on %s for a `run` without `--stats`, which adds %s."
         % (calls, number(contest), number(game), number(run), number(whole), LAW, spec.law.file, number(lines_of(spec.page)), GAME, number(told), number(counted))
     ), "", READING, ""]

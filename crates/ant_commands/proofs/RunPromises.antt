@@ -1,5 +1,5 @@
 -- Each `run` keeps its promise: what its status says follows from the law `headline`, and its words from the table.
-use Rattle.std.proofs.Common.{◌≡◌, ◌≢◌, ◌⊎◌, inl, inr, ℕ, Bool, true, false, List, [], ◌∷◌, ◌++◌, Some, Result, Ok, Err, codes, refl, sym, ap, ◌∙◌, subst}
+use Rattle.std.proofs.Common.{◌≡◌, ◌≢◌, ◌⊎◌, inl, inr, ℕ, ◌≤◌, Bool, true, false, List, [], ◌∷◌, ◌++◌, length, Some, Result, Ok, Err, codes, refl, sym, ap, ◌∙◌, subst}
 use Rattle.std.specs.List.{Contains, flat_map}
 use Rattle.std.proofs.lemmas.Bool.{false≢true}
 use Rattle.std.proofs.lemmas.List.{append-nil, append_assoc}
@@ -23,7 +23,6 @@ use Rattle.command_words.specs.declared.table.CommandKind.{CommandKind}
 use Rattle.command_words.specs.declared.table.CommandKind.TheVariants.{Run}
 use Rattle.command_words.specs.declared.table.Choice.TheVariants as choice
 use Rattle.match_run.specs.Counts.{counts_text, totals_of, whole_text}
-use Rattle.match_run.specs.Play.{PushedProperPrefix}
 use Rattle.match_run.specs.Run.{dumps_text, run_text}
 use Rattle.ant_commands.specs.declared.stop.FileFault.{FileFault}
 use Rattle.ant_commands.specs.Endings.{IsUnsure, StopsFor}
@@ -282,6 +281,10 @@ not_accepted world red black setup before after name fault it = record {
       (has_line before.err after.err (fault_line (AtInput name fault)) it.line);
 }
 
+-- a proper prefix of the text was appended
+abbrev PushedPart : SinkState → SinkState → List ℕ → Type 0
+PushedPart out new_out text = (front : List ℕ) × (rest : List ℕ) × (text ≡ front ++ rest) × (1 ≤ length rest) × PushedAll out new_out front
+
 -- memory was wanting before the text was begun, or after a proper prefix of it
 wants_memory : (world red black : List ℕ) (setup : RunSetup) (before after : Outside) → setup.stats ≡ false → HasStopped world red black setup before after AtMemory
     → WantsMemory world red black (game_of setup) before after
@@ -296,7 +299,8 @@ wants_memory world red black setup before after off it = record {
             world red black before after it.fetches it.fetched at)
       ],
     )
-    | inr broken ↦ inr (plays PushedProperPrefix world red black setup before after it.fetches broken.contents broken.text it.fetched broken.accepted broken.is_text off broken.broken)
+    | inr it_broke ↦ inr (let part = it_broke.broken in plays PushedPart world red black setup before after it.fetches it_broke.contents it_broke.text it.fetched it_broke.accepted it_broke.is_text off
+      (part.front, (part.rest, (part.whole, (part.some_left, part.pushed)))))
   ];
   line = has_line before.err after.err (fault_line AtMemory) it.line;
 }

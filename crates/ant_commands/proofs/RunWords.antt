@@ -345,7 +345,7 @@ table_run words world red black setup is =
       places = fit;
       options = options;
       once = given_once is.options setup is.said is.once;
-      needed = λ of known need. needs_two given (given_named is.options setup is.said choice.Seed is.seeded) (given_named is.options setup is.said choice.Rounds is.limited) of known need;
+      needed = λ of known need. needs_two given (given_named is.options setup is.said choice.Seed is.needed.0) (given_named is.options setup is.said choice.Rounds is.needed.1.0) of known need;
     } in
     let asks : asked_in Run words ≡ asked_of Run (answers_of Run front given) = ap (asked_in Run) whole ∙ ap (asked_of Run) (answers_in-of Run front given fit options) in
     record {
@@ -517,8 +517,7 @@ run_of_form front given words form none =
       names = names.names;
       said = are_of_run given form.options (none_is given none);
       once = once_in given form.once;
-      seeded = has_in given choice.Seed (form.needed choice.Seed (0, lit< tt, refl) refl);
-      limited = has_in given choice.Rounds (form.needed choice.Rounds (1, lit< tt, refl) refl);
+      needed = (has_in given choice.Seed (form.needed choice.Seed (0, lit< tt, refl) refl), (has_in given choice.Rounds (form.needed choice.Rounds (1, lit< tt, refl) refl), tt));
     } in
     (names.world, names.red, names.black, heard given, is)
   where

@@ -109,8 +109,7 @@ reordered = record {
       ),
     ),
   );
-  seeded = (4, lit< tt, refl);
-  limited = (3, lit< tt, refl);
+  needed = ((4, lit< tt, refl), ((3, lit< tt, refl), tt));
 }
 
 -- the least and the greatest number of each option, and the words of dumps

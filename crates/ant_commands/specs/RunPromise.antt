@@ -1,7 +1,6 @@
--- The promise of one `run` without `--stats`, to be read from the top down: its words, its files, and what each exit status says (this project's
--- own). The law `run_promise` says that each run of the program keeps it. `IsRunTo` is what the call that `main` makes ensures. The rules of the
--- game, the texts of a world and of a brain, and what a shelf and a sink tell are definitions of other crates.
-use Rattle.std.specs.Prelude.{◌≡◌, ◌≢◌, ◌⊎◌, ℕ, ◌≤◌, true, false, List, [], ◌∷◌, map, flat_map, ◌==◌, Some, Result, Ok, Err, codes}
+-- The promise of one `run` without `--stats`: its words, its files, and what each exit status says (this project's own). The law `run_promise` says
+-- that each run of the program keeps it; docs/RUN.md shows all that it rests on.
+use Rattle.std.specs.Prelude.{◌≡◌, ◌≢◌, ◌⊎◌, ℕ, ◌≤◌, true, false, List, [], ◌∷◌, ◌++◌, length, map, flat_map, ◌==◌, Some, Result, Ok, Err, codes}
 use Rattle.std.specs.List.{AllByRecursion, AllZip, Contains, slice_split}
 use Rattle.ant_base.specs.Faults.{Rose}
 use Rattle.ant_base.specs.Fetched.{Fetched}
@@ -21,7 +20,6 @@ use Rattle.command_words.specs.Slots.{AllDiffer, DumpChoice, is_file_name}
 use Rattle.command_words.specs.Slots.DumpChoice.{NoDump, EveryDump, ChosenDumps}
 use Rattle.command_words.specs.declared.table.CommandKind.TheVariants.{Run}
 use Rattle.command_words.specs.declared.table.Choice.TheVariants.{Stats}
-use Rattle.match_run.specs.Play.{PushedProperPrefix}
 use Rattle.match_run.specs.Run.{run_text}
 use Rattle.world_read.specs.Opened.{OpensAs}
 use Rattle.ant_commands.specs.Headline.{NamesTheWord}
@@ -71,8 +69,7 @@ pub record IsRunOf (words : List (List ℕ)) (world red black : List ℕ) (setup
   pub names : AllByRecursion (λ name. is_file_name name ≡ true) (world ∷ red ∷ black ∷ [])
   pub said : AreOptions options setup
   pub once : AllDiffer (map (λ option. option.0) options)
-  pub seeded : Contains (map (λ option. option.0) options) (codes "--seed")
-  pub limited : Contains (map (λ option. option.0) options) (codes "--rounds")
+  pub needed : AllByRecursion (Contains (map (λ option. option.0) options)) (codes "--seed" ∷ codes "--rounds" ∷ [])
 
 -- a fetch: the name that was asked for, and what was answered
 abbrev pub fetch : List ℕ → Result (List ℕ) FetchFault → Fetched
@@ -85,7 +82,7 @@ IsWorld bytes = (world : Grid) × OpensAs bytes world
 abbrev pub IsBrain : List ℕ → Type 0
 IsBrain bytes = (brain : List Instr) × IsBrainText bytes brain
 
--- the files up to one were fetched, in this order: it was answered in such a way, and those before it are a world and a brain
+-- the files up to one were fetched, in this order: it was answered in such a way, and those before it are the world, or the world and the red brain, in order
 abbrev pub StopsAt : ((List ℕ → Type 0) → List ℕ → Result (List ℕ) FetchFault → Type 0) → List ℕ → List ℕ → List ℕ → Outside → Outside → Type 0
 StopsAt IsSuch world red black before after =
     ((answer : Result (List ℕ) FetchFault) × FetchesEach before.shelf after.shelf (fetch world answer ∷ []) × IsSuch IsWorld world answer)
@@ -151,7 +148,7 @@ pub record IsNotAccepted (world red black : List ℕ) (before after : Outside) :
 pub record WantsMemory (world red black : List ℕ) (setup : GameSetup) (before after : Outside) : Type 0 where
   pub stopped : ((after.out ≡ before.out)
       × (FetchesEach before.shelf after.shelf [] ⊎ StopsAt (λ IsText last answer. (answer ≢ Err Failed) × (answer ≢ Err TooLong)) world red black before after))
-      ⊎ Plays PushedProperPrefix world red black setup before after
+      ⊎ Plays (λ out new_out text. (front : List ℕ) × (rest : List ℕ) × (text ≡ front ++ rest) × (1 ≤ length rest) × PushedAll out new_out front) world red black setup before after
   pub line : HasLine before.err after.err (codes "ants: out of memory\n")
 
 -- how a run ends: with one of five statuses, and what each says
