@@ -1,5 +1,5 @@
 -- What follows of the promise where a command was broken off, and where a game was printed.
-use Rattle.std.proofs.Common.{◌≡◌, ℕ, ◌≤◌, true, List, length}
+use Rattle.std.proofs.Common.{◌≡◌, ℕ, ◌≤◌, true, false, List, length}
 use Rattle.ant_turn.specs.Rounds.{start_of}
 use Rattle.cell_world.specs.Grid.{world_of}
 use Rattle.command_words.specs.Command.{IsCommand, PlainAsked}
@@ -7,13 +7,20 @@ use Rattle.command_words.specs.declared.table.CommandKind.TheVariants.{Run}
 use Rattle.match_run.specs.Counts.{counts_text, totals_of}
 use Rattle.tournament.specs.Games.{all_played}
 use Rattle.tournament.specs.Told.{games_text}
-use Rattle.ant_commands.specs.Files.{FileContent}
+use Rattle.ant_commands.specs.Files.{File, FileContent}
 use Rattle.ant_commands.specs.Headline.{KeepsPromise, PrintsTheGame}
-use Rattle.ant_commands.specs.Job.{WritesInPlay}
+use Rattle.ant_commands.specs.Job.{WritesInPlay, plain_job}
 use Rattle.ant_commands.specs.Jobs.{cup_job}
 use Rattle.ant_commands.specs.Outputs.{ReadCup, Tells, TellsFirstWorlds, minds_named, roster_contents, score_between}
 use Rattle.ant_commands.specs.Outside.{Outside}
 use Rattle.ant_commands.specs.Setups.{setup_of}
+
+-- a command that has all its memory before it writes has written nothing in play, nor has a cup that tells its standing alone
+plain_writes_none : (files : List File) (IsText : List FileContent → List ℕ → Type 0) (contents : List FileContent) (front : List ℕ) → WritesInPlay (plain_job files IsText) contents front → ⊥
+plain_writes_none files IsText contents front is = is
+
+untold_cup : (worlds brains : List (List ℕ)) (seed rounds workers : ℕ) (contents : List FileContent) (front : List ℕ) → WritesInPlay (cup_job worlds brains seed rounds workers false) contents front → ⊥
+untold_cup worlds brains seed rounds workers contents front is = is
 
 -- a cup that tells its games has written the lines of its first worlds' games
 cup_in_play : (worlds brains : List (List ℕ)) (seed rounds workers : ℕ) (contents : List FileContent) (front : List ℕ) → WritesInPlay (cup_job worlds brains seed rounds workers true) contents front

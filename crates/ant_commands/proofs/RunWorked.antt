@@ -1,7 +1,9 @@
 -- Words of a `run` with what they say, words that are none, and what no status says.
 use Rattle.std.proofs.Common.{◌≡◌, ◌≢◌, inl, inr, ℕ, false, true, List, [], ◌∷◌, Err, codes, bytes_eq, refl, sym, ap, ◌∙◌, lit<, arith}
 use Rattle.std.proofs.lemmas.Bool.{false≢true}
+use Rattle.ant_base.specs.Faults.{Rose}
 use Rattle.ant_base.specs.Number.{decimal_value}
+use Rattle.ant_base.specs.Sink.{NothingWaits}
 use Rattle.ant_base.specs.declared.shelf.FetchFault.TheVariants.{Failed, TooLong}
 use Rattle.command_words.proofs.ReadLemmas.{read-none}
 use Rattle.command_words.proofs.TableLemmas.{bytes_eq-same}
@@ -12,7 +14,7 @@ use Rattle.command_words.specs.Slots.{DumpChoice, dumps_of, is_dumps, is_file_na
 use Rattle.command_words.specs.Slots.DumpChoice.{NoDump, EveryDump, ChosenDumps}
 use Rattle.command_words.specs.declared.table.CommandKind.TheVariants.{Run}
 use Rattle.ant_commands.specs.Outside.{Outside}
-use Rattle.ant_commands.specs.RunPromise.{AreOptions, GameSetup, IsOption, IsRunOf, IsUnfit, IsWorld, RunEnds}
+use Rattle.ant_commands.specs.RunPromise.{AreOptions, GameSetup, IsNotAccepted, IsOption, IsPrinted, IsRunOf, IsUnfit, IsUnread, IsWorld, RunEnds}
 use Rattle.ant_commands.specs.RunPromise.IsOption.{Seed, Rounds, Dump, Workers, Window, Surround, Corpse, Rest, Far}
 use Rattle.ant_commands.proofs.RunWords.{table_run}
 
@@ -193,6 +195,17 @@ not_unfit says is = (let no : ⊥ = (let same = is.0 in cc) in no)
 
 pub long_is_unfit : IsUnfit IsWorld (Err TooLong) (codes "too long")
 long_is_unfit = (refl, refl)
+
+-- what is printed is flushed, and the errors got nothing; where a file was not read or is not accepted nothing was written
+printed_alone : (world red black : List ℕ) (setup : GameSetup) (before after : Outside) → IsPrinted world red black setup before after → (after.err ≡ before.err) × NothingWaits after.out.waiting
+printed_alone world red black setup before after is = (is.silent, is.flushed)
+
+unread_alone : (world red black : List ℕ) (before after : Outside) (is : IsUnread world red black before after)
+    → (after.out ≡ before.out) × Rose before.shelf.faults after.shelf.faults × (before.shelf.sure is.name ≡ false)
+unread_alone world red black before after is = (is.unwritten, is.rose, is.unsure)
+
+unaccepted_alone : (world red black : List ℕ) (before after : Outside) → IsNotAccepted world red black before after → after.out ≡ before.out
+unaccepted_alone world red black before after is = is.unwritten
 
 -- no other status
 pub never_2 : (world red black : List ℕ) (setup : GameSetup) (before after : Outside) → ¬ RunEnds world red black setup before after 2

@@ -1,7 +1,9 @@
 -- What a call is given, and its status, worked by hand.
-use Rattle.std.proofs.Common.{◌≡◌, [], ◌∷◌, refl, arith}
+use Rattle.std.proofs.Common.{◌≡◌, ℕ, List, [], ◌∷◌, refl, ap, arith}
+use Rattle.std.proofs.lemmas.Option.{same_Some}
 use Rattle.std.proofs.lemmas.Str.{IsUtf8-nil}
-use Rattle.ants_c.specs.Called.{AreFiles, call_status, files_in}
+use Rattle.ant_base.specs.Sink.{SinkState}
+use Rattle.ants_c.specs.Called.{AreFiles, call_status, files_in, holding}
 
 -- a has the first two of three bytes, and b the third
 two_files : files_in ((97 ∷ []) ∷ (98 ∷ []) ∷ []) (2 ∷ 1 ∷ []) (1 ∷ 2 ∷ 3 ∷ []) ≡ (97 ∷ [], 1 ∷ 2 ∷ []) ∷ (98 ∷ [], 3 ∷ []) ∷ []
@@ -30,3 +32,7 @@ long_text = refl
 
 long_line : call_status [] [] (1 ∷ 2 ∷ []) (0 ∷ []) 2 ≡ 4
 long_line = refl
+
+-- a sink tells what it holds
+held_apart : (text other : List ℕ) → holding text ≡ holding other → text ≡ other
+held_apart text other same = same_Some text other (ap (λ (s : SinkState). s.held) same)

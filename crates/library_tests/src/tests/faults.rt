@@ -9,6 +9,7 @@ use match_run::PlayFault;
 use match_save::{AlreadyAt, SaveFault};
 use std::alloc::Global;
 use std::fmt;
+use text_fault::{TextFault, TextStop};
 use world_gen::GenFault;
 use world_read::WorldFault;
 
@@ -83,6 +84,7 @@ fn faults_of_texts_are_displayed(rt: HostRuntime) {
             &BreakFault::TooMany { line: 257 },
             "line 257: too many breaks",
         ),
+        says(alloc, &TextStop::Refused(TextFault::TooLong), "too long"),
     ];
-    assert_eq!(rt; texts, [true; 8]);
+    assert_eq!(rt; texts, [true; 9]);
 }
