@@ -1,5 +1,6 @@
 -- Ways, worked out by hand.
 use Rattle.std.proofs.Common.{◌≡◌, ℕ, Bool, true, false, List, [], ◌∷◌, codes, refl, ap, arith}
+use Rattle.std.proofs.lemmas.Option.{same_Some}
 use Rattle.std.specs.Fmt.{digits}
 use Rattle.hex_geometry.specs.declared.direction.Side.TheVariants.{Left, Right}
 use Rattle.hex_geometry.specs.declared.neighbourhood.Sight.TheVariants.{Here}
@@ -13,7 +14,7 @@ use Rattle.brain_same.specs.declared.way.Step.{Step}
 use Rattle.brain_same.specs.Answers.{IsNoLater}
 use Rattle.brain_same.specs.Answers.IsNoLater.{IsShorter, IsAsLong}
 use Rattle.brain_same.specs.Text.{answer_text, found_text, found_words, step_text, way_text}
-use Rattle.brain_same.specs.Way.{IsWayComparison, way_by}
+use Rattle.brain_same.specs.Way.{IsWayComparison, LeadsOn, way_by}
 use Rattle.brain_same.specs.Way.IsWayComparison.{NoWay, ByWay}
 use Rattle.brain_same.proofs.SameLaws.{no_later-both, same_is_not_apart}
 use Rattle.brain_same.proofs.Worked.{crossed, met_apart, none_before_met, straight}
@@ -28,6 +29,10 @@ met_goes comparison steps (NoWay same) = absurd (same_is_not_apart straight cros
 met_goes comparison steps (ByWay many a b difference) =
     ap (λ answers. way_by straight crossed answers 0 0)
     (no_later-both difference.answers (true ∷ []) (difference.least (true ∷ []) 1 2 met_apart) (none_before_met difference.answers a b difference.apart))
+
+-- that answer leads to 1 in the first brain and to 2 in the second, and in no case to the same state
+never_there : (same : ℕ) → LeadsOn straight crossed (step 0 (Move 1 2) 0 (Move 2 1) true ∷ []) 0 0 same same → ⊥
+never_there same (next, other, is, there) = omega (arith, same_Some 1 next is.leads, same_Some 2 other is.leads_too, there.0, there.1)
 
 -- where states 0 differ there is no step
 none_goes : (comparison : Comparison) (steps : List Step) → IsWayComparison (Turn Left 0 ∷ []) (Turn Right 0 ∷ []) comparison steps → steps ≡ []

@@ -9,9 +9,9 @@ use Rattle.command_words.specs.declared.slot.Slot.TheVariants.{FileName, Number,
 use Rattle.command_words.specs.declared.slot.Place.{Place}
 use Rattle.command_words.specs.declared.slot.Place.TheVariants.{Word, Names}
 use Rattle.command_words.specs.declared.table.Choice.{Choice}
-use Rattle.command_words.specs.declared.table.Choice.TheVariants.{Dump, From, Lines, Seed, Stats, Surround, Way}
+use Rattle.command_words.specs.declared.table.Choice.TheVariants.{Blobs, Dump, Far, From, Games, Height, Lines, Rest, Rocks, Rounds, Seed, States, Stats, Surround, Way, Width, Window, Workers}
 use Rattle.command_words.specs.declared.table.CommandKind.{CommandKind}
-use Rattle.command_words.specs.declared.table.CommandKind.TheVariants.{Advance, Cup, Events, Help, Profile, Run, Trace}
+use Rattle.command_words.specs.declared.table.CommandKind.TheVariants.{Advance, Asm, Brain, Cup, Events, Gen, Help, Minimise, Profile, Resume, Run, Same, Save, Show, Trace, View}
 use Rattle.command_words.specs.Help.{command_text, free_texts, has_free, more_text, needed_texts, option_line, place_lines, takes_line}
 use Rattle.command_words.specs.Limits.{name_of}
 use Rattle.command_words.specs.Table.{help_row, keyword_of, list_name, options, places_of}
@@ -104,3 +104,33 @@ lines_help = refl
 pub way_help : option_line Way ≡ codes "  --way         prints each answer on the way to the states that differ\n"
 unfolding option_line numbered
 way_help = refl
+
+-- the other commands, but for a workload
+other_commands_help :
+    (command_text Save ≡ codes "  save WORLD RED BLACK --seed N --rounds N [OPTION]..\n      plays a game up to a round, and prints all that it takes to go on\n      takes --workers --window --surround --corpse --rest\n")
+    × (command_text Resume ≡ codes "  resume SAVE --rounds N [OPTION]..\n      goes on with a saved game, and prints the rest of what run prints\n      takes --dump --workers --stats\n")
+    × (command_text View ≡ codes "  view WORLD RED BLACK BREAKS --seed N --rounds N\n      plays a game up to the first of its breaks, and prints the world there\n")
+    × (command_text Show ≡ codes "  show WORLD SEED\n      prints a world as it is at the start of a game\n      SEED, 0 to 4294967295\n")
+    × (command_text Gen ≡ codes "  gen SEED [OPTION]..\n      prints a world in the contest's manner, made from a number\n      SEED, 0 to 4294967295\n      takes --width --height --rocks --blobs\n")
+    × (command_text Brain ≡ codes "  brain FILE\n      checks a brain, and prints it with one instruction a line\n")
+    × (command_text Minimise ≡ codes "  minimise FILE [OPTION]..\n      merges equivalent states of a brain, and keeps what state 0 leads to\n      takes --states\n")
+    × (command_text Same ≡ codes "  same FILE FILE [OPTION]..\n      says whether two brains are the same but for the numbers of their states\n      takes --way\n")
+    × (command_text Asm ≡ codes "  asm FILE [OPTION]..\n      prints the brain of a program with labels and blocks\n      takes --labels --lines\n")
+unfolding command_text needed_texts more_text place_lines has_free takes_line free_texts numbered digits
+other_commands_help = (refl, refl, refl, refl, refl, refl, refl, refl, refl)
+
+-- the other options, but for `--corpse` and `--labels`
+other_options_help :
+    (option_line Rounds ≡ codes "  --rounds N    how many rounds are played, 0 to 1000000; needed\n")
+    × (option_line Workers ≡ codes "  --workers N   threads, 1 to 16; 1\n")
+    × (option_line Window ≡ codes "  --window N    turns that are looked at ahead, 1 to 16384; 16384\n")
+    × (option_line Rest ≡ codes "  --rest N      turns that an ant rests after a step, 0 to 255; 14\n")
+    × (option_line Far ≡ codes "  --far         keeps the workers for the whole game, and sends them their jobs\n")
+    × (option_line Width ≡ codes "  --width N     cells of a row, 3 to 512; 150\n")
+    × (option_line Height ≡ codes "  --height N    rows, 3 to 512; 150\n")
+    × (option_line Rocks ≡ codes "  --rocks N     rocks that are placed, 0 to 255; 14\n")
+    × (option_line Blobs ≡ codes "  --blobs N     heaps of food that are placed, 0 to 255; 11\n")
+    × (option_line Games ≡ codes "  --games       prints the line of each game before the standing\n")
+    × (option_line States ≡ codes "  --states      prints the new number of each state, not the brain\n")
+unfolding option_line numbered digits
+other_options_help = (refl, refl, refl, refl, refl, refl, refl, refl, refl, refl, refl)

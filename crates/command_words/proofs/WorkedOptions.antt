@@ -1,12 +1,14 @@
 -- Options that a command doesn't take, each refused at its word; and the greatest numbers and the names of the other commands.
 use Rattle.std.proofs.Common.{◌≡◌, ℕ, List, [], ◌∷◌, ◌++◌, codes, false, refl, Err}
+use Rattle.std.proofs.lemmas.Bool.{false≢true}
 use Rattle.ant_base.specs.Number.{decimal_value}
 use Rattle.command_words.specs.Slots.{is_file_name, is_dumps, dumps_of}
 use Rattle.command_words.specs.Slots.DumpChoice.{NoDump}
-use Rattle.command_words.specs.declared.table.CommandKind.TheVariants.{Brain, Run, Gen, Cup, View, Workload}
+use Rattle.command_words.specs.declared.table.CommandKind.TheVariants.{Brain, Run, Gen, Cup, Show, View, Workload}
 use Rattle.command_words.specs.declared.table.Choice.TheVariants.{Seed, Rounds, Workers, Window, Surround, Corpse, Rest, Stats, Far, Width, Height, Rocks, Blobs, Games}
 use Rattle.command_words.specs.declared.table.NameList.TheVariants.{Worlds, Brains}
 use Rattle.command_words.specs.Command.{IsRefusedAt, is_among, rest_after}
+use Rattle.command_words.specs.Table.{HasFile, HasNames, HasNumber, HasNumberOption, HasOption}
 use Rattle.command_words.specs.Inner.Walk.{command_kind_of, choice_of, read_of}
 use Rattle.command_words.proofs.ReadLemmas.{read-refuses}
 use Rattle.command_words.proofs.WorkedLines.{Says, says, words_of}
@@ -219,3 +221,7 @@ workload_workers_too_many = read-refuses (words_of (codes "workload 1 2 17")) 4 
 pub dump_too_late : IsRefusedAt (words_of (codes "run w r b --dump 0,1000001")) 6
 unfolding command_kind_of choice_of is_among rest_after is_file_name is_dumps dumps_of decimal_value
 dump_too_late = read-refuses (words_of (codes "run w r b --dump 0,1000001")) 6 refl
+
+-- what a command's row lacks can't be asked for
+row_lacks : (HasFile Run 3 → ⊥) × (HasNumber Run 0 → ⊥) × (HasNames Run Worlds → ⊥) × (HasOption Show Seed → ⊥) × (HasNumberOption Run Stats → ⊥)
+row_lacks = (false≢true, false≢true, false≢true, false≢true, false≢true)

@@ -1,16 +1,22 @@
 -- Events, worked out.
-use Rattle.std.proofs.Common.{◌≡◌, ℕ, Bool, true, false, List, [], ◌∷◌, Some, codes, refl}
+use Rattle.std.proofs.Common.{◌≡◌, ℕ, Bool, true, false, List, [], ◌∷◌, Some, None, codes, refl, subst, arith}
+use Rattle.std.specs.Prelude.{IsSome}
+use Rattle.std.proofs.lemmas.Bool.{false≢true}
 use Rattle.std.specs.Fmt.{digits}
+use Rattle.std.specs.List.{Contains}
 use Rattle.hex_geometry.proofs.Places.{at}
 use Rattle.hex_geometry.specs.declared.direction.Dir.TheVariants.{East}
 use Rattle.hex_geometry.specs.Direction.{directions}
 use Rattle.hex_geometry.specs.Neighbourhood.{adjacent_pos, neighbours_of}
 use Rattle.hex_geometry.specs.Position.{same_pos}
+use Rattle.list_lemmas.proofs.Elements.{Contains-none}
 use Rattle.ant_base.specs.Layout.{◌+++◌}
 use Rattle.ant_random.specs.Stream.{drawn, random_at, state_at}
+use Rattle.ant_turn.specs.Deaths.{dead_at, dead_in}
 use Rattle.ant_turn.specs.Kills.{check_at, is_surrounded, killed_at, places_around}
 use Rattle.ant_turn.specs.Minds.{Minds, contest_minds}
 use Rattle.ant_turn.specs.Rounds.{after_round, after_turn, start_of}
+use Rattle.ant_turn.specs.Sheet.{contest}
 use Rattle.ant_turn.specs.Turn.{stepped, turn}
 use Rattle.brain_read.specs.declared.instr.Instr.{Instr}
 use Rattle.brain_read.specs.declared.instr.Instr.TheVariants.{PickUp, Drop, Move, Flip}
@@ -20,13 +26,14 @@ use Rattle.cell_world.specs.declared.kind.Kind.{Kind}
 use Rattle.cell_world.specs.declared.kind.Kind.TheVariants.{Rock, Clear, RedHill, BlackHill}
 use Rattle.cell_world.specs.Cell.{rock}
 use Rattle.cell_world.specs.Grid.{cell_in, world_of}
-use Rattle.cell_world.specs.Opening.{floor, opening}
+use Rattle.cell_world.specs.Opening.{floor, new_ant, opening}
 use Rattle.cell_world.specs.Score.{hill_food_of, score_of}
 use Rattle.cell_world.specs.World.{World, place_in, put, put_cell}
 use Rattle.cell_world.proofs.OpeningWorked.{one_hill}
 use Rattle.dump_print.specs.Texts.{seed_text}
 use Rattle.match_run.proofs.RunWorked.{nobody, stone}
 use Rattle.game_tellings.specs.Events.{ahead_of, ant_in, death_place, death_words, deaths_in, events_text, score_words, scores_in, turn_lines}
+use Rattle.game_tellings.specs.Laws.{AreTheDead}
 
 -- seven by six cells, without ids the ants are
 --     . . . . .
@@ -79,6 +86,13 @@ two_die : turn_lines stepping 0 7 (start_of two_beset) 6 ≡
 unfolding turn_lines deaths_in scores_in death_words score_words death_place ant_in ahead_of digits turn stepped check_at is_surrounded killed_at places_around neighbours_of adjacent_pos directions place_in cell_in opening floor rock put_cell same_pos score_of hill_food_of
 two_die = refl
 
+-- both are noted as they stood; red ant 6 is the fifth foe of the first on its new cell alone, and of neither where six must surround
+two_noted :
+    (dead_in stepping two_beset 6 ≡ Some (record { place = at 4 3; ant = new_ant Black 7 }) ∷ Some (record { place = at 3 2; ant = new_ant Black 3 }) ∷ [])
+    × (dead_in (record stepping { sheet = record contest { surround = 6 } }) two_beset 6 ≡ [])
+unfolding dead_in dead_at stepped check_at is_surrounded places_around neighbours_of adjacent_pos directions place_in cell_in opening floor rock put_cell same_pos
+two_noted = (refl, refl)
+
 -- the particle that one of them carried falls on the hill with its corpse
 abbrev one_laden : World
 one_laden = put two_beset (at 3 2) (record floor { hill = Some Black; ant = Some (record { id = 3; colour = Black; state = 0; resting = 5; facing = East; laden = true }) })
@@ -115,6 +129,11 @@ walks_into_death : turn_lines stepping 0 1 (start_of own_death) 2 ≡ codes "rou
 unfolding turn_lines deaths_in scores_in death_words score_words death_place ant_in ahead_of digits turn stepped check_at is_surrounded killed_at places_around neighbours_of adjacent_pos directions place_in cell_in opening floor rock put_cell same_pos score_of hill_food_of
 walks_into_death = refl
 
+-- and is noted as it stands then: in the next state, and about to rest
+own_noted : dead_in stepping own_death 2 ≡ Some (record { place = at 2 2; ant = record (new_ant Red 2) { resting = 14 } }) ∷ []
+unfolding dead_in dead_at stepped check_at is_surrounded places_around neighbours_of adjacent_pos directions place_in cell_in opening floor rock put_cell same_pos
+own_noted = refl
+
 -- the one clear cell of a world, of this hill and with so much food, on which a red ant stands that is laden or not
 abbrev alone_on : Colour → ℕ → Bool → World
 alone_on hill food laden =
@@ -141,3 +160,13 @@ nothing_told = (refl, refl, refl, refl)
 seed_alone : (events_text stepping 12345 two_beset 0 ≡ codes "random seed: 12345\n") × (events_text nobody 12345 stone 3 ≡ codes "random seed: 12345\n")
 unfolding events_text seed_text digits after_round
 seed_alone = (refl, refl)
+
+-- an ant that lives at the end isn't among the dead, and one that lives no more is, and once
+never_alive : (w : World) (u : ℕ) (deaths : List ℕ) → AreTheDead w w deaths → Contains deaths u → ⊥
+never_alive w u deaths are told = false≢true (subst IsSome (are.gone u told) (are.lived u told))
+
+never_untold : (old new : World) (u : ℕ) → IsSome (place_in old u) → place_in new u ≡ None → AreTheDead old new [] → ⊥
+never_untold old new u lived gone are = Contains-none u (are.all u lived gone)
+
+never_twice : (old new : World) (u : ℕ) → AreTheDead old new (u ∷ u ∷ []) → ⊥
+never_twice old new u are = are.once 0 1 u (omega arith) (omega arith) refl

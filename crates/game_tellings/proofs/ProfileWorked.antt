@@ -21,7 +21,7 @@ use Rattle.brain_read.specs.declared.instr.Cond.TheVariants.{Food, Home}
 use Rattle.brain_read.specs.declared.instr.Instr.{Instr}
 use Rattle.brain_read.specs.declared.instr.Instr.TheVariants.{Sense, Mark, Unmark, PickUp, Drop, Turn, Move, Flip}
 use Rattle.cell_world.specs.declared.ant.Ant.{Ant}
-use Rattle.cell_world.specs.declared.ant.Colour.TheVariants.{Red}
+use Rattle.cell_world.specs.declared.ant.Colour.TheVariants.{Black, Red}
 use Rattle.cell_world.specs.declared.kind.Kind.TheVariants.{Rock, Clear, RedHill}
 use Rattle.cell_world.specs.Cell.{rock}
 use Rattle.cell_world.specs.Grid.{cell_in, world_of}
@@ -98,3 +98,8 @@ answers_told = refl
 laden_answers : answers (record own { laden = true }) (PickUp 1 2 ∷ PickUp 1 1 ∷ Drop 1 ∷ []) ≡ false ∷ false ∷ true ∷ []
 unfolding put_cell same_pos floor
 laden_answers = refl
+
+-- a Mark and an Unmark have one answer, so that how often it was met isn't told
+marks_told : (tally_line Red 3 (Mark 2 1) 5 5 ≡ codes "red 3: 5 times: Mark 2 1\n") × (tally_line Black 0 (Unmark 5 0) 7 7 ≡ codes "black 0: 7 times: Unmark 5 0\n")
+unfolding tally_line instruction_text numbered digits
+marks_told = (refl, refl)
