@@ -3,6 +3,7 @@
 #   make run ARGS="show examples/one_ant.world 12345"
 #   make test · make documents · make library · make install PREFIX=DIR · make uninstall PREFIX=DIR · make dist · make deb · make bench
 PREFIX ?= /usr/local
+SHELL = bash
 PROGRAM = crates/ants/out/ants
 ARCHIVE = crates/ants_c/out/libants_c.a
 SOURCES = crates.txt $(shell find crates -name out -prune -o \( -name '*.rt' -o -name '*.antt' \) -print)

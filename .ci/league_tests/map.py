@@ -18,7 +18,7 @@ class Map(Folder):
 
     def test_words(self):
         dump = self.dump()
-        for words in ("--around 3", "--around 3 3 --ant 2", "--ant", "--mark red 6", "--mark red", "--numbers 1", "--marks red"):
+        for words in ("--around 3", "--around 3 3 --ant 2", "--ant", "--ant 2 --ant 3", "--ant 2 --around 1 --around 2", "--mark red 6", "--mark red", "--numbers 1", "--marks red"):
             status, output, faults = self.mapped(dump, *words.split())
             self.assertEqual((status, output, faults.startswith("map: usage: map [--marks | ")), (1, b"", True))
         self.assertEqual(self.mapped(dump, "--around", "9", "9", "1"), (1, b"", "map: no cell (9, 9) in this world\n"))
