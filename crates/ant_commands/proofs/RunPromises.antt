@@ -1,5 +1,5 @@
 -- Each `run` keeps its promise: what its status says follows from the law `headline`, and its words from the table.
-use Rattle.std.proofs.Common.{◌≡◌, ◌≢◌, ◌⊎◌, inl, inr, ℕ, ◌≤◌, Bool, true, false, List, [], ◌∷◌, ◌++◌, length, Some, Result, Ok, Err, codes, refl, sym, ap, ◌∙◌, subst}
+use Rattle.std.proofs.Common.{◌≡◌, ◌≢◌, ◌⊎◌, inl, inr, ℕ, ◌≤◌, Bool, false, List, [], ◌∷◌, ◌++◌, length, Some, Result, Ok, Err, codes, refl, sym, ap, ◌∙◌, subst}
 use Rattle.std.specs.List.{Contains, flat_map}
 use Rattle.std.proofs.lemmas.Bool.{false≢true}
 use Rattle.std.proofs.lemmas.List.{append-nil, append_assoc}
@@ -300,7 +300,7 @@ wants_memory world red black setup before after off it = record {
       ],
     )
     | inr it_broke ↦ inr (let part = it_broke.broken in plays PushedPart world red black setup before after it.fetches it_broke.contents it_broke.text it.fetched it_broke.accepted it_broke.is_text off
-      (part.front, part.rest, part.whole, part.some_left, part.pushed))
+        (part.front, part.rest, part.whole, part.some_left, part.pushed))
   ];
   line = has_line before.err after.err (fault_line AtMemory) it.line;
 }

@@ -1,5 +1,5 @@
 -- Words of a `run` with what they say, words that are none, and what no status says.
-use Rattle.std.proofs.Common.{◌≡◌, ◌≢◌, inl, inr, ℕ, false, true, List, [], ◌∷◌, Err, codes, bytes_eq, refl, sym, ap, ◌∙◌, lit<, arith}
+use Rattle.std.proofs.Common.{◌≡◌, ◌≢◌, inl, inr, ℕ, false, List, [], ◌∷◌, Err, codes, bytes_eq, refl, sym, ap, ◌∙◌, lit<, arith}
 use Rattle.std.proofs.lemmas.Bool.{false≢true}
 use Rattle.ant_base.specs.Faults.{Rose}
 use Rattle.ant_base.specs.Number.{decimal_value}
