@@ -279,7 +279,16 @@ class Texts(Beside):
             with self.assertRaises(ValueError) as caught:
                 call()
             self.assertNotIsInstance(caught.exception, icfp_ants.Refused)
-        self.assertRaises(TypeError, lambda: icfp_ants.score(WORLD, "Drop 0\n", "Drop 0\n", 1.5, 1))
+
+    def test_what_is_no_number_is_a_type_error_that_names_it(self):
+        stand = WORLD, "Drop 0\n", "Drop 0\n"
+        for call, said in (
+            (lambda: icfp_ants.score(*stand, 1.5, 1), "seed: a whole number is wanted, and not float"), (lambda: icfp_ants.score(*stand, 1, "1"), "rounds: a whole number is wanted, and not str"),
+            (lambda: icfp_ants.scores(*stand, [1, None], 1), "seeds: a whole number is wanted, and not NoneType"), (lambda: icfp_ants.gen(1, rocks=None), "rocks: a whole number is wanted"),
+            (lambda: icfp_ants.scores(*stand, 5, 1), "seeds: whole numbers are wanted, as a list, and not int"), (lambda: icfp_ants.run(*stand, 1, 1, dumps=1), "dumps: whole numbers are wanted"),
+            (lambda: icfp_ants.look(*stand, 1, 5), "rounds: whole numbers are wanted"), (lambda: icfp_ants.run(*stand, 1, 1, dumps="all"), "dumps: a whole number is wanted, and not str"),
+        ):
+            self.assertRaisesRegex(TypeError, "^%s" % said, call)
 
 
 class Session(Beside):

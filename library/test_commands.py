@@ -99,6 +99,11 @@ class Calls(Beside):
         self.assertRaisesRegex(ValueError, r"^files: a line break in 'a\\nb'$", lambda: icfp_ants.call(["brain", "a"], {"a\nb": ""}))
         self.assertRaises(ValueError, lambda: icfp_ants.call(["brain", "\udcff"]))
         self.assertRaisesRegex(TypeError, "^a: a text is wanted", lambda: icfp_ants.call(["brain", "a"], {"a": 5}))
+        for wrong, kind in ((["Drop 0\n"], "list"), ("Drop 0\n", "str"), (None, "NoneType")):
+            self.assertRaisesRegex(TypeError, "^files: texts by their names are wanted, as a dict, and not %s$" % kind, lambda: icfp_ants.call(["brain", "a"], wrong))
+            self.assertRaisesRegex(TypeError, "^brains: texts by their names are wanted", lambda: icfp_ants.cup({"w": WORLD}, wrong, 1, 1))
+        self.assertRaisesRegex(TypeError, "^files: a name is wanted, as str, and not bytes$", lambda: icfp_ants.call(["brain", "a"], {b"a": "Drop 0\n"}))
+        self.assertRaisesRegex(TypeError, "^worlds: a name is wanted, as str, and not int$", lambda: icfp_ants.cup({1: WORLD}, {"a": "Drop 0\n", "b": "Drop 0\n"}, 1, 1))
 
 
 class Functions(Beside):
@@ -302,6 +307,14 @@ class Faults(Beside):
         self.assertRaisesRegex(ValueError, "^window: 16385 is not", lambda: icfp_ants.run(**AMBUSH, seed=1, rounds=1, window=16385))
         self.assertRaisesRegex(ValueError, "^ant: 16384 is not 0 to 16383$", lambda: icfp_ants.trace(**AMBUSH, ant=16384, seed=1, rounds=1))
         self.assertRaisesRegex(ValueError, "^start: -1 is not", lambda: icfp_ants.trace(**AMBUSH, ant=0, seed=1, rounds=1, start=-1))
+
+    def test_help_has_the_limits(self):
+        of_save = ((icfp_ants.save, {"seed": 1, it: -1}) for it in ("rounds", "window", "surround", "corpse", "rest"))
+        for call, more in ((icfp_ants.scores, {"seeds": [-1]}), (icfp_ants.scores, {"seeds": [], "workers": 0}), *of_save):
+            with self.assertRaises(ValueError) as caught:
+                call(**{**AMBUSH, "rounds": 1, **more})
+            limits = re.sub(r"\d+", lambda it: "{:,}".format(int(it[0])), str(caught.exception).partition(" is not ")[2])
+            self.assertRegex(icfp_ants.__doc__, r"\b%s\b(?!,\d)" % limits)
 
 
 if __name__ == "__main__":

@@ -4,14 +4,20 @@
     world, brain = open("contest.world").read(), open("sample.brain").read()
     red, black = icfp_ants.score(world, brain, brain, seed=12345, rounds=1000)
 
-Each command of the program but `help` is a function with its options as keywords, without those that change nothing that is printed (`--workers`, `--far`);
-`call` takes the words of any. What a command prints comes as str; where it prints lines that tell of something, as `trace`, `labels` or `cup`, they come as
+Each command of the program but `help` is a function with its options as keywords, without those that change nothing that is printed (`--workers`, `--far`).
+`--dump` is `dumps` there, `--from` is `start`, and `--labels`, `--lines`, `--way` and `--states` are functions of these names. `call` takes the words of any
+command. What a command prints comes as str; where it prints lines that tell of something, as `trace`, `labels` or `cup`, they come as
 named tuples, with the `text` as the program writes it. `score_of`, `counts_of` and `cells` read what stands in the texts of games, and `look` gives scores and
 ants without a text. `scores` and `scores_of_pairs` play many games in a call.
 
-A text is given as str or bytes. What is neither, as a file's name in a Path, is a TypeError. A text that is refused raises `Refused`, with the program's
-words; a number beyond its limits raises ValueError, and memory that could not be had MemoryError. Any threads may call at once: while a call runs, other
-threads of Python run too. No call is made in a forked child of a process with threads: `multiprocessing` begins its processes by "spawn".
+The project's docs/RULES.md says what is printed, and what the numbers mean. Ids, columns, rows and states count from 0, rounds and lines from 1. Seeds are
+0 to 4,294,967,295, rounds 0 to 1,000,000, workers 1 to 256. `surround` is how many foes surround an ant, 4 to 6; `corpse` how much food a killed one leaves,
+0 to 9; `rest` how many turns one rests after a step, 0 to 255; `window`, 1 to 16,384 turns, is for the counts.
+
+A text is given as str or bytes: a file's name as str is read as a text, and refused. What is neither, as a Path, is a TypeError. A text that is refused
+raises `Refused`, with the program's words; a number beyond its limits raises ValueError, and memory that could not be had MemoryError. Any threads may call
+at once: while a call runs, other threads of Python run too. Make no call in a forked child of a process with threads: let `multiprocessing` begin its
+processes by "spawn".
 
 The library is the file that the variable ANTS_LIBRARY names; else libants.so in this package, in the folder that the package is in, in a folder `lib`
 beside it or around it, or in that of Python; else the one that the system finds. Where it is not there, or of another version than this package, each

@@ -48,6 +48,6 @@ def difference(first: Text, second: Text) -> Optional[Difference]:
 
 
 def gen(seed: int, width: int = 150, height: int = 150, rocks: int = 14, blobs: int = 11) -> str:
-    """A world in the contest's manner, as `ants gen` prints it."""
+    """A world in the contest's manner, as `ants gen` prints it: of 3 to 512 columns and rows, with 0 to 255 rocks and blobs of food, if all have room."""
     sides = number_of("width", width, 3, 512), number_of("height", height, 3, 512)
     return text_of("ants_gen", {}, number_of("seed", seed), *sides, number_of("rocks", rocks, most=255), number_of("blobs", blobs, most=255))

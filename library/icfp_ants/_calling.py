@@ -6,7 +6,7 @@ from typing import Callable, Iterable, Mapping, NamedTuple
 
 from . import _declared
 from ._declared import Kind
-from ._library import Refused, Text, Texts, area_of, bytes_of, is_done, library, numbers_of
+from ._library import Refused, Text, Texts, area_of, bytes_of, is_done, library, names_of, numbers_of
 
 _ROOM, _ROOM_FOR_LINE = 1 << 28, 1 << 10  # bytes of the first rooms, of which only those that are written take memory
 _NO_FILES: Mapping[str, Text] = MappingProxyType({})
@@ -40,9 +40,9 @@ def call(words: Iterable[str], files: Mapping[str, Text] = _NO_FILES) -> Called:
     """Runs the program with these words, which don't have its name, over these files by their names; "-" is a name as any other.
 
     Nothing is read from the machine: a file that isn't among these is one that can't be read, with status 3. `--far` is no option, and workers play on
-    this thread. No word and no name has a line break.
+    this thread. No word and no name has a line break. A call, also by a function that prints lines, maps 256 MiB, of which it uses what is written.
     """
-    spoken, names = _lines("words", words), _lines("files", files)
+    spoken, names = _lines("words", words), _lines("files", names_of("files", files))
     texts = [bytes_of(name, text) for name, text in files.items()]
     sizes, contents = numbers_of("files", map(len, texts)), b"".join(texts)
     room, room_for_line = _ROOM, _ROOM_FOR_LINE

@@ -3,7 +3,7 @@ from typing import Mapping, Optional, Tuple
 
 from ._calling import output_of, read_game
 from ._games import Score, counts_of, game_output, score_of
-from ._library import MOST_ROUNDS, Text, Texts, bytes_of, number_of, text_of, texts_of
+from ._library import MOST_ROUNDS, Text, Texts, bytes_of, names_of, number_of, text_of, texts_of
 from ._printed import (
     Colour, Cup, Death, Event, Executed, Label, Line, Played, Printed, Renumbered, Standing, Step, Stop, Traced, Workload, cell_of, tuples_of, uses_of,
 )
@@ -72,8 +72,9 @@ def profile(
 
 def _files(kind: str, texts: Mapping[str, Text], least: int) -> Texts:
     """The texts of a cup by their names, which are to be words that name files."""
-    number_of(kind, len(texts), least, 16)
-    for name in texts:
+    names = names_of(kind, texts)
+    number_of(kind, len(names), least, 16)
+    for name in names:
         if not name or name.startswith("--") or "\n" in name:
             raise ValueError("%s[%r]: no name of a file" % (kind, name))
     return {name: bytes_of("%s[%r]" % (kind, name), text) for name, text in texts.items()}

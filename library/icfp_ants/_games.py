@@ -7,7 +7,7 @@ from typing import Callable, Dict, Iterable, List, NamedTuple, Tuple
 
 from . import _declared
 from ._calling import output_of, read_game
-from ._library import MOST_ROUNDS, Answer, Text, Texts, bytes_of, is_done, library, number_of, numbers_of, text_of, texts_of
+from ._library import MOST_ROUNDS, Answer, Text, Texts, bytes_of, is_done, library, number_of, numbers_of, text_of, texts_of, whole_numbers
 
 _MOST_CELLS = 512 * 512
 _MOST_GUESSED = 1 << 28  # bytes of a room for a text whose length isn't known; only those that are written take memory
@@ -36,7 +36,7 @@ def _rounds(value: int) -> int:
 
 def _dumped(dumps: Iterable[int], rounds: int) -> List[int]:
     """The rounds after which a dump comes, each once: none comes after the last round."""
-    return sorted({it for it in (number_of("dumps", it) for it in dumps) if it <= rounds})
+    return sorted({it for it in whole_numbers("dumps", dumps) if it <= rounds})
 
 
 def _cells(world: bytes) -> int:
@@ -83,6 +83,7 @@ def scores_of_pairs(world: Text, pairs: Iterable[Tuple[Text, Text]], seeds: Iter
     """For each pair of a red and a black brain the scores of its games for each of these seeds, by so many threads.
 
     A text that is refused is named by its place, as "pairs[3][1]" for the black brain of the fourth pair; that of the first pair, where there are more.
+    A pair is read when its games begin, so a refusal may come late, and no score comes then. Without a pair no text is read.
     """
     ground, listed = bytes_of("world", world), [_pair(place, pair) for place, pair in enumerate(pairs)]
     held: Dict[int, bytes] = {}  # by the text, so that one of many pairs is held once

@@ -8,7 +8,7 @@ import pathlib
 import sys
 from array import array
 from ctypes import byref, c_char, c_size_t, c_uint32
-from typing import Dict, Iterable, Iterator, Union
+from typing import Dict, Iterable, Iterator, List, Mapping, Union
 
 from . import _declared
 from ._declared import Kind
@@ -87,6 +87,16 @@ def bytes_of(name: str, text: Text) -> bytes:
     return text if isinstance(text, bytes) else view.tobytes()
 
 
+def names_of(kind: str, texts: Mapping[str, Text]) -> List[str]:
+    """The names of texts that are given by their names."""
+    if not isinstance(texts, Mapping):
+        raise TypeError("%s: texts by their names are wanted, as a dict, and not %s" % (kind, type(texts).__name__))
+    for name in texts:
+        if not isinstance(name, str):
+            raise TypeError("%s: a name is wanted, as str, and not %s" % (kind, type(name).__name__))
+    return list(texts)
+
+
 def texts_of(**texts: Text) -> Texts:
     """The bytes of texts by their names."""
     return {name: bytes_of(name, text) for name, text in texts.items()}
@@ -94,15 +104,27 @@ def texts_of(**texts: Text) -> Texts:
 
 def number_of(name: str, value: int, least: int = 0, most: int = MOST_NUMBER) -> int:
     """A number within its limits, which ctypes would take modulo 2^32."""
-    number = operator.index(value)
+    try:
+        number = operator.index(value)
+    except TypeError:
+        raise TypeError("%s: a whole number is wanted, and not %s" % (name, type(value).__name__)) from None
     if not least <= number <= most:
         raise ValueError("%s: %d is not %d to %d" % (name, number, least, most))
     return number
 
 
+def whole_numbers(name: str, values: Iterable[int], most: int = MOST_NUMBER) -> List[int]:
+    """Numbers, each within its limits."""
+    try:
+        given = iter(values)
+    except TypeError:
+        raise TypeError("%s: whole numbers are wanted, as a list, and not %s" % (name, type(values).__name__)) from None
+    return [number_of(name, it, most=most) for it in given]
+
+
 def numbers_of(name: str, values: Iterable[int]) -> "array[int]":
     """Numbers as C has them, with one behind them, so that their place is no null."""
-    return array("I", [*(number_of(name, it) for it in values), 0])
+    return array("I", [*whole_numbers(name, values), 0])
 
 
 class Answer:

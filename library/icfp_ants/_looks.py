@@ -4,7 +4,7 @@ from typing import Iterable, List, NamedTuple, Optional
 
 from . import _declared
 from ._games import Score
-from ._library import MOST_ROUNDS, Text, area_of, is_done, number_of, numbers_of, texts_of
+from ._library import MOST_ROUNDS, Text, area_of, is_done, number_of, numbers_of, texts_of, whole_numbers
 from ._printed import Ant, Colour
 
 _COLOURS = Colour.RED, Colour.BLACK
@@ -19,9 +19,9 @@ class Look(NamedTuple):
 
 
 def look(world: Text, red: Text, black: Text, seed: int, rounds: Iterable[int]) -> List[Look]:
-    """The score and the ants of a game after each of these rounds, in their order from the first on."""
+    """The score and the ants of a game after each of these rounds, in rising order; a round that stands twice is looked at once."""
     game = texts_of(world=world, red=red, black=black)
-    after = sorted({number_of("rounds", it, most=MOST_ROUNDS) for it in rounds})
+    after = sorted(set(whole_numbers("rounds", rounds, most=MOST_ROUNDS)))
     most = len(after) * min(sum(map(game["world"].count, (b"+", b"-"))), _MOST_ANTS)  # as many as there are cells of hills
     scores, count = (_declared.Score * (len(after) + 1))(), c_size_t()
     ants = (_declared.Ant * (most + 1)).from_buffer(area_of((most + 1) * sizeof(_declared.Ant)))

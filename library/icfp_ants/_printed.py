@@ -69,7 +69,7 @@ class Death(NamedTuple):
 
 
 class Event(NamedTuple):
-    """What happens in a turn of an ant: one dies, or else the score becomes another."""
+    """What happens in the turn of the ant of this colour and id: one dies, and `score` is None, or the score becomes another, and `death` is None."""
     round: int
     colour: Colour
     ant: int
@@ -176,7 +176,7 @@ def _digits(text: Optional[str]) -> Tuple[int, ...]:
 
 
 def cells(dump: str) -> List[Cell]:
-    """The cells of a dump, row by row: of a text that has one, as `show` and `run` print it, or that of a `Stop`."""
+    """The cells of a dump, row by row: of a text that has one, as `show` and `run` print it, or that of a `Stop`; of several dumps in their order."""
     return [cell_of(line) for line in dump.split("\n") if line.startswith("cell ")]
 
 

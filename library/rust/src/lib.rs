@@ -42,7 +42,7 @@ pub enum Stop {
         /// The same in numbers.
         fault: Fault,
     },
-    /// Memory could not be had.
+    /// Memory could not be had by the library. Where this crate can't have a room of its own, the process ends, as for any `Vec`.
     OutOfMemory,
     /// A word or the name of a file of a [`call`] has a line break, or a file has 2^32 bytes or more.
     Unreadable,
@@ -253,7 +253,7 @@ impl<'a> Game<'a> {
         Ok(scores)
     }
 
-    /// The score and the ants after each of these rounds, in their order from the first on; a round that stands twice is looked at once.
+    /// The score and the ants after each of these rounds, in rising order; a round that stands twice is looked at once.
     ///
     /// ```
     /// let game = ants::Game::new("5\n3\n#####\n#+.-#\n#####\n", "Move 0 0\n", "Drop 0\n");
