@@ -7,6 +7,7 @@ import copy
 import os
 import pickle
 import re
+import struct
 import subprocess
 import tempfile
 import unittest
@@ -146,6 +147,25 @@ class Functions(Beside):
         self.assertEqual(len(icfp_ants.look(**AMBUSH, seed=12345, rounds=[1])[0].ants), 7)
         self.assertRaisesRegex(Refused, "^black: no instruction$", lambda: icfp_ants.look(**{**AMBUSH, "black": ""}, seed=1, rounds=[1]))
         self.assertRaisesRegex(ValueError, "^rounds: 1000001 is not", lambda: icfp_ants.look(**AMBUSH, seed=1, rounds=[1000001]))
+
+    def test_look_buffer(self):
+        """Each round has its score and its ants as the layout says, by the numbers of a look."""
+        form = struct.Struct("=" + "".join({"=u4": "I", "=u2": "H", "u1": "B"}[it] for _, it in icfp_ants.ANT_FIELDS))
+        names = [name for name, _ in icfp_ants.ANT_FIELDS]
+        for game, seed, rounds in ((AMBUSH, 12345, (1, 0)), (FIRST, 1, (110, 7)), (AMBUSH, 1, ())):
+            found, looks = icfp_ants.look_buffer(**game, seed=seed, rounds=rounds), icfp_ants.look(**game, seed=seed, rounds=rounds)
+            size = 8 + 16 * found.ids
+            self.assertEqual((found.rounds, len(found.data), form.size), ([it.round for it in looks], size * len(looks), 16))
+            for place, it in enumerate(looks):
+                record = found.data[size * place:size * (place + 1)]
+                self.assertEqual((struct.unpack_from("=II", record), found.ids), (it.score, len(it.ants)))
+                for id, ant in enumerate(it.ants):
+                    laid = dict(zip(names, form.unpack_from(record, 8 + 16 * id)))
+                    if ant is None:
+                        self.assertEqual(set(laid.values()), {0})
+                    else:
+                        said = Ant(id, (RED, BLACK)[laid["colour"]], *(laid[it] for it in ("column", "row", "direction", "laden", "state", "resting")))
+                        self.assertEqual((laid["alive"], said), (1, ant))
 
     def test_save_and_resume_with_their_options(self):
         options = {"window": 5, "surround": 4, "corpse": 9, "rest": 0}

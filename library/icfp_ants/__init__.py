@@ -8,7 +8,7 @@ Each command of the program but `help` is a function with its options as keyword
 `--dump` is `dumps` there, `--from` is `start`, and `--labels`, `--lines`, `--way` and `--states` are functions of these names. `call` takes the words of any
 command. What a command prints comes as str; where it prints lines that tell of something, as `trace`, `labels` or `cup`, they come as
 named tuples, with the `text` as the program writes it. `score_of`, `counts_of` and `cells` read what stands in the texts of games, and `look` gives scores and
-ants without a text. `scores` and `scores_of_pairs` play many games in a call.
+ants without a text, `look_buffer` in one buffer. `scores` and `scores_of_pairs` play many games in a call.
 
 The project's docs/RULES.md says what is printed, and what the numbers mean. Ids, columns, rows and states count from 0, rounds and lines from 1. Seeds are
 0 to 4,294,967,295, rounds 0 to 1,000,000, workers 1 to 256. `surround` is how many foes surround an ant, 4 to 6; `corpse` how much food a killed one leaves,
@@ -30,14 +30,14 @@ from ._declared import VERSION as __version__
 from ._declared import Kind
 from ._games import Counts, Score, advance, counts_of, resume, run, save, score, score_of, scores, scores_of_pairs
 from ._library import Refused
-from ._looks import Look, look
+from ._looks import ANT_FIELDS, Look, LookBuffer, look, look_buffer
 from ._printed import (
     Ant, Cell, Colour, Cup, Death, Event, Executed, Label, Line, Played, Printed, Renumbered, Standing, Step, Stop, Traced, Use, Workload, cells,
 )
 
 __all__ = [
-    "Ant", "Called", "Cell", "Colour", "Counts", "Cup", "Death", "Difference", "Event", "Executed", "Kind", "Label", "Line", "Look", "Played",
-    "Printed", "Refused", "Renumbered", "Score", "Standing", "Step", "Stop", "Traced", "Use", "Workload", "__version__", "advance", "asm", "brain",
-    "call", "cells", "counts_of", "cup", "difference", "events", "gen", "labels", "lines", "look", "minimise", "profile", "resume", "run", "same",
-    "save", "score", "score_of", "scores", "scores_of_pairs", "show", "states", "trace", "view", "way", "workload",
+    "ANT_FIELDS", "Ant", "Called", "Cell", "Colour", "Counts", "Cup", "Death", "Difference", "Event", "Executed", "Kind", "Label", "Line", "Look",
+    "LookBuffer", "Played", "Printed", "Refused", "Renumbered", "Score", "Standing", "Step", "Stop", "Traced", "Use", "Workload", "__version__", "advance", "asm", "brain",
+    "call", "cells", "counts_of", "cup", "difference", "events", "gen", "labels", "lines", "look", "look_buffer", "minimise", "profile", "resume",
+    "run", "same", "save", "score", "score_of", "scores", "scores_of_pairs", "show", "states", "trace", "view", "way", "workload",
 ]
