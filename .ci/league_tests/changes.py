@@ -150,7 +150,7 @@ class Changes(Folder):
         version = self.text("season/files").split("\n")[1][2:]
         self.assertEqual(lines[0], "check: played by %s: %s, %s" % (self.program, version, self.sum(self.program)))
         self.assertIn("check: 12 of 12 games are played again, chosen by the seed ", lines[1])
-        expected = "check: game 2: red 0 black 99, ambush.world, step.brain, first.brain; played again: %s (%s)"
+        expected = "check: game 3: red 0 black 99, ambush.world, step.brain, first.brain; played again: %s (%s)"
         self.assertEqual(lines[2], expected % (self.score("ambush.world", "step.brain", "first.brain")[7:], name.partition("/")[2]))
         os.remove(name)
         self.assertEqual(self.play(), self.cup())
