@@ -113,9 +113,9 @@ class Changes(Folder):
             self.assertNotEqual(wrong, text)
             with open(name, "w") as file:
                 file.write(wrong)
-            self.assertEqual(self.bad("season"), "league: results/%s isn't whole or doesn't add up\n" % os.path.basename(name))
+            self.assertEqual(self.bad("season"), "league: results/%s isn't whole, doesn't add up or contradicts another\n" % os.path.basename(name))
         for words in (["season", "--check", "0"], ["season", "--unfinished"], ["season", "--games"]):
-            self.assertIn("isn't whole or doesn't add up\n", self.bad(*words))
+            self.assertIn("isn't whole, doesn't add up or contradicts another\n", self.bad(*words))
         status, output, faults = self.called(*self.words("--calls"))
         self.assertEqual((status, output), (0, "1 call in season/calls\n"))
         self.assertIn("played again", faults)
@@ -136,7 +136,8 @@ class Changes(Folder):
         shutil.copy(name.replace("season", "both"), name)
         self.assertEqual(self.good("season"), self.cup())
         self.lose(name)
-        self.assertEqual(self.bad("season"), "".join("league: %s isn't whole or doesn't add up\n" % it[7:] for it in sorted((name, other))))
+        told = "league: %s isn't whole, doesn't add up or contradicts another\n"
+        self.assertEqual(self.bad("season"), "".join(told % it[7:] for it in sorted((name, other))))
 
     def test_result_that_is_changed_by_hand(self):
         self.play()
@@ -189,3 +190,24 @@ class Changes(Folder):
             self.assertIn("season is of an older league, whose results don't tell what was played", self.bad(*words))
         os.remove("season/calls")
         self.assertIn("season is of an older league", self.bad("season"))
+        os.rename("season/results/1", "season/calls")
+        self.assertIn("season is of an older league", self.bad("season"))
+
+    def test_results_without_a_list(self):
+        """What several folders played is put together in a new one."""
+        self.worlds, (first, second) = self.worlds[:1], self.worlds
+        self.play()
+        os.rename("season", "there")
+        self.worlds = [second]
+        self.play()
+        for path in self.results():
+            shutil.move(path, "there/results")
+        shutil.rmtree("season")
+        os.mkdir("season")
+        os.rename("there/results", "season/results")
+        self.worlds = [first, second]
+        for _ in range(2):
+            self.assertEqual(self.bad("season"), "league: season has no league\n")
+            self.assertEqual(self.good(*self.words("--calls")), "0 calls in season/calls\n")
+            self.assertEqual(self.good("season"), self.cup())
+            os.truncate("season/files", 0)  # as a machine may leave it that lost its power

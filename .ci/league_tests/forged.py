@@ -163,7 +163,7 @@ class Forged(Folder):
         files = 5000 * (line % "w") + "# brains\n" + line % "a" + line % (2 * 10 ** 6 * "b")
         front = self.text(self.result).partition("# worlds\n")[0] + "# worlds\n"
         self.forge(self.result, front + files + 10000 * "game 1: red 0 black 0, \n")
-        self.refused(" isn't whole or doesn't add up\n")
+        self.refused(" isn't whole, doesn't add up or contradicts another\n")
 
     def test_many_that_are_alike(self):
         """Each of a few results is for all of a million games, one of the same sums among them."""
@@ -189,11 +189,11 @@ class Forged(Folder):
             self.refused("season/files isn't a list of this league's form")
         self.anew()
         self.edit(self.result, "seed 12345", "seed " + 5000 * "9")
-        self.refused("%s isn't whole or doesn't add up" % self.result[7:])
+        self.refused("%s isn't whole, doesn't add up or contradicts another" % self.result[7:])
         for new in ("red \u0663", "red " + 5000 * "1"):
             self.anew()
             self.forge(self.result, re.sub("red [0-9]+", new, self.text(self.result), count=1))
-            self.refused("%s isn't whole or doesn't add up" % self.result[7:])
+            self.refused("%s isn't whole, doesn't add up or contradicts another" % self.result[7:])
 
     def test_names(self):
         for name, shown in (("-", "-"), ("--stats", "--stats"), ("a, b", "a, b"), ("a\0b", "a\\x00b"), ("\udcff", "\\xff"), (4096 * "x", 99 * "x")):
@@ -234,14 +234,14 @@ class Forged(Folder):
         """Results that say something else than their names, contradict one another, or only add up."""
         other = next(it for it in self.results() if it != self.result)
         self.forge(other, self.text(self.result))
-        self.refused("%s isn't whole or doesn't add up" % other[7:])
+        self.refused("%s isn't whole, doesn't add up or contradicts another" % other[7:])
         self.anew()
         self.edit(self.result, "game 1:", "game 2:")
-        self.refused("%s isn't whole or doesn't add up" % self.result[7:])
+        self.refused("%s isn't whole, doesn't add up or contradicts another" % self.result[7:])
         self.anew()
         lines = re.findall("(?m)^game .*\n", self.text(self.result))
         self.edit(self.result, lines[0] + lines[1], lines[1] + lines[0])
-        self.refused("%s isn't whole or doesn't add up" % self.result[7:])
+        self.refused("%s isn't whole, doesn't add up or contradicts another" % self.result[7:])
         for path in self.results():
             self.anew()
             self.lose(path)
