@@ -74,6 +74,15 @@ class Changes(Folder):
         ran = subprocess.run(["sh", "season/calls"], stderr=subprocess.PIPE, env=self.environment())
         self.assertEqual((ran.returncode, ran.stderr), (1, b"league: a file changed while first.brain idle.brain were played\n"))
 
+    def test_file_that_changes_while_it_is_checked(self):
+        """The results are not blamed for it."""
+        self.play()
+        script("changing", '#!/bin/sh\n[ "$1" != run ] || sed -i s/Left/Right/ first.brain\nexec %s "$@"\n' % shlex.quote(PROGRAM))
+        self.program = os.path.join(self.folder, "changing")
+        status, output, faults = self.called("season", "--check", "12")
+        self.assertEqual((status, "differ" in output, "played again:" in output), (1, False, False))
+        self.assertEqual(faults.split(";")[0], "league: first.brain has another sum than what was played")
+
     def test_late_withdrawn_and_forgotten(self):
         everything, self.worlds = (self.worlds, BRAINS), self.worlds[:1]
         self.play()
