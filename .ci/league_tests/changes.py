@@ -74,6 +74,15 @@ class Changes(Folder):
         ran = subprocess.run(["sh", "season/calls"], stderr=subprocess.PIPE, env=self.environment())
         self.assertEqual((ran.returncode, ran.stderr), (1, b"league: a file changed while first.brain idle.brain were played\n"))
 
+    def test_file_that_changes_while_it_is_checked(self):
+        """The results are not blamed for it."""
+        self.play()
+        script("changing", '#!/bin/sh\n[ "$1" != run ] || sed -i s/Left/Right/ first.brain\nexec %s "$@"\n' % shlex.quote(PROGRAM))
+        self.program = os.path.join(self.folder, "changing")
+        status, output, faults = self.called("season", "--check", "12")
+        self.assertEqual((status, "differ" in output, "played again:" in output), (1, False, False))
+        self.assertEqual(faults.split(";")[0], "league: first.brain has another sum than what was played")
+
     def test_late_withdrawn_and_forgotten(self):
         everything, self.worlds = (self.worlds, BRAINS), self.worlds[:1]
         self.play()
@@ -113,9 +122,9 @@ class Changes(Folder):
             self.assertNotEqual(wrong, text)
             with open(name, "w") as file:
                 file.write(wrong)
-            self.assertEqual(self.bad("season"), "league: results/%s isn't whole or doesn't add up\n" % os.path.basename(name))
+            self.assertEqual(self.bad("season"), "league: results/%s isn't whole, doesn't add up or contradicts another\n" % os.path.basename(name))
         for words in (["season", "--check", "0"], ["season", "--unfinished"], ["season", "--games"]):
-            self.assertIn("isn't whole or doesn't add up\n", self.bad(*words))
+            self.assertIn("isn't whole, doesn't add up or contradicts another\n", self.bad(*words))
         status, output, faults = self.called(*self.words("--calls"))
         self.assertEqual((status, output), (0, "1 call in season/calls\n"))
         self.assertIn("played again", faults)
@@ -136,7 +145,8 @@ class Changes(Folder):
         shutil.copy(name.replace("season", "both"), name)
         self.assertEqual(self.good("season"), self.cup())
         self.lose(name)
-        self.assertEqual(self.bad("season"), "".join("league: %s isn't whole or doesn't add up\n" % it[7:] for it in sorted((name, other))))
+        told = "league: %s isn't whole, doesn't add up or contradicts another\n"
+        self.assertEqual(self.bad("season"), "".join(told % it[7:] for it in sorted((name, other))))
 
     def test_result_that_is_changed_by_hand(self):
         self.play()
@@ -150,7 +160,7 @@ class Changes(Folder):
         version = self.text("season/files").split("\n")[1][2:]
         self.assertEqual(lines[0], "check: played by %s: %s, %s" % (self.program, version, self.sum(self.program)))
         self.assertIn("check: 12 of 12 games are played again, chosen by the seed ", lines[1])
-        expected = "check: game 2: red 0 black 99, ambush.world, step.brain, first.brain; played again: %s (%s)"
+        expected = "check: game 3: red 0 black 99, ambush.world, step.brain, first.brain; played again: %s (%s)"
         self.assertEqual(lines[2], expected % (self.score("ambush.world", "step.brain", "first.brain")[7:], name.partition("/")[2]))
         os.remove(name)
         self.assertEqual(self.play(), self.cup())
@@ -189,3 +199,24 @@ class Changes(Folder):
             self.assertIn("season is of an older league, whose results don't tell what was played", self.bad(*words))
         os.remove("season/calls")
         self.assertIn("season is of an older league", self.bad("season"))
+        os.rename("season/results/1", "season/calls")
+        self.assertIn("season is of an older league", self.bad("season"))
+
+    def test_results_without_a_list(self):
+        """What several folders played is put together in a new one."""
+        self.worlds, (first, second) = self.worlds[:1], self.worlds
+        self.play()
+        os.rename("season", "there")
+        self.worlds = [second]
+        self.play()
+        for path in self.results():
+            shutil.move(path, "there/results")
+        shutil.rmtree("season")
+        os.mkdir("season")
+        os.rename("there/results", "season/results")
+        self.worlds = [first, second]
+        for _ in range(2):
+            self.assertEqual(self.bad("season"), "league: season has no league\n")
+            self.assertEqual(self.good(*self.words("--calls")), "0 calls in season/calls\n")
+            self.assertEqual(self.good("season"), self.cup())
+            os.truncate("season/files", 0)  # as a machine may leave it that lost its power

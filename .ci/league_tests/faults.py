@@ -2,8 +2,11 @@
 import os
 import resource
 import shutil
+import signal
 import subprocess
 import sys
+import threading
+import time
 
 from league_tests.folder import LEAGUE, Folder, script
 
@@ -24,6 +27,21 @@ class Faults(Folder):
             self.one(*words)
         self.assertIn("season has no league", self.one("season"))
         self.assertFalse(os.path.exists("season"))
+
+    def test_signal_while_a_thread_begins(self):
+        def signalled():
+            begin = threading._start_new_thread
+
+            def begun(*words):
+                begin(*words)
+                time.sleep(0.2)
+                os.kill(os.getpid(), signal.SIGINT)
+            threading._start_new_thread = begun
+        told = "league: stopped; the same command goes on\n"
+        self.assertEqual(self.called(*self.words("--calls"), before=signalled), (130, "", told))
+        self.play()
+        status, output, faults = self.called("season", "--check", "12", before=signalled)
+        self.assertEqual((status, "differ" in output, faults), (130, False, "league: stopped\n"))
 
     def test_no_program(self):
         for self.program in ("no/such", os.path.join(self.folder, "step.brain"), "/bin/true"):

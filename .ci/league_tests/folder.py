@@ -82,7 +82,7 @@ class Folder(unittest.TestCase):
             until, ended = time.monotonic() + seconds, (0, 0)
             while ended[0] == 0:
                 ended = os.waitpid(child, os.WNOHANG)
-                if time.monotonic() > until:
+                if ended[0] == 0 and time.monotonic() > until:
                     os.kill(child, signal.SIGKILL)
                 time.sleep(0.002)
             self.assertTrue(os.WIFEXITED(ended[1]), "no end in %d seconds" % seconds)

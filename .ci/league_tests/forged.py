@@ -9,7 +9,7 @@ import shutil
 import subprocess
 import tempfile
 
-from league_tests.folder import LEAGUE, PROGRAM, Folder, script
+from league_tests.folder import HAS_PARALLEL, LEAGUE, PROGRAM, Folder, needs_parallel, script
 
 
 class Forged(Folder):
@@ -80,6 +80,16 @@ class Forged(Folder):
                 self.assertEqual((status, lines[-2], len(lines)), (1, "check: 4 differ", 9))
                 self.assertFalse(os.path.exists("ran"))
 
+    def test_programs_where_the_path_has_this_folder(self):
+        for name in ("ants", "parallel", "sh"):
+            script(name, "#!/bin/sh\ntouch ran\n")
+        self.program, self.path = "", ":.:%s:bin:" % self.path
+        self.assertEqual(self.bad("season", "--check", "1"), "league: there is no program ants; ANTS names it\n")
+        self.program = PROGRAM
+        if HAS_PARALLEL:
+            self.assertIn("check: 0 differ\n", self.good("season", "--check", "1", "--", "-j", "1"))
+        self.assertFalse(os.path.exists("ran"))
+
     def test_no_program_is_needed(self):
         self.program, self.path = "no/such", self.path.replace(os.path.dirname(PROGRAM), "")
         for words in self.READS:
@@ -120,6 +130,66 @@ class Forged(Folder):
             self.refused("league: %s: Not a directory\n" % path if path == "season/results" else "league: %s is no plain file\n" % path)
             self.assertEqual(self.bad(*self.begin())[7:].count(path), 1)
             shutil.rmtree("away") if os.path.isdir("away") else os.remove("away")
+
+    def test_folder_that_is_a_link(self):
+        away = tempfile.mkdtemp(prefix="league-")
+        self.addCleanup(shutil.rmtree, away)
+        shutil.move("season", away)
+        os.symlink(away + "/season", "season")
+        for name in ("season", "season/"):
+            for words in (*self.READS, ["--show", "1"], ["--check", "1"]):
+                told = "league: %s leads out of %s/, and isn't read; --under names another directory\n" % (name, os.path.realpath("."))
+                self.assertEqual(self.bad(name, *words), told)
+            self.assertEqual(self.good(name, "--under", ".."), self.cup())
+        os.remove("season")
+        shutil.move(away + "/season", "here")
+        os.symlink("here", "season")
+        self.harmless()
+
+    def test_links_in_a_chain(self):
+        """More than the system follows, than Python does, and without an end."""
+        for kind, (count, end) in enumerate(((1100, "first.brain"), (60, "first.brain"), (1, "2-0"), (30, "first.brain"))):
+            names = ["%d-%d" % (kind, it) for it in range(count)]
+            for name, its in zip(names, names[1:] + [end]):
+                os.symlink(its, name)
+            self.listed("  first.brain\n", "  %s\n" % names[0])
+            if count != 30:
+                self.refused("league: %s can't be read: a plain file of at most 4194304 bytes is wanted\n" % names[0])
+        self.brains[2] = names[0]
+        self.harmless()
+
+    def test_names_that_the_program_cannot_open(self):
+        for name in ("first.brain/", "first.brain/.", "gone/../first.brain", "step.brain/../first.brain"):
+            self.listed("  first.brain\n", "  %s\n" % name)
+            self.refused("league: %s can't be read: a plain file of at most 4194304 bytes is wanted\n" % name)
+        self.brains[2] = "season/.././/first.brain"
+        self.listed("  first.brain\n", "  season/.././/first.brain\n")
+        self.harmless()
+
+    def test_game_that_is_shown(self):
+        """It is of the files of the list, so that none leads out, waits or is another one where a shell plays what is shown."""
+        self.listed("  first.brain\n", "  /dev/tty\n")
+        self.assertIn("/dev/tty leads out of ", self.bad("season", "--show", "1"))
+        self.anew()
+        os.rename("first.brain", "away")
+        os.mkfifo("first.brain")
+        self.assertIn("first.brain can't be read", self.bad("season", "--show", "1"))
+        os.remove("first.brain")
+        shutil.copy("step.brain", "first.brain")
+        self.assertIn("first.brain has another sum", self.bad("season", "--show", "1"))
+
+    def test_names_of_games_that_are_alike(self):
+        """The sums of two brains begin with the same 12 digits: a name may be of several games, if they aren't one."""
+        shutil.rmtree("season")
+        self.forge("step.brain", "Move 0 0;50fb70276734")
+        self.forge("first.brain", "Turn Left 0;b4473a0e9bd7")
+        self.worlds, self.brains = 2 * ["ambush.world"], [*self.brains, "idle.brain"]
+        self.good(*self.words("--calls"))
+        one, other, third = (self.name("ambush.world", it, "idle.brain") for it in ("step.brain", "first.brain", "flip_two.brain"))
+        self.assertEqual(one, other)
+        self.assertEqual(self.bad("season", "--show", one), "league: several games are called %s: take a number\n" % one)
+        shown = "ants run ambush.world flip_two.brain idle.brain --seed 12345 --rounds 200\n"
+        self.assertEqual(self.good("season", "--show", third), shown)
 
     def test_what_is_no_file(self):
         for make, path in itertools.product((os.mkfifo, os.mkdir), ("season/files", self.result)):
@@ -163,7 +233,7 @@ class Forged(Folder):
         files = 5000 * (line % "w") + "# brains\n" + line % "a" + line % (2 * 10 ** 6 * "b")
         front = self.text(self.result).partition("# worlds\n")[0] + "# worlds\n"
         self.forge(self.result, front + files + 10000 * "game 1: red 0 black 0, \n")
-        self.refused(" isn't whole or doesn't add up\n")
+        self.refused(" isn't whole, doesn't add up or contradicts another\n")
 
     def test_many_that_are_alike(self):
         """Each of a few results is for all of a million games, one of the same sums among them."""
@@ -189,11 +259,11 @@ class Forged(Folder):
             self.refused("season/files isn't a list of this league's form")
         self.anew()
         self.edit(self.result, "seed 12345", "seed " + 5000 * "9")
-        self.refused("%s isn't whole or doesn't add up" % self.result[7:])
+        self.refused("%s isn't whole, doesn't add up or contradicts another" % self.result[7:])
         for new in ("red \u0663", "red " + 5000 * "1"):
             self.anew()
             self.forge(self.result, re.sub("red [0-9]+", new, self.text(self.result), count=1))
-            self.refused("%s isn't whole or doesn't add up" % self.result[7:])
+            self.refused("%s isn't whole, doesn't add up or contradicts another" % self.result[7:])
 
     def test_names(self):
         for name, shown in (("-", "-"), ("--stats", "--stats"), ("a, b", "a, b"), ("a\0b", "a\\x00b"), ("\udcff", "\\xff"), (4096 * "x", 99 * "x")):
@@ -206,6 +276,24 @@ class Forged(Folder):
         self.listed("  first.brain\n", "  -\n")
         self.edit("season/files", "  step.brain\n", "  a, b\n")
         self.assertEqual(self.bad("season").count("can't be a name"), 2)
+
+    def test_version(self):
+        for version in ("ants 9.9.9", "ants 1"):
+            self.anew()
+            self.edit("season/files", self.text("season/files").split("\n")[1], "# " + version)
+            self.assertIn("check: the list has another program: %s, %s\n" % (version, self.sum(PROGRAM)), self.good("season", "--check", "1"))
+
+    def test_names_that_look_alike(self):
+        """A check tells each that isn't what it seems: by a blank, a letter of another script, or a sign that no terminal shows."""
+        for name in ("step.brain ", " step.brain", "step  .brain", "st\u0435p.brain", "ste\u0301p.brain", "step.brain\ufe0f", "\u3164step.brain"):
+            shutil.copy("first.brain", name)
+            self.listed("  first.brain\n", "  %s\n" % name)
+            told = [it for it in self.good("season", "--check", "1").split("\n") if "look like" in it]
+            self.assertEqual(told, ["check: a name that may look like another one: %s" % ascii(name)])
+        for name in ("step brain", "~step.brain"):
+            shutil.copy("first.brain", name)
+            self.listed("  first.brain\n", "  %s\n" % name)
+            self.assertNotIn("look like", self.good("season", "--check", "1"))
 
     def on_a_terminal(self, *words):
         """What a terminal gets of a league."""
@@ -230,18 +318,37 @@ class Forged(Folder):
         os.remove(odd)
         self.assertEqual(self.bad("season"), "league: %s can't be read: a plain file of at most 4194304 bytes is wanted\n" % shown)
 
+    @needs_parallel
+    def test_escapes_that_parallel_tells(self):
+        """Parallel tells a call that fails as it is, here of a brain that the program refuses."""
+        odd, shown = "x\x1b]0;taken\x07\x1b[2J.brain", "x\\x1b]0;taken\\x07\\x1b[2J.brain"
+        self.forge(odd, "Jump 0\n")
+        one, other = self.sum("first.brain"), self.sum(odd)
+        self.listed("%s  first.brain\n" % one, "%s  %s\n" % (other, odd))
+        for path in self.results():
+            text = self.text(path).replace(one, other)
+            sums = re.findall("(?m)^([0-9a-f]{64})  ", text)
+            os.remove(path)
+            self.forge("season/results/" + hashlib.sha256("\n".join(["12345", "200"] + sums).encode()).hexdigest()[:32], text)
+        self.assertIn("points: %s (" % odd, self.good("season"))
+        for words in ([], ["--", "-j", "1"]):
+            told = self.on_a_terminal("season", "--check", "12", *words)
+            self.assertIn("league: %s: line 1: unknown word" % shown, told)
+            self.assertEqual(re.findall("[\x07\x1b][^[]|\x1b\\[2J", told), [])
+        self.assertIn("parallel: This job failed", told)
+
     def test_results(self):
         """Results that say something else than their names, contradict one another, or only add up."""
         other = next(it for it in self.results() if it != self.result)
         self.forge(other, self.text(self.result))
-        self.refused("%s isn't whole or doesn't add up" % other[7:])
+        self.refused("%s isn't whole, doesn't add up or contradicts another" % other[7:])
         self.anew()
         self.edit(self.result, "game 1:", "game 2:")
-        self.refused("%s isn't whole or doesn't add up" % self.result[7:])
+        self.refused("%s isn't whole, doesn't add up or contradicts another" % self.result[7:])
         self.anew()
         lines = re.findall("(?m)^game .*\n", self.text(self.result))
         self.edit(self.result, lines[0] + lines[1], lines[1] + lines[0])
-        self.refused("%s isn't whole or doesn't add up" % self.result[7:])
+        self.refused("%s isn't whole, doesn't add up or contradicts another" % self.result[7:])
         for path in self.results():
             self.anew()
             self.lose(path)
