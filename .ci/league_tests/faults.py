@@ -30,6 +30,7 @@ class Faults(Folder):
 
     def test_signal_while_a_thread_begins(self):
         def signalled():
+            signal.signal(signal.SIGINT, signal.SIG_DFL)  # which a shell ignores for what it runs behind
             begin = threading._start_new_thread
 
             def begun(*words):
