@@ -12,7 +12,7 @@ use Rattle.std.specs.Prelude.{nat_le}
 use Rattle.std.specs.Char.{digit_value, is_ascii_digit}
 use Rattle.std.specs.Str.{all_ascii_digits}
 use Rattle.std.specs.Str.Parse.{digits_value, AllDigits}
-use Rattle.ant_base.specs.Number.{is_number, decimal_value}
+use Rattle.ant_base.specs.Number.{decimal_value}
 
 -- how far a text has been read: all bytes so far are digits, and n is their value
 pub record Read (text : List ℕ) (at n : ℕ) : Type 0 where
@@ -45,7 +45,7 @@ read_other text at n lt other read = read.rest ∙ ap all_ascii_digits (drop_mor
 pub none_of_other : (text : List ℕ) → all_ascii_digits text ≡ false → decimal_value text ≡ None
 unfolding decimal_value
 none_of_other text other =
-    let no : is_number text ≡ false = ap (λ b. (nat_le 1 (length text) && nat_le (length text) 10) && b) other ∙ and-false (nat_le 1 (length text) && nat_le (length text) 10) in
+    let no : (nat_le 1 (length text) && nat_le (length text) 10 && all_ascii_digits text) ≡ false = ap (λ b. (nat_le 1 (length text) && nat_le (length text) 10) && b) other ∙ and-false (nat_le 1 (length text) && nat_le (length text) 10) in
     rw no refl
 
 -- texts of digits alone are read as numerals in base ten

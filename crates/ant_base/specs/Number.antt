@@ -3,13 +3,9 @@ use Rattle.std.specs.Prelude.{ℕ, Bool, ◌&&◌, List, length, Option, Some, N
 use Rattle.std.specs.Str.{all_ascii_digits}
 use Rattle.std.specs.Str.Parse.{digits_value}
 
--- whether a text is 1 to 10 decimal digits
-abbrev pub is_number : List ℕ → Bool
-is_number text = nat_le 1 (length text) && nat_le (length text) 10 && all_ascii_digits text
-
 -- the value of 1 to 10 decimal digits, leading zeros included; any other text has none
 unfoldable pub decimal_value : List ℕ → Option ℕ
-decimal_value text = if is_number text then Some (digits_value 10 text) else None
+decimal_value text = if nat_le 1 (length text) && nat_le (length text) 10 && all_ascii_digits text then Some (digits_value 10 text) else None
 
 -- a number, where it lies between the least and the greatest that are accepted
 abbrev pub within : ℕ → ℕ → Option ℕ → Option ℕ

@@ -21,14 +21,12 @@ pub record ShelfState : Type 0 where
 abbrev pub longest : ℕ
 longest = 4194304
 
--- the content of a name, which is no longer than the longest; where contents are told, it is the one that is there
-pub record IsContent (files : Told) (name content : List ℕ) : Type 0 where
-  pub told : IfSome files (λ at. at name ≡ Some content)
-  pub short : length content ≤ longest
-
--- where contents are told, the name is there and its content is longer than the longest
-abbrev pub IsTooLong : Told → List ℕ → Type 0
-IsTooLong files name = IfSome files (λ at. IsSomeAnd (at name) (λ content. longest < length content))
+-- an answer that agrees with what is told: the bytes are no more than the longest and, where contents are told, the one of the name; or the
+-- content of the name is told, and longer than that; a fetch that failed or wanted memory says nothing
+abbrev pub AnswerIsTold : Told → List ℕ → Result (List ℕ) FetchFault → Type 0
+AnswerIsTold files name (Ok bytes) = IfSome files (λ at. at name ≡ Some bytes) × (length bytes ≤ longest)
+AnswerIsTold files name (Err TooLong) = IfSome files (λ at. IsSomeAnd (at name) (λ content. longest < length content))
+AnswerIsTold files name (Err _) = ⊤
 
 -- a failed fetch: the shelf wasn't sure of the name, and its count of faults rose
 pub record IsFailed (old new : ShelfState) (name : List ℕ) : Type 0 where
@@ -37,9 +35,9 @@ pub record IsFailed (old new : ShelfState) (name : List ℕ) : Type 0 where
 
 -- what each answer says
 abbrev pub Answers : {A : Type 0} → ShelfState → ShelfState → List ℕ → Result (Vec ℕ A) FetchFault → Type 0
-Answers old new name (Ok content) = IsContent old.files name content.items
+Answers old new name (Ok content) = AnswerIsTold old.files name (Ok content.items)
 Answers old new name (Err Failed) = IsFailed old new name
-Answers old new name (Err TooLong) = IsTooLong old.files name
+Answers old new name (Err TooLong) = AnswerIsTold old.files name (Err TooLong)
 Answers old new name (Err OutOfMemory) = ⊤
 
 -- what a fetch did: it is the last of the log, contents stay, the shelf stays sure of what it was sure of, and the count of faults falls
@@ -51,12 +49,6 @@ pub record Fetches {A : Type 0} (old new : ShelfState) (name : List ℕ) (result
   pub sure : (other : List ℕ) → old.sure other ≡ true → new.sure other ≡ true
   pub quiet : old.sure name ≡ true → new.faults ≡ old.faults
   pub later : old.faults ≤ new.faults
-
--- an answer that agrees with what is told: the bytes are the content, or it is too long; a fetch that failed or wanted memory says nothing
-abbrev pub AnswerIsTold : Told → List ℕ → Result (List ℕ) FetchFault → Type 0
-AnswerIsTold files name (Ok bytes) = IsContent files name bytes
-AnswerIsTold files name (Err TooLong) = IsTooLong files name
-AnswerIsTold files name (Err _) = ⊤
 
 -- a fetch whose answer agrees with what is told
 abbrev pub IsTold : Told → Fetched → Type 0

@@ -5,7 +5,7 @@ use Rattle.std.specs.Prelude.{IsSomeAnd}
 use Rattle.std.proofs.lemmas.Bool.{false≢true}
 use Rattle.ant_base.specs.Fetched.{Fetched}
 use Rattle.ant_base.specs.Faults.{Rose}
-use Rattle.ant_base.specs.Shelf.{AreSure, IsContent, IsTold, IsTooLong, ShelfState, Told, longest}
+use Rattle.ant_base.specs.Shelf.{AnswerIsTold, AreSure, IsTold, ShelfState, Told, longest}
 use Rattle.ant_base.specs.declared.shelf.FetchFault.TheVariants as answer
 use Rattle.command_words.proofs.WordLaws as words_laws
 use Rattle.command_words.specs.Command.{IsCommand, PlainAsked}
@@ -35,16 +35,16 @@ some_same : (a b : List ℕ) → Some a ≡ Some b → a ≡ b
 some_same a b same = cc
 
 -- bytes that were got are told
-told_bytes : (at : At) (name bytes : List ℕ) (fetch : Fetched) → IsTold (Some at) fetch → fetch ≡ record { name = name; answer = Ok bytes } → IsContent (Some at) name bytes
+told_bytes : (at : At) (name bytes : List ℕ) (fetch : Fetched) → IsTold (Some at) fetch → fetch ≡ record { name = name; answer = Ok bytes } → AnswerIsTold (Some at) name (Ok bytes)
 told_bytes at name bytes fetch told got = subst (IsTold (Some at)) got told
 
-told_long : (at : At) (name : List ℕ) (fetch : Fetched) → IsTold (Some at) fetch → fetch ≡ record { name = name; answer = Err answer.TooLong } → IsTooLong (Some at) name
+told_long : (at : At) (name : List ℕ) (fetch : Fetched) → IsTold (Some at) fetch → fetch ≡ record { name = name; answer = Err answer.TooLong } → AnswerIsTold (Some at) name (Err answer.TooLong)
 told_long at name fetch told got = subst (IsTold (Some at)) got told
 
 -- two fetches of a name got the same bytes
 pub one_bytes : (at : At) (name a b : List ℕ) (first second : Fetched) → IsTold (Some at) first → IsTold (Some at) second → first ≡ record { name = name; answer = Ok a } → second ≡ record { name = name; answer = Ok b } → a ≡ b
 one_bytes at name a b first second one two got gets =
-    some_same a b (sym (told_bytes at name a first one got).told ∙ (told_bytes at name b second two gets).told)
+    some_same a b (sym (told_bytes at name a first one got).0 ∙ (told_bytes at name b second two gets).0)
 
 never_long : (name bytes : List ℕ) (found : Option (List ℕ)) → found ≡ Some bytes → length bytes ≤ longest → IsSomeAnd found (λ content. longest < length content) → ⊥
 never_long name bytes None same short long = cc
@@ -57,7 +57,7 @@ never_long name bytes (Some other) same short long =
 pub never_bytes : (at : At) (name bytes : List ℕ) (first second : Fetched) → IsTold (Some at) first → IsTold (Some at) second → first ≡ record { name = name; answer = Ok bytes } → second ≡ record { name = name; answer = Err answer.TooLong } → ⊥
 never_bytes at name bytes first second one two got long =
     let content = told_bytes at name bytes first one got in
-    never_long name bytes (at name) content.told content.short (told_long at name second two long)
+    never_long name bytes (at name) content.0 content.1 (told_long at name second two long)
 
 -- a file is accepted as one content
 pub one_content : (at : At) (file : File) (first second : Fetched) (a b : FileContent) → IsTold (Some at) first → IsTold (Some at) second → IsAccepted file first a → IsAccepted file second b → a ≡ b

@@ -35,7 +35,7 @@ pub fn surrounded<G: Ground>(ground: &mut G, sheet: Sheet, p: Pos) -> bool
 }
 
 /// Checks `p` and then its six neighbours in the order of directions: an ant that is surrounded when its cell is checked is killed,
-/// and leaves the sheet's corpse of food there, and the particle that it carried (the task's martial arts).
+/// and leaves the sheet's corpse of food there, and the particle that it carried (the task's martial arts; the order is this project's own).
 ///
 /// The position is inside and not on the rim, and the ground has room for 7 cells. Gives the ids of the killed, in the order of the
 /// checks. No other cell changes.

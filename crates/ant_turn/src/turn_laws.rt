@@ -31,8 +31,9 @@ pub fn turns_keep_food()
     ensures { TurnsKeepFood }
 {}
 
-/// A law: a turn changes a world's weight by its kills alone: each killed ant weighed 9 and leaves the sheet's corpse, at most 9, so that
-/// each takes the difference away, which is 6 under the contest's sheet (the task's martial arts; the weight is this project's own).
+/// A law: a turn changes a world's weight by its kills alone: each killed ant weighed 9, beside the particle that it carried, and leaves
+/// that and the sheet's corpse, at most 9, so that each takes the difference away, which is 6 under the contest's sheet (the task's
+/// martial arts; the weight is this project's own).
 pub fn turns_keep_weight()
     ensures { TurnsKeepWeight }
 {}

@@ -11,6 +11,5 @@ foe_of Black = Red
 -- whether two colours are one
 abbrev pub same_colour : Colour → Colour → Bool
 same_colour Red Red = true
-same_colour Red Black = false
-same_colour Black Red = false
 same_colour Black Black = true
+same_colour _ _ = false

@@ -4,7 +4,6 @@ use Rattle.std.specs.List.{Contains, flat_map, AllByRecursion}
 use Rattle.std.proofs.lemmas.Bool.{false≢true, false_from_ne_true, le-leb, leb-true, not-true, or_from}
 use Rattle.std.proofs.lemmas.List.{length-append}
 use Rattle.std.proofs.lemmas.Slice.Eq.{bytes_eq-Decides}
-use Rattle.command_words.specs.contracts.table.Choice as option
 use Rattle.command_words.specs.declared.table.NameList.{NameList}
 use Rattle.command_words.specs.declared.table.NameList.TheVariants.{Worlds, Brains}
 use Rattle.command_words.specs.declared.slot.Slot.{Slot}

@@ -9,7 +9,7 @@ use Rattle.std.proofs.lemmas.Option.{slice_get_within, get_or_from_slice_get}
 use Rattle.std.proofs.lemmas.Slice.Eq.{bytes_eq-Decides}
 use Rattle.std.proofs.lemmas.Str.Parse.{digits_value_short}
 use Rattle.ant_base.proofs.Digits.{all_ascii_digits-IsNumeralModel}
-use Rattle.ant_base.specs.Number.{is_number, decimal_value, within, number_within}
+use Rattle.ant_base.specs.Number.{decimal_value, within, number_within}
 use Rattle.word_table.specs.Words.{IsSameWord, are_distinct, word_place}
 use Rattle.word_table.proofs.Places.{word_place-found, word_place-only}
 use Rattle.line_tokens.specs.Tokens.{is_bad_byte, has_bad_byte}
@@ -103,9 +103,9 @@ record IsDigits (token : List ℕ) (n : ℕ) : Type 0 where
 
 digits_of : (token : List ℕ) (n : ℕ) → decimal_value token ≡ Some n → IsDigits token n
 unfolding decimal_value
-digits_of token n is = go (is_number token) refl is
+digits_of token n is = go (nat_le 1 (length token) && nat_le (length token) 10 && all_ascii_digits token) refl is
   where
-    go : (b : Bool) → is_number token ≡ b → cond b (Some (digits_value 10 token)) None ≡ Some n → IsDigits token n
+    go : (b : Bool) → (nat_le 1 (length token) && nat_le (length token) 10 && all_ascii_digits token) ≡ b → cond b (Some (digits_value 10 token)) None ≡ Some n → IsDigits token n
     go true e k =
         let outer = and_parts (nat_le 1 (length token) && nat_le (length token) 10) (all_ascii_digits token) e in
         let inner = and_parts (nat_le 1 (length token)) (nat_le (length token) 10) outer.0 in
