@@ -47,14 +47,14 @@ use Rattle.ant_commands.proofs.Texts.{never_both}
 
 -- what the options of a run say of its game
 abbrev game_of : RunSetup → GameSetup
-game_of setup = record { seed = setup.seed; rounds = setup.rounds; dumps = setup.dumps; sheet = sheet_named setup }
+game_of setup = record { seed = setup.seed; rounds = setup.rounds; dumps = chosen_rounds setup.dumps; sheet = sheet_named setup }
 
 -- both brains of a game, with the numbers of its rules
 abbrev minds_in : GameSetup → ReadGame → Minds
 minds_in setup game = record { red = game.red; black = game.black; sheet = setup.sheet }
 
 abbrev game_text : GameSetup → ReadGame → List ℕ
-game_text setup game = run_text (minds_in setup game) setup.seed setup.rounds (chosen_rounds setup.dumps) (world_of game.world)
+game_text setup game = run_text (minds_in setup game) setup.seed setup.rounds setup.dumps (world_of game.world)
 
 -- without counts the output is the text of the game
 text_of_game : (setup : RunSetup) (read : ReadGame) → setup.stats ≡ false → match_output setup read ≡ game_text (game_of setup) read

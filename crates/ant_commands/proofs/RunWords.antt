@@ -21,7 +21,9 @@ use Rattle.command_words.proofs.AnswersLemmas.{answers_in-of, answers_of, has_gi
 use Rattle.command_words.proofs.TableLemmas.{bytes_eq-same, same_option}
 use Rattle.list_lemmas.proofs.AllElements.{AllByRecursion-at}
 use Rattle.list_lemmas.proofs.Elements.{Contains-cases, Contains-first, Contains-later, Contains-none}
+use Rattle.ant_commands.specs.Outputs.{chosen_rounds}
 use Rattle.ant_commands.specs.RunPromise.{AreOptions, GameSetup, IsDumps, IsNumber, IsOption, IsRunOf, IsSomeRun}
+use Rattle.ant_commands.specs.RunPromise.IsDumps.{NoRound, EveryRound, TheseRounds}
 use Rattle.ant_commands.specs.RunPromise.IsOption.{Seed, Rounds, Dump, Workers, Window, Surround, Corpse, Rest, Far}
 
 -- an option of a `run`, as the table has it
@@ -122,39 +124,47 @@ all_no_number : (rounds : List ℕ) → AllZip (IsNumber 0 1000000) rounds (piec
 unfolding decimal_value
 all_no_number rounds are = no_number (codes "all") refl refl rounds are
 
-dumps_spelled : (dumps : DumpChoice) (word : List ℕ) → IsDumps dumps word → dumps_of word ≡ Some dumps
-unfolding dumps_of
-dumps_spelled NoDump word is = ap dumps_of is
-dumps_spelled EveryDump word is = ap dumps_of is
-dumps_spelled (ChosenDumps rounds) word are =
-    go (bytes_eq word (codes "none")) refl (bytes_eq word (codes "all")) refl
-  where
-    go : (b : Bool) → bytes_eq word (codes "none") ≡ b → (c : Bool) → bytes_eq word (codes "all") ≡ c
-        → cond b (Some NoDump) (cond c (Some EveryDump) (option_map ChosenDumps (numbers_of (pieces_of word)))) ≡ Some (ChosenDumps rounds)
-    go true e c f = absurd (none_no_number rounds (subst (λ w. AllZip (IsNumber 0 1000000) rounds (pieces_of w)) ((bytes_eq-Decides word (codes "none")).0 e) are))
-    go false e true f = absurd (all_no_number rounds (subst (λ w. AllZip (IsNumber 0 1000000) rounds (pieces_of w)) ((bytes_eq-Decides word (codes "all")).0 f) are))
-    go false e false f = ap (option_map ChosenDumps) (numbers_said rounds (pieces_of word) are)
+-- a word is a choice of the table that chooses these rounds
+record IsChoice (dumps : ℕ → Bool) (word : List ℕ) : Type 0 where
+  chosen : DumpChoice
+  is : dumps_of word ≡ Some chosen
+  rounds : chosen_rounds chosen ≡ dumps
 
-dumps_read : (word : List ℕ) (dumps : DumpChoice) → dumps_of word ≡ Some dumps → IsDumps dumps word
+dumps_spelled : {dumps : ℕ → Bool} {word : List ℕ} → IsDumps dumps word → IsChoice dumps word
+unfolding dumps_of
+dumps_spelled NoRound = record { chosen = NoDump; is = refl; rounds = refl }
+dumps_spelled EveryRound = record { chosen = EveryDump; is = refl; rounds = refl }
+dumps_spelled (TheseRounds rounds word are) = record {
+  chosen = ChosenDumps rounds;
+  is = go (bytes_eq word (codes "none")) refl (bytes_eq word (codes "all")) refl;
+  rounds = refl;
+} where
+  go : (b : Bool) → bytes_eq word (codes "none") ≡ b → (c : Bool) → bytes_eq word (codes "all") ≡ c
+      → cond b (Some NoDump) (cond c (Some EveryDump) (option_map ChosenDumps (numbers_of (pieces_of word)))) ≡ Some (ChosenDumps rounds)
+  go true e c f = absurd (none_no_number rounds (subst (λ w. AllZip (IsNumber 0 1000000) rounds (pieces_of w)) ((bytes_eq-Decides word (codes "none")).0 e) are))
+  go false e true f = absurd (all_no_number rounds (subst (λ w. AllZip (IsNumber 0 1000000) rounds (pieces_of w)) ((bytes_eq-Decides word (codes "all")).0 f) are))
+  go false e false f = ap (option_map ChosenDumps) (numbers_said rounds (pieces_of word) are)
+
+dumps_read : (word : List ℕ) (dumps : DumpChoice) → dumps_of word ≡ Some dumps → IsDumps (chosen_rounds dumps) word
 unfolding dumps_of
 dumps_read word dumps e =
     go (bytes_eq word (codes "none")) refl (bytes_eq word (codes "all")) refl (numbers_of (pieces_of word)) refl dumps e
   where
     go : (b : Bool) → bytes_eq word (codes "none") ≡ b → (c : Bool) → bytes_eq word (codes "all") ≡ c
         → (o : Option (List ℕ)) → numbers_of (pieces_of word) ≡ o → (dumps : DumpChoice)
-        → cond b (Some NoDump) (cond c (Some EveryDump) (option_map ChosenDumps o)) ≡ Some dumps → IsDumps dumps word
-    go true e c f o is dumps same = (let one : NoDump ≡ dumps = cc in subst (λ d. IsDumps d word) one ((bytes_eq-Decides word (codes "none")).0 e))
-    go false e true f o is dumps same = (let one : EveryDump ≡ dumps = cc in subst (λ d. IsDumps d word) one ((bytes_eq-Decides word (codes "all")).0 f))
+        → cond b (Some NoDump) (cond c (Some EveryDump) (option_map ChosenDumps o)) ≡ Some dumps → IsDumps (chosen_rounds dumps) word
+    go true e c f o is dumps same = (let one : NoDump ≡ dumps = cc in subst (λ d. IsDumps (chosen_rounds d) word) one (subst (IsDumps (λ round. false)) (sym ((bytes_eq-Decides word (codes "none")).0 e)) NoRound))
+    go false e true f o is dumps same = (let one : EveryDump ≡ dumps = cc in subst (λ d. IsDumps (chosen_rounds d) word) one (subst (IsDumps (λ round. true)) (sym ((bytes_eq-Decides word (codes "all")).0 f)) EveryRound))
     go false e false f None is dumps same = (let no : ⊥ = cc in absurd no)
     go false e false f (Some rounds) is dumps same =
-        (let one : ChosenDumps rounds ≡ dumps = cc in subst (λ d. IsDumps d word) one (numbers_read (pieces_of word) rounds is))
+        (let one : ChosenDumps rounds ≡ dumps = cc in subst (λ d. IsDumps (chosen_rounds d) word) one (TheseRounds rounds word (numbers_read (pieces_of word) rounds is)))
 
 -- what a command line of `run` says of its game
 abbrev pub game_said : PlainAsked → GameSetup
 game_said asked = record {
   seed = asked.option choice.Seed;
   rounds = asked.option choice.Rounds;
-  dumps = asked.dumps;
+  dumps = chosen_rounds asked.dumps;
   sheet = record { surround = asked.option choice.Surround; corpse = asked.option choice.Corpse; rest = asked.option choice.Rest };
 }
 
@@ -163,7 +173,7 @@ abbrev heard : List Given → GameSetup
 heard given = record {
   seed = said SeedNumber 0 (value_given choice.Seed given);
   rounds = said RoundCount 0 (value_given choice.Rounds given);
-  dumps = dumps_said (value_given choice.Dump given);
+  dumps = chosen_rounds (dumps_said (value_given choice.Dump given));
   sheet = record {
     surround = said FoeCount 5 (value_given choice.Surround given);
     corpse = said CorpseFood 3 (value_given choice.Corpse given);
@@ -180,6 +190,13 @@ said_by : (kind : NumberKind) (default number : ℕ) (word : List ℕ) (values :
     → said kind default (first_word (joined values)) ≡ number
 said_by kind default number word values are is = ap (λ ws. said kind default (first_word ws)) are ∙ ap (λ o. unwrap_or o default) is
 
+-- rounds that are chosen by its one word
+chosen_by : {dumps : ℕ → Bool} {word : List ℕ} (values : List (List (List ℕ))) → joined values ≡ word ∷ [] → IsDumps dumps word
+    → chosen_rounds (dumps_said (first_word (joined values))) ≡ dumps
+chosen_by values are is =
+    let it = dumps_spelled is in
+    ap (λ ws. chosen_rounds (dumps_said (first_word ws))) are ∙ ap (λ o. chosen_rounds (unwrap_or o NoDump)) it.is ∙ it.rounds
+
 -- what one more option says
 says : {setup new : GameSetup} {name : List ℕ} {words : List (List ℕ)} (is : IsOption setup name words new) (values : List (List (List ℕ))) (given : List Given) → joined values ≡ words
     → heard given ≡ setup → heard (given_as (in_table is) values ∷ given) ≡ new
@@ -188,8 +205,7 @@ says (Seed n word is) values given are e =
 says (Rounds n word is) values given are e =
     ap (λ n. record (heard given) { rounds = n }) (said_by RoundCount 0 n word values are (number_said 0 1000000 n word is)) ∙ ap (λ (s : GameSetup). record s { rounds = n }) e
 says (Dump dumps word is) values given are e =
-    ap (λ d. record (heard given) { dumps = d }) (ap (λ ws. dumps_said (first_word ws)) are ∙ ap (λ o. unwrap_or o NoDump) (dumps_spelled dumps word is))
-    ∙ ap (λ (s : GameSetup). record s { dumps = dumps }) e
+    ap (λ d. record (heard given) { dumps = d }) (chosen_by values are is) ∙ ap (λ (s : GameSetup). record s { dumps = dumps }) e
 says (Workers n word is) values given are e = e
 says (Window n word is) values given are e = e
 says (Surround n word is) values given are e =
@@ -217,15 +233,15 @@ joined-parts (word ∷ words) = ap (λ more. word ∷ more) (joined-parts words)
 number_fits : (kind : NumberKind) (number : ℕ) (word : List ℕ) → IsNumber (least_of kind) (most_of kind) number word → fits (Number kind) word ≡ true
 number_fits kind number word is = ap is_some (number_said (least_of kind) (most_of kind) number word is)
 
-dumps_fit : (dumps : DumpChoice) (word : List ℕ) → IsDumps dumps word → fits Dumps word ≡ true
+dumps_fit : {dumps : ℕ → Bool} {word : List ℕ} → IsDumps dumps word → fits Dumps word ≡ true
 unfolding is_dumps
-dumps_fit dumps word is = ap is_some (dumps_spelled dumps word is)
+dumps_fit is = ap is_some (dumps_spelled is).is
 
 -- the words behind an option's name fit its places
 words_fit : {setup new : GameSetup} {name : List ℕ} {words : List (List ℕ)} (is : IsOption setup name words new) → FitAll (values_of (in_table is)) (parts_of words)
 words_fit (Seed n word is) = (number_fits SeedNumber n word is, tt)
 words_fit (Rounds n word is) = (number_fits RoundCount n word is, tt)
-words_fit (Dump dumps word is) = (dumps_fit dumps word is, tt)
+words_fit (Dump dumps word is) = (dumps_fit is, tt)
 words_fit (Workers n word is) = (number_fits WorkerCount n word is, tt)
 words_fit (Window n word is) = (number_fits WindowSize n word is, tt)
 words_fit (Surround n word is) = (number_fits FoeCount n word is, tt)
@@ -379,7 +395,7 @@ number_there kind ((word ∷ []) ∷ []) fit = go (number_in kind word) refl fit
 -- a choice of rounds that stands there
 record HasDumps (values : List (List (List ℕ))) : Type 0 where
   word : List ℕ
-  dumps : DumpChoice
+  dumps : ℕ → Bool
   one : values ≡ (word ∷ []) ∷ []
   is : IsDumps dumps word
 
@@ -392,7 +408,7 @@ dumps_there ((word ∷ []) ∷ part ∷ values) fit = absurd fit.1
 dumps_there ((word ∷ []) ∷ []) fit = go (dumps_of word) refl fit.0 where
   go : (o : Option DumpChoice) → dumps_of word ≡ o → is_some o ≡ true → HasDumps ((word ∷ []) ∷ [])
   go None e some = absurd (false≢true some)
-  go (Some dumps) e some = record { word = word; dumps = dumps; one = refl; is = dumps_read word dumps e }
+  go (Some dumps) e some = record { word = word; dumps = chosen_rounds dumps; one = refl; is = dumps_read word dumps e }
 
 nothing_there : (values : List (List (List ℕ))) → FitAll [] values → values ≡ []
 nothing_there [] fit = refl
@@ -424,7 +440,7 @@ dumps_of_run values given fit =
     let there = dumps_there values fit in
     let spelled : joined values ≡ there.word ∷ [] = ap joined there.one in
     moved choice.Dump values given (there.word ∷ []) (record (heard given) { dumps = there.dumps }) spelled
-    (ap (λ d. record (heard given) { dumps = d }) (ap (λ ws. dumps_said (first_word ws)) spelled ∙ ap (λ o. unwrap_or o NoDump) (dumps_spelled there.dumps there.word there.is)))
+    (ap (λ d. record (heard given) { dumps = d }) (chosen_by values spelled there.is))
     (Dump there.dumps there.word there.is)
 
 far_of_run : (values : List (List (List ℕ))) (given : List Given) → FitAll [] values → IsOfRun choice.Far values given

@@ -1,5 +1,6 @@
 -- Words of a `run` with what they say, words that are none, and what no status says.
-use Rattle.std.proofs.Common.{◌≡◌, ◌≢◌, inl, inr, ℕ, false, List, [], ◌∷◌, Err, codes, bytes_eq, refl, sym, ap, ◌∙◌, lit<, arith}
+use Rattle.std.proofs.Common.{◌≡◌, ◌≢◌, inl, inr, ℕ, nat_eq, Bool, true, false, List, [], ◌∷◌, Err, codes, bytes_eq, refl, sym, ap, ◌∙◌, lit<, arith}
+use Rattle.std.specs.List.{list_any}
 use Rattle.std.proofs.lemmas.Bool.{false≢true}
 use Rattle.ant_base.specs.Faults.{Rose}
 use Rattle.ant_base.specs.Number.{decimal_value}
@@ -10,17 +11,17 @@ use Rattle.command_words.proofs.TableLemmas.{bytes_eq-same}
 use Rattle.command_words.proofs.WorkedLines.{words_of}
 use Rattle.command_words.specs.Command.{asked_in, is_among, rest_after}
 use Rattle.command_words.specs.Inner.Walk.{choice_of, command_kind_of, read_of}
-use Rattle.command_words.specs.Slots.{DumpChoice, dumps_of, is_dumps, is_file_name}
-use Rattle.command_words.specs.Slots.DumpChoice.{NoDump, EveryDump, ChosenDumps}
+use Rattle.command_words.specs.Slots.{dumps_of, is_dumps, is_file_name}
 use Rattle.command_words.specs.declared.table.CommandKind.TheVariants.{Run}
 use Rattle.ant_commands.specs.Outside.{Outside}
 use Rattle.ant_commands.specs.RunPromise.{AreOptions, GameSetup, IsNotAccepted, IsOption, IsPrinted, IsRunOf, IsUnfit, IsUnread, IsWorld, RunEnds}
+use Rattle.ant_commands.specs.RunPromise.IsDumps.{NoRound, EveryRound, TheseRounds}
 use Rattle.ant_commands.specs.RunPromise.IsOption.{Seed, Rounds, Dump, Workers, Window, Surround, Corpse, Rest, Far}
 use Rattle.ant_commands.proofs.RunWords.{table_run}
 
 -- what is said where nothing is, and then a seed, a number of rounds and a choice of them
 abbrev bare : GameSetup
-bare = record { seed = 0; rounds = 0; dumps = NoDump; sheet = record { surround = 5; corpse = 3; rest = 14 } }
+bare = record { seed = 0; rounds = 0; dumps = λ round. false; sheet = record { surround = 5; corpse = 3; rest = 14 } }
 
 abbrev seeded : GameSetup
 seeded = record bare { seed = 7 }
@@ -28,18 +29,18 @@ seeded = record bare { seed = 7 }
 abbrev limited : GameSetup
 limited = record seeded { rounds = 5 }
 
-abbrev dumped : DumpChoice → GameSetup
+abbrev dumped : (ℕ → Bool) → GameSetup
 dumped dumps = record limited { dumps = dumps }
 
 -- the same with other rules
 abbrev ruled : ℕ → ℕ → ℕ → GameSetup
-ruled surround corpse rest = record (dumped EveryDump) { sheet = record { surround = surround; corpse = corpse; rest = rest } }
+ruled surround corpse rest = record (dumped (λ round. true)) { sheet = record { surround = surround; corpse = corpse; rest = rest } }
 
 -- what all options say, in another order than that of the table
 pub all_said : AreOptions
     ((codes "--far", []) ∷ (codes "--rest", codes "1" ∷ []) ∷ (codes "--corpse", codes "2" ∷ []) ∷ (codes "--surround", codes "6" ∷ []) ∷ (codes "--window", codes "3" ∷ [])
     ∷ (codes "--workers", codes "4" ∷ []) ∷ (codes "--dump", codes "all" ∷ []) ∷ (codes "--rounds", codes "5" ∷ []) ∷ (codes "--seed", codes "7" ∷ []) ∷ [])
-    (record { seed = 7; rounds = 5; dumps = EveryDump; sheet = record { surround = 6; corpse = 2; rest = 1 } })
+    (record { seed = 7; rounds = 5; dumps = λ round. true; sheet = record { surround = 6; corpse = 2; rest = 1 } })
 unfolding decimal_value
 all_said = (
   ruled 6 2 1,
@@ -51,17 +52,17 @@ all_said = (
       ruled 6 3 14,
       Corpse 2 (codes "2") (refl, omega arith, omega arith),
       (
-        dumped EveryDump,
+        dumped (λ round. true),
         Surround 6 (codes "6") (refl, omega arith, omega arith),
         (
-          dumped EveryDump,
+          dumped (λ round. true),
           Window 3 (codes "3") (refl, omega arith, omega arith),
           (
-            dumped EveryDump,
+            dumped (λ round. true),
             Workers 4 (codes "4") (refl, omega arith, omega arith),
             (
               limited,
-              Dump EveryDump (codes "all") refl,
+              Dump (λ round. true) (codes "all") EveryRound,
               (seeded, Rounds 5 (codes "5") (refl, omega arith, omega arith), (bare, Seed 7 (codes "7") (refl, omega arith, omega arith), refl)),
             ),
           ),
@@ -73,30 +74,34 @@ all_said = (
 
 -- and what is said without them
 pub least_said : AreOptions ((codes "--rounds", codes "5" ∷ []) ∷ (codes "--seed", codes "7" ∷ []) ∷ [])
-    (record { seed = 7; rounds = 5; dumps = NoDump; sheet = record { surround = 5; corpse = 3; rest = 14 } })
+    (record { seed = 7; rounds = 5; dumps = λ round. false; sheet = record { surround = 5; corpse = 3; rest = 14 } })
 unfolding decimal_value
 least_said = (seeded, Rounds 5 (codes "5") (refl, omega arith, omega arith), (bare, Seed 7 (codes "7") (refl, omega arith, omega arith), refl))
 
 differ : (name other : List ℕ) → bytes_eq other name ≡ false → other ≢ name
 differ name other apart same = false≢true (sym apart ∙ ap (λ (n : List ℕ). bytes_eq other n) (sym same) ∙ bytes_eq-same other)
 
+-- the rounds 0 and 10
+abbrev two_rounds : ℕ → Bool
+two_rounds round = list_any (λ number. nat_eq number round) (0 ∷ 10 ∷ [])
+
 -- a command line whose options stand in another order
 pub reordered : IsRunOf (words_of (codes "run w r b --rest 1 --far --dump 0,10 --rounds 5 --seed 7")) (codes "w") (codes "r") (codes "b")
-    (record { seed = 7; rounds = 5; dumps = ChosenDumps (0 ∷ 10 ∷ []); sheet = record { surround = 5; corpse = 3; rest = 1 } })
+    (record { seed = 7; rounds = 5; dumps = two_rounds; sheet = record { surround = 5; corpse = 3; rest = 1 } })
 unfolding decimal_value is_file_name
 reordered = record {
   options = (codes "--rest", codes "1" ∷ []) ∷ (codes "--far", []) ∷ (codes "--dump", codes "0,10" ∷ []) ∷ (codes "--rounds", codes "5" ∷ []) ∷ (codes "--seed", codes "7" ∷ []) ∷ [];
   whole = refl;
   names = (refl, (refl, (refl, tt)));
   said = (
-    dumped (ChosenDumps (0 ∷ 10 ∷ [])),
+    dumped two_rounds,
     Rest 1 (codes "1") (refl, omega arith, omega arith),
     (
-      dumped (ChosenDumps (0 ∷ 10 ∷ [])),
+      dumped two_rounds,
       Far,
       (
         limited,
-        Dump (ChosenDumps (0 ∷ 10 ∷ [])) (codes "0,10") ((refl, omega arith, omega arith), ((refl, omega arith, omega arith), tt)),
+        Dump two_rounds (codes "0,10") (TheseRounds (0 ∷ 10 ∷ []) (codes "0,10") ((refl, omega arith, omega arith), ((refl, omega arith, omega arith), tt))),
         (seeded, Rounds 5 (codes "5") (refl, omega arith, omega arith), (bare, Seed 7 (codes "7") (refl, omega arith, omega arith), refl)),
       ),
     ),
@@ -130,8 +135,8 @@ pub within_limits : (setup : GameSetup)
     × IsOption setup (codes "--corpse") (codes "9" ∷ []) (record setup { sheet = record setup.sheet { corpse = 9 } })
     × IsOption setup (codes "--rest") (codes "0" ∷ []) (record setup { sheet = record setup.sheet { rest = 0 } })
     × IsOption setup (codes "--rest") (codes "255" ∷ []) (record setup { sheet = record setup.sheet { rest = 255 } })
-    × IsOption setup (codes "--dump") (codes "none" ∷ []) (record setup { dumps = NoDump })
-    × IsOption setup (codes "--dump") (codes "all" ∷ []) (record setup { dumps = EveryDump })
+    × IsOption setup (codes "--dump") (codes "none" ∷ []) (record setup { dumps = λ round. false })
+    × IsOption setup (codes "--dump") (codes "all" ∷ []) (record setup { dumps = λ round. true })
 unfolding decimal_value
 within_limits setup = (
   Seed 0 (codes "0") (refl, omega arith, omega arith),
@@ -148,8 +153,8 @@ within_limits setup = (
   Corpse 9 (codes "9") (refl, omega arith, omega arith),
   Rest 0 (codes "0") (refl, omega arith, omega arith),
   Rest 255 (codes "255") (refl, omega arith, omega arith),
-  Dump NoDump (codes "none") refl,
-  Dump EveryDump (codes "all") refl,
+  Dump (λ round. false) (codes "none") NoRound,
+  Dump (λ round. true) (codes "all") EveryRound,
 )
 
 -- no option says a number beyond its limits

@@ -1,7 +1,7 @@
 -- The promise of one `run` without `--stats`: its words, its files, and what each exit status says (this project's own). The law `run_promise` says
 -- that each run of the program keeps it; docs/RUN.md shows all that it rests on.
-use Rattle.std.specs.Prelude.{◌≡◌, ◌≢◌, ◌⊎◌, ℕ, ◌≤◌, true, false, List, [], ◌∷◌, ◌++◌, length, map, flat_map, ◌==◌, Some, Result, Ok, Err, codes}
-use Rattle.std.specs.List.{AllByRecursion, AllZip, Contains, slice_split}
+use Rattle.std.specs.Prelude.{◌≡◌, ◌≢◌, ◌⊎◌, ℕ, ◌≤◌, nat_eq, Bool, true, false, List, [], ◌∷◌, ◌++◌, length, map, flat_map, ◌==◌, Some, Result, Ok, Err, codes}
+use Rattle.std.specs.List.{AllByRecursion, AllZip, Contains, list_any, slice_split}
 use Rattle.ant_base.specs.Faults.{Rose}
 use Rattle.ant_base.specs.Fetched.{Fetched}
 use Rattle.ant_base.specs.Layout.{◌+++◌}
@@ -16,14 +16,12 @@ use Rattle.brain_read.specs.declared.instr.Instr.{Instr}
 use Rattle.brain_read.specs.Grammar.{IsBrainText}
 use Rattle.cell_world.specs.Grid.{Grid, world_of}
 use Rattle.command_words.specs.Command.{PlainAsked, IsCommand}
-use Rattle.command_words.specs.Slots.{AllDiffer, DumpChoice, is_file_name}
-use Rattle.command_words.specs.Slots.DumpChoice.{NoDump, EveryDump, ChosenDumps}
+use Rattle.command_words.specs.Slots.{AllDiffer, is_file_name}
 use Rattle.command_words.specs.declared.table.CommandKind.TheVariants.{Run}
 use Rattle.command_words.specs.declared.table.Choice.TheVariants.{Stats}
 use Rattle.match_run.specs.Run.{run_text}
 use Rattle.world_read.specs.Opened.{OpensAs}
 use Rattle.ant_commands.specs.Headline.{NamesTheWord}
-use Rattle.ant_commands.specs.Outputs.{chosen_rounds}
 use Rattle.ant_commands.specs.Outside.{Outside}
 use Rattle.ant_commands.specs.Run.{IsNoCommand, IsRunTo}
 
@@ -32,23 +30,24 @@ abbrev pub IsNumber : ℕ → ℕ → ℕ → List ℕ → Type 0
 IsNumber least greatest number word = (decimal_value word ≡ Some number) × (least ≤ number) × (number ≤ greatest)
 
 -- a word chooses the rounds that are dumped: `none`, `all`, or their numbers with one comma between them, which is the byte 44
-abbrev pub IsDumps : DumpChoice → List ℕ → Type 0
-IsDumps NoDump word = word ≡ codes "none"
-IsDumps EveryDump word = word ≡ codes "all"
-IsDumps (ChosenDumps rounds) word = AllZip (IsNumber 0 1000000) rounds (slice_split (λ byte. byte == 44) word)
+pub data IsDumps : (ℕ → Bool) → List ℕ → Type 0 where
+  NoRound : IsDumps (λ round. false) (codes "none")
+  EveryRound : IsDumps (λ round. true) (codes "all")
+  TheseRounds : (rounds : List ℕ) (word : List ℕ) → AllZip (IsNumber 0 1000000) rounds (slice_split (λ byte. byte == 44) word)
+      → IsDumps (λ round. list_any (λ number. nat_eq number round) rounds) word
 
 -- what the options say of the game: the seed, how many rounds are played, which are dumped, and the numbers of the rules
 pub record GameSetup : Type 0 where
   pub seed : ℕ
   pub rounds : ℕ
-  pub dumps : DumpChoice
+  pub dumps : ℕ → Bool
   pub sheet : Sheet
 
 -- an option: its name, the words behind it, and what it makes of a setup; how many workers there are, how far they look ahead and `--far` change nothing
 pub data IsOption (setup : GameSetup) : List ℕ → List (List ℕ) → GameSetup → Type 0 where
   Seed : (n : ℕ) (word : List ℕ) → IsNumber 0 4294967295 n word → IsOption setup (codes "--seed") (word ∷ []) (record setup { seed = n })
   Rounds : (n : ℕ) (word : List ℕ) → IsNumber 0 1000000 n word → IsOption setup (codes "--rounds") (word ∷ []) (record setup { rounds = n })
-  Dump : (dumps : DumpChoice) (word : List ℕ) → IsDumps dumps word → IsOption setup (codes "--dump") (word ∷ []) (record setup { dumps = dumps })
+  Dump : (dumps : ℕ → Bool) (word : List ℕ) → IsDumps dumps word → IsOption setup (codes "--dump") (word ∷ []) (record setup { dumps = dumps })
   Workers : (n : ℕ) (word : List ℕ) → IsNumber 1 16 n word → IsOption setup (codes "--workers") (word ∷ []) setup
   Window : (n : ℕ) (word : List ℕ) → IsNumber 1 16384 n word → IsOption setup (codes "--window") (word ∷ []) setup
   Surround : (n : ℕ) (word : List ℕ) → IsNumber 4 6 n word → IsOption setup (codes "--surround") (word ∷ []) (record setup { sheet = record setup.sheet { surround = n } })
@@ -59,7 +58,7 @@ pub data IsOption (setup : GameSetup) : List ℕ → List (List ℕ) → GameSet
 -- options, each a name and the words behind it, say this; where none says otherwise nothing is dumped and the rules are the contest's. The seed and
 -- the rounds are always said
 abbrev pub AreOptions : List (List ℕ × List (List ℕ)) → GameSetup → Type 0
-AreOptions [] setup = setup ≡ record { seed = 0; rounds = 0; dumps = NoDump; sheet = record { surround = 5; corpse = 3; rest = 14 } }
+AreOptions [] setup = setup ≡ record { seed = 0; rounds = 0; dumps = λ round. false; sheet = record { surround = 5; corpse = 3; rest = 14 } }
 AreOptions (option ∷ options) setup = (rest : GameSetup) × IsOption rest option.0 option.1 setup × AreOptions options rest
 
 -- the words are `run`, the names of three files, and options in any order, each at most once, the seed and the rounds among them
@@ -104,7 +103,7 @@ pub record Plays (IsWritten : SinkState → SinkState → List ℕ → Type 0) (
   pub is_red : IsBrainText second minds.red
   pub is_black : IsBrainText third minds.black
   pub rules : minds.sheet ≡ setup.sheet
-  pub written : IsWritten before.out after.out (run_text minds setup.seed setup.rounds (chosen_rounds setup.dumps) (world_of grid))
+  pub written : IsWritten before.out after.out (run_text minds setup.seed setup.rounds setup.dumps (world_of grid))
 
 -- the errors got this line, or a prefix of it where they failed
 abbrev pub HasLine : SinkState → SinkState → List ℕ → Type 0
