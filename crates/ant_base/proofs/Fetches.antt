@@ -1,5 +1,5 @@
 -- Fetches from a list of files.
-use Rattle.std.proofs.Common.{◌≡◌, ℕ, ◌+◌, ◌<◌, ◌≤◌, true, false, cond, ◌&&◌, List, [], ◌∷◌, ◌++◌, length, take, drop, get_or, Some, None, Err, is_some, refl, sym, ◌∙◌, ap, subst, append-nil, append_assoc, arith}
+use Rattle.std.proofs.Common.{◌≡◌, ℕ, ◌+◌, ◌<◌, ◌≤◌, true, false, cond, ◌&&◌, List, [], ◌∷◌, ◌++◌, length, take, drop, get_or, Option, Some, None, Err, is_some, refl, sym, ◌∙◌, ap, subst, append-nil, append_assoc, arith}
 use Rattle.std.proofs.lemmas.Bool.{and_right, false≢true}
 use Rattle.std.proofs.Math.Seq.{take-append_seam, drop-append_seam, take-length}
 use Rattle.std.proofs.lemmas.List.{at_drop_more, drop-append-le, length-append, length-drop, take-append-le}
@@ -12,7 +12,7 @@ use Rattle.ant_base.specs.Inner.Noted.{noted}
 use Rattle.ant_base.specs.Faults.{Rose}
 use Rattle.ant_base.specs.Fetched.{Fetched}
 use Rattle.ant_base.specs.MemShelf.{MemShelfState, content_of, none_fails, shelf_of}
-use Rattle.ant_base.specs.Shelf.{Fetches, FetchesEach, IsTold, ShelfState, Told}
+use Rattle.ant_base.specs.Shelf.{Fetches, FetchesEach, IsTold, ShelfState}
 use Rattle.ant_base.specs.declared.files.Sizes.{Sizes}
 use Rattle.ant_base.specs.declared.shelf.FetchFault.TheVariants.{Failed}
 
@@ -112,7 +112,7 @@ pub fetches_then : (first second third : ShelfState) (a b : List Fetched) → Fe
 fetches_then first second third a b one two =
     record {
       log = two.log ∙ ap (λ log. log ++ b) one.log ∙ append_assoc first.log a b;
-      told = AllByRecursion-append (IsTold first.files) a b one.told (subst (λ (files : Told). AllByRecursion (IsTold files) b) one.files two.told);
+      told = AllByRecursion-append (IsTold first.files) a b one.told (subst (λ (files : Option (List ℕ → Option (List ℕ))). AllByRecursion (IsTold files) b) one.files two.told);
       files = two.files ∙ one.files;
       sure = λ name is. two.sure name (one.sure name is);
       quiet = λ sure.

@@ -6,13 +6,9 @@ use Rattle.ant_base.specs.Fetched.{Fetched, fetched}
 use Rattle.ant_base.specs.declared.shelf.FetchFault.{FetchFault}
 use Rattle.ant_base.specs.declared.shelf.FetchFault.TheVariants.{Failed, TooLong, OutOfMemory}
 
--- what a shelf tells: the content under each name, or nothing
-abbrev pub Told : Type 0
-Told = Option (List ℕ → Option (List ℕ))
-
 -- the content under each name, where the shelf tells it; of which names it is sure; the count of faults; and the log: all fetches with their answers, the first first
 pub record ShelfState : Type 0 where
-  pub files : Told
+  pub files : Option (List ℕ → Option (List ℕ))
   pub sure : List ℕ → Bool
   pub faults : ℕ
   pub log : List Fetched
@@ -23,7 +19,7 @@ longest = 4194304
 
 -- an answer that agrees with what is told: the bytes are no more than the longest and, where contents are told, the one of the name; or the
 -- content of the name is told, and longer than that; a fetch that failed or wanted memory says nothing
-abbrev pub AnswerIsTold : Told → List ℕ → Result (List ℕ) FetchFault → Type 0
+abbrev pub AnswerIsTold : Option (List ℕ → Option (List ℕ)) → List ℕ → Result (List ℕ) FetchFault → Type 0
 AnswerIsTold files name (Ok bytes) = IfSome files (λ at. at name ≡ Some bytes) × (length bytes ≤ longest)
 AnswerIsTold files name (Err TooLong) = IfSome files (λ at. IsSomeAnd (at name) (λ content. longest < length content))
 AnswerIsTold files name (Err _) = ⊤
@@ -51,7 +47,7 @@ pub record Fetches {A : Type 0} (old new : ShelfState) (name : List ℕ) (result
   pub later : old.faults ≤ new.faults
 
 -- a fetch whose answer agrees with what is told
-abbrev pub IsTold : Told → Fetched → Type 0
+abbrev pub IsTold : Option (List ℕ → Option (List ℕ)) → Fetched → Type 0
 IsTold files fetch = AnswerIsTold files fetch.name fetch.answer
 
 -- the shelf is sure of the name of each of these fetches

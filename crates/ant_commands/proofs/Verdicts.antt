@@ -5,7 +5,7 @@ use Rattle.std.specs.Prelude.{IsSomeAnd}
 use Rattle.std.proofs.lemmas.Bool.{false≢true}
 use Rattle.ant_base.specs.Fetched.{Fetched}
 use Rattle.ant_base.specs.Faults.{Rose}
-use Rattle.ant_base.specs.Shelf.{AnswerIsTold, AreSure, IsTold, ShelfState, Told, longest}
+use Rattle.ant_base.specs.Shelf.{AnswerIsTold, AreSure, IsTold, ShelfState, longest}
 use Rattle.ant_base.specs.declared.shelf.FetchFault.TheVariants as answer
 use Rattle.command_words.proofs.WordLaws as words_laws
 use Rattle.command_words.specs.Command.{IsCommand, PlainAsked}
@@ -229,7 +229,7 @@ complete_by at command before after fetches told contents (Some AtMemory) one tw
 
 -- the fetches of a run agree with what is told
 told_of_run : (words : List (List ℕ)) (before after : Outside) (ended : Status) (at : At) → (run : IsRun words before after ended) → before.shelf.files ≡ Some at → AllByRecursion (IsTold (Some at)) run.fetches
-told_of_run words before after ended at run told = subst (λ (files : Told). AllByRecursion (IsTold files) run.fetches) told run.fetched.told
+told_of_run words before after ended at run told = subst (λ (files : Option At). AllByRecursion (IsTold files) run.fetches) told run.fetched.told
 
 pub complete_run : (words : List (List ℕ)) (before after : Outside) (ended : Status) → IsRun words before after ended → IsComplete words before after ended
 complete_run words before after ended run = λ contents is room shelf_held out_held.
