@@ -75,7 +75,7 @@ class Evidence:
 
     def table(self, name, table):
         """A file of tests has this table, where one is named."""
-        found = [it for it in self.texts if it.startswith("crates/library_tests/src/commands/") and it.endswith("/" + name)] or [it for it in self.texts if it.endswith("/" + name) and "test" in it]
+        found = [it for it in self.texts if it.startswith("crates/command_tests/src/commands/") and it.endswith("/" + name)] or [it for it in self.texts if it.endswith("/" + name) and "test" in it]
         return len(found) == 1 and (not table or bool(re.search(r"\b%s\b" % table, self.texts[found[0]])))
 
     def named(self, text):

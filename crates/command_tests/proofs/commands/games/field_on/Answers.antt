@@ -3,7 +3,7 @@ use Rattle.std.proofs.Common.{sym, subst}
 use Rattle.cell_world.specs.Grid.{Grid, world_of}
 use Rattle.ant_turn.specs.Minds.{Fits, minds_of}
 use Rattle.ant_turn.proofs.FitLemmas.{Fits-opening}
-use Rattle.library_tests.proofs.commands.games.field_on.Goals as goal
+use Rattle.command_tests.proofs.commands.games.field_on.Goals as goal
 
 pub new-requires-clause-fit : goal.new-requires-clause-fit
 new-requires-clause-fit c =

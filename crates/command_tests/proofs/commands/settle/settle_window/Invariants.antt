@@ -1,6 +1,6 @@
 use Rattle.std.proofs.Common.{◌≡◌, ◌+◌}
 use Rattle.round_book.specs.Book.{IsSameWindow, StandsOn}
-use Rattle.library_tests.proofs.commands.settle.settle_window.Given as goal
+use Rattle.command_tests.proofs.commands.settle.settle_window.Given as goal
 
 -- so many turns are settled
 abbrev pub invariant-loop-guess : goal.invariant-loop-guess

@@ -7,7 +7,7 @@ use Rattle.round_book.specs.Book.{BookValue, FieldValue, IsSameWindow, StandsOn}
 use Rattle.round_book.specs.Window.{guess_for}
 use Rattle.round_book.proofs.GuessLemmas.{guesses_of-at, guesses_of-length}
 use Rattle.round_book.proofs.SoloLemmas.{Going, going-guess, going-look}
-use Rattle.library_tests.proofs.commands.settle.settle_window.Goals as goal
+use Rattle.command_tests.proofs.commands.settle.settle_window.Goals as goal
 
 -- the guesses of a window
 abbrev AreGuesses : FieldValue → BookValue → List ℕ → Type 0
