@@ -6,6 +6,7 @@ A row is `- BEND | REFUSED BY; REFUSED BY; .. | HOW`, where each of the middle i
     tests in FILE, TABLE                test NAME of CRATE              tests of CRATE
     RULES, SECTION                      README, SECTION                 a remark may stand behind a colon
     test NAME of the library            rows of test_ants.c                 rows of .ci/options.txt
+    examples in FILE of examples/
 
 Where HOW is `again` the row's edit stands below it, as in must-fail/, which `.ci/bend` puts into a copy: the first of the middle names lemmas then, and
 one of them refuses it. Several `new:` are several lines. A line `or` begins another edit of the same row.
@@ -98,11 +99,12 @@ class Evidence:
             (r"rows of (test_ants\.c|\.ci/options\.txt)", "test", lambda name: exists(name if "/" in name else "library/" + name)),
             (r"tests in ([\w/]+\.rt)(?:, (\w+))?", "test", self.table),
             (r"tests of (\w+)", "test", lambda crate: any(file.startswith("crates/%s/" % crate) and "test" in file for file in self.texts)),
+            (r"examples in (\w+\.txt)", "example", lambda name: exists("examples/" + name)),
             (r"(RULES|README), (.+)", "example", self.example),
         )
         said = text.partition(": ")[0]
         for form, sort, holds in forms:
-            it = re.fullmatch(form, said if sort == "example" else said.replace("`", ""))
+            it = re.fullmatch(form, said if said.startswith(tuple(EXAMPLES)) else said.replace("`", ""))
             if it and not holds(*it.groups()):
                 raise Unknown("%s: what `%s` names isn't there" % (FILE, text))
             if it:

@@ -424,31 +424,6 @@ struct CutRun<'t> {
     line: &'t str,
 }
 
-// The text of a world whose cells are all of one kind but for the rim: so many in each of so many rows.
-fn walled(alloc: Global, cell: &str, cells: u16, height: u16) -> Result<String, Fail> {
-    let rows = rows_of(alloc, cell, cells, height)?;
-    let width = usize::from(cells) + 2;
-    framed(alloc, width, usize::from(height) + 2, &rows)
-}
-
-// The text of a world as wide and as high as this, with these rows between those of its rim.
-fn framed(alloc: Global, width: usize, height: usize, rows: &str) -> Result<String, Fail> {
-    let rim = "#".repeat(alloc, width)?;
-    Ok(format!(in alloc; "{width}\n{height}\n{rim}\n{rows}{rim}")?)
-}
-
-// So many rows of so many cells of one kind, each between two rocks.
-fn rows_of(alloc: Global, cell: &str, cells: u16, height: u16) -> Result<String, Fail> {
-    let row = row_of(alloc, cell, cells)?;
-    Ok(row.repeat(alloc, usize::from(height))?)
-}
-
-// A row of so many cells of one kind between two rocks.
-fn row_of(alloc: Global, cell: &str, cells: u16) -> Result<String, Fail> {
-    let inner = cell.repeat(alloc, usize::from(cells))?;
-    Ok(format!(in alloc; "#{inner}#\n")?)
-}
-
 // Asserts of each command that its output fails so.
 fn check_cuts<R: Threads + Wait + Sync + Abort>(
     rt: &R,

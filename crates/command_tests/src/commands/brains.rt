@@ -1,15 +1,7 @@
 // The command `brain`.
-use crate::commands::{
-    Ending, Given, Job, NO_JOB, Table, check_over, check_rows, check_tables, check_with, done,
-    ending_with, stopped,
-};
-use ant_base::{Files, NoGate};
+use crate::commands::{Given, Job, NO_JOB, Table, check_rows, check_tables};
 use ant_commands::Status;
-use std::alloc::Global;
-use std::process::Abort;
-use std::sync::Wait;
 use std::test::Fail;
-use std::thread::Threads;
 
 // The sample brain of the contest's task.
 const SAMPLE: &str = "Sense Ahead 1 3 Food\n\
@@ -123,124 +115,6 @@ const PRINT: Job<'static> = Job {
     line: "brain b",
     ..NO_JOB
 };
-
-static PRINTING: Job<'static> = PRINT;
-
-// How many instructions a brain has, and the line with which it is refused; none where it is printed as it is.
-const LENGTHS: [(usize, &str); 2] = [
-    (10000, ""),
-    (10001, "ants: b: line 10001: too many instructions\n"),
-];
-
-// Asserts of each row what comes of a brain of so many instructions.
-fn check_lengths<R: Threads + Wait + Sync + Abort>(
-    rt: &R,
-    alloc: Global,
-    rows: &[(usize, &str)],
-) -> Result<(), Fail> {
-    for (count, line) in rows {
-        check_length(rt, alloc, *count, line)?;
-    }
-    Ok(())
-}
-
-fn check_length<R: Threads + Wait + Sync + Abort>(
-    rt: &R,
-    alloc: Global,
-    count: usize,
-    line: &str,
-) -> Result<(), Fail> {
-    let brain = "Drop 9999\n".repeat(alloc, count)?;
-    let wanted = print_of(&brain, line);
-    check_with(rt, alloc, &PRINTING, Given::Black, &brain, wanted)
-}
-
-// How the print of a brain ends: by this line, or by the brain itself where there is none.
-fn print_of<'t>(brain: &'t str, line: &'t str) -> Ending<'t> {
-    if line.is_empty() {
-        done(brain)
-    } else {
-        stopped(Status::Input, line)
-    }
-}
-
-// A brain of one instruction and so many spaces.
-fn blank(alloc: Global, spaces: usize) -> Result<String, Fail> {
-    let blank = " ".repeat(alloc, spaces)?;
-    Ok(format!(in alloc; "Drop 0{blank}")?)
-}
-
-// Asserts what comes of a brain of one instruction and so many spaces.
-fn check_blank<R: Threads + Wait + Sync + Abort>(
-    rt: &R,
-    alloc: Global,
-    spaces: usize,
-    wanted: Ending<'_>,
-) -> Result<(), Fail> {
-    let brain = blank(alloc, spaces)?;
-    check_with(rt, alloc, &PRINTING, Given::Black, &brain, wanted)
-}
-
-#[test]
-fn a_brain_has_up_to_10000_instructions(rt: HostRuntime) -> Result<(), Fail> {
-    check_lengths(&rt, rt.alloc(), &LENGTHS)
-}
-
-// How many spaces follow a brain of one instruction, and what comes of it.
-const BLANKS: [(usize, Status, &str); 2] = [
-    (4194298, Status::Done, "Drop 0\n"),
-    (4194299, Status::Input, "ants: b: too long\n"),
-];
-
-// Asserts of each row what comes of its brain.
-fn check_blanks<R: Threads + Wait + Sync + Abort>(
-    rt: &R,
-    alloc: Global,
-    rows: &[(usize, Status, &str)],
-) -> Result<(), Fail> {
-    for (spaces, status, text) in rows {
-        check_blank(rt, alloc, *spaces, ending_with(*status, text))?;
-    }
-    Ok(())
-}
-
-#[test]
-fn a_brain_has_up_to_4194304_bytes(rt: HostRuntime) -> Result<(), Fail> {
-    check_blanks(&rt, rt.alloc(), &BLANKS)
-}
-
-// Brains with a byte that is no character, and the line that names the first fault of each.
-const NO_TEXT: [(&[u8], &str); 3] = [
-    (b"Drop \x80", "ants: b: line 1: bad byte\n"),
-    (b"Drop 0 0\x80", "ants: b: line 1: bad byte\n"),
-    (b"Drop x \x80", "ants: b: line 1: bad number\n"),
-];
-
-// The files of the command where the brain has these bytes.
-fn files_with(alloc: Global, bytes: &[u8]) -> Result<Files, Fail> {
-    let mut files = Files::new(alloc);
-    files.add("b", bytes)?;
-    Ok(files)
-}
-
-// Asserts with which line each brain of these bytes is refused.
-fn check_bytes<R: Threads + Wait + Sync + Abort>(
-    rt: &R,
-    alloc: Global,
-    rows: &[(&[u8], &str)],
-) -> Result<(), Fail> {
-    for (bytes, line) in rows {
-        let wanted = stopped(Status::Input, line);
-        let files = files_with(alloc, bytes)?;
-        check_over(rt, alloc, &PRINTING, files, &NoGate, wanted)?;
-    }
-    Ok(())
-}
-
-#[test]
-fn a_file_may_have_any_bytes(rt: HostRuntime) -> Result<(), Fail> {
-    check_bytes(&rt, rt.alloc(), &NO_TEXT)
-}
 
 // Brains, and what is told of them minimised.
 const MINIMISED: [(&str, &str); 2] = [

@@ -3,8 +3,8 @@ use crate::commands::runs::{KILLED, KILLING_ROUND, UNPLAYED};
 use crate::commands::shown::SHOWN;
 use crate::commands::workloads::UNTOUCHED;
 use crate::commands::{
-    CLOSED, CutRun, Ending, Given, Job, NO_JOB, Table, answer, check, check_cuts, check_tables,
-    cut, done, ending_of, stopped,
+    CLOSED, CutRun, Ending, Given, Job, NO_JOB, answer, check, check_cuts, cut, done, ending_of,
+    stopped,
 };
 use ant_commands::Status;
 use std::alloc::Global;
@@ -23,51 +23,6 @@ const UNPLAYED_GAME: Job<'static> = Job {
 };
 
 static UNPLAYED_ROUND: Job<'static> = UNPLAYED_GAME;
-
-// Words with the names of files that aren't there, and the line that names the first of them.
-const NOT_THERE: [(&str, &str); 6] = [
-    ("show x 1", "ants: x: not read\n"),
-    ("brain y", "ants: y: not read\n"),
-    ("run x y z --seed 7 --rounds 0", "ants: x: not read\n"),
-    ("run x r b --seed 7 --rounds 0", "ants: x: not read\n"),
-    ("run w y z --seed 7 --rounds 0", "ants: y: not read\n"),
-    ("run w r z --seed 7 --rounds 0", "ants: z: not read\n"),
-];
-
-// Words that name files in which they don't find what they want, and the line that names the first of them.
-const NOT_ACCEPTED: [(&str, &str); 4] = [
-    ("run r y z --seed 7 --rounds 0", "ants: r: bad width\n"),
-    (
-        "run w w z --seed 7 --rounds 0",
-        "ants: w: line 1: unknown word\n",
-    ),
-    (
-        "run w r w --seed 7 --rounds 0",
-        "ants: w: line 1: unknown word\n",
-    ),
-    ("show b 1", "ants: b: bad width\n"),
-];
-
-// Both.
-static AT_FAULT: [Table<'static>; 2] = [
-    Table {
-        job: UNPLAYED_GAME,
-        given: Given::Line,
-        status: Status::Read,
-        rows: &NOT_THERE,
-    },
-    Table {
-        job: UNPLAYED_GAME,
-        given: Given::Line,
-        status: Status::Input,
-        rows: &NOT_ACCEPTED,
-    },
-];
-
-#[test]
-fn the_first_file_that_is_not_read_or_at_fault_is_named(rt: HostRuntime) -> Result<(), Fail> {
-    check_tables(&rt, rt.alloc(), &AT_FAULT)
-}
 
 // Words, the line where the fetch of each file fails, in the order in which the files are fetched, and the text where none does.
 type Fetching<'t> = (&'t str, &'t [&'t str], &'t str);

@@ -1,7 +1,6 @@
 // The command `run`.
 use crate::commands::{
-    CLOSED, CLOSING, Ending, Given, Job, NO_JOB, Table, Told, check_rows, check_tables, check_text,
-    check_with, done, ending_with, game_of, walled,
+    CLOSED, CLOSING, Given, Job, NO_JOB, Table, Told, check_rows, check_tables, check_text, game_of,
 };
 use ant_commands::Status;
 use std::alloc::Global;
@@ -184,66 +183,6 @@ fn a_run_prints_its_seed_its_dumps_and_its_score(rt: HostRuntime) -> Result<(), 
     check_rows(&rt, rt.alloc(), &KILLING_RUNS)
 }
 
-// The round in which the one ant turns left, for words of any length.
-static TURNING_ROUND: Job<'static> = TURNING;
-
-// Words that ask for a thousand rounds to be dumped.
-fn listing(alloc: Global) -> Result<String, Fail> {
-    let later = ",1000000".repeat(alloc, 997)?;
-    Ok(format!(in alloc; "run w r b --seed 12345 --rounds 1 --dump 9,1{later},0")?)
-}
-
-// Asserts that a thousand rounds to be dumped are read as a list.
-fn check_listed<R: Threads + Wait + Sync + Abort>(rt: &R, alloc: Global) -> Result<(), Fail> {
-    let line = listing(alloc)?;
-    check_with(rt, alloc, &TURNING_ROUND, Given::Line, &line, done(TURNED))
-}
-
-#[test]
-fn a_thousand_rounds_are_listed(rt: HostRuntime) -> Result<(), Fail> {
-    check_listed(&rt, rt.alloc())
-}
-
-// Five rounds.
-static FIVE_ROUNDS: Job<'static> = Job {
-    line: "run w r b --seed 7 --rounds 5",
-    ..TURNING
-};
-
-// Asserts what comes of five rounds on a world without a hill, as wide as high, with so many clear cells in each row.
-fn check_clear<R: Threads + Wait + Sync + Abort>(
-    rt: &R,
-    alloc: Global,
-    cells: u16,
-    wanted: Ending<'_>,
-) -> Result<(), Fail> {
-    let world = walled(alloc, ".", cells, cells)?;
-    check_with(rt, alloc, &FIVE_ROUNDS, Given::World, &world, wanted)
-}
-
-// How many clear cells a row has, and what comes of it.
-const SIZES: [(u16, Status, &str); 2] = [
-    (510, Status::Done, UNPLAYED),
-    (511, Status::Input, "ants: w: bad width\n"),
-];
-
-// Asserts of each row what comes of its world.
-fn check_sizes<R: Threads + Wait + Sync + Abort>(
-    rt: &R,
-    alloc: Global,
-    rows: &[(u16, Status, &str)],
-) -> Result<(), Fail> {
-    for (cells, status, text) in rows {
-        check_clear(rt, alloc, *cells, ending_with(*status, text))?;
-    }
-    Ok(())
-}
-
-#[test]
-fn a_world_has_up_to_512_by_512_cells(rt: HostRuntime) -> Result<(), Fail> {
-    check_sizes(&rt, rt.alloc(), &SIZES)
-}
-
 // A game, lines of its text in their order, others between them, and the end of its text.
 #[derive(Clone, Copy)]
 struct Game<'t> {
@@ -342,58 +281,6 @@ const GAMES: [Game<'static>; 7] = [
     },
 ];
 
-// Games by other sheets.
-const OTHER_SHEETS: [Game<'static>; 6] = [
-    Game {
-        line: "run w r b --seed 1 --rounds 1 --surround 4",
-        world: NEIGHBOURS,
-        red: "Move 0 0\n",
-        black: "Drop 0\n",
-        lines: "",
-        score: "\n\nscore: red 3 black 3\n",
-    },
-    Game {
-        line: "run w r b --corpse 0 --seed 1 --rounds 1",
-        world: NEIGHBOURS,
-        red: "Move 0 0\n",
-        black: "Drop 0\n",
-        lines: "",
-        score: "\n\nscore: red 0 black 0\n",
-    },
-    Game {
-        line: "run w r b --seed 1 --corpse 9 --rounds 1",
-        world: NEIGHBOURS,
-        red: "Move 0 0\n",
-        black: "Drop 0\n",
-        lines: "",
-        score: "\n\nscore: red 0 black 9\n",
-    },
-    Game {
-        line: "run w r b --seed 12345 --rounds 1 --surround 6",
-        world: CLOSING,
-        red: "Flip 2 0 0\n",
-        black: "Move 0 0\n",
-        lines: "",
-        score: "\n\nscore: red 0 black 0\n",
-    },
-    Game {
-        line: "run w r b --seed 1 --rounds 1 --dump 1 --rest 0",
-        world: OPEN,
-        red: "Move 0 0\n",
-        black: "Move 0 0\n",
-        lines: "cell (2, 1): red ant of id 0, dir 0, food 0, state 0, resting 0\n",
-        score: "\n\nscore: red 0 black 0\n",
-    },
-    Game {
-        line: "run w r b --seed 1 --rounds 1 --dump 1 --rest 255",
-        world: OPEN,
-        red: "Move 0 0\n",
-        black: "Move 0 0\n",
-        lines: "cell (2, 1): red ant of id 0, dir 0, food 0, state 0, resting 255\n",
-        score: "\n\nscore: red 0 black 0\n",
-    },
-];
-
 // Asserts of each game that it is played, and how its text is told.
 fn check_games<R: Threads + Wait + Sync + Abort>(
     rt: &R,
@@ -414,6 +301,5 @@ fn check_games<R: Threads + Wait + Sync + Abort>(
 
 #[test]
 fn a_run_follows_the_rules_of_the_world(rt: HostRuntime) -> Result<(), Fail> {
-    check_games(&rt, rt.alloc(), &GAMES)?;
-    check_games(&rt, rt.alloc(), &OTHER_SHEETS)
+    check_games(&rt, rt.alloc(), &GAMES)
 }

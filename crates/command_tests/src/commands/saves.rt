@@ -1,13 +1,7 @@
 // The commands `save`, `resume` and `advance`.
-use crate::commands::{
-    CLOSED, Given, Job, NO_JOB, Table, check_rows, check_tables, check_with, stopped,
-};
+use crate::commands::{CLOSED, Given, Job, NO_JOB, Table, check_rows, check_tables};
 use ant_commands::Status;
-use std::alloc::Global;
-use std::process::Abort;
-use std::sync::Wait;
 use std::test::Fail;
-use std::thread::Threads;
 
 // A game of one red ant, which turns.
 const TURNING: Job<'static> = Job {
@@ -257,19 +251,4 @@ fn a_game_is_saved_and_gone_on_with_or_its_save_refused(rt: HostRuntime) -> Resu
     check_tables(&rt, rt.alloc(), &RESUMED_GAMES)?;
     check_rows(&rt, rt.alloc(), &LATER_GAMES)?;
     check_tables(&rt, rt.alloc(), &REFUSED_SAVES)
-}
-
-// The words that go on with a save, for one of any length.
-static RESUMING: Job<'static> = RESUMED;
-
-// Asserts that a file of one byte more than the longest is too long.
-fn check_long<R: Threads + Wait + Sync + Abort>(rt: &R, alloc: Global) -> Result<(), Fail> {
-    let long = " ".repeat(alloc, 4194305)?;
-    let wanted = stopped(Status::Input, "ants: k: too long\n");
-    check_with(rt, alloc, &RESUMING, Given::Breaks, &long, wanted)
-}
-
-#[test]
-fn a_save_has_up_to_4194304_bytes(rt: HostRuntime) -> Result<(), Fail> {
-    check_long(&rt, rt.alloc())
 }

@@ -1,13 +1,7 @@
 // The command `show`.
-use crate::commands::{
-    CLOSED, Given, Job, NO_JOB, Table, Told, check_tables, check_text, check_with, stopped, walled,
-};
+use crate::commands::{CLOSED, Given, Job, NO_JOB, Table, check_tables};
 use ant_commands::Status;
-use std::alloc::Global;
-use std::process::Abort;
-use std::sync::Wait;
 use std::test::Fail;
-use std::thread::Threads;
 
 // The seed 12345, and the world of one red ant between rocks.
 pub const SHOWN: &str = "random seed: 12345\n\
@@ -95,49 +89,4 @@ fn show_prints_the_seed_and_the_world_or_names_its_first_fault(
     rt: HostRuntime,
 ) -> Result<(), Fail> {
     check_tables(&rt, rt.alloc(), &WORLDS)
-}
-
-// The command, over a world of any size.
-static SHOWING: Job<'static> = SHOW;
-
-// The text of a world of 130 rows, whose cells are red hill but for the rim, and so many in each row.
-fn hill(alloc: Global, cells: u16) -> Result<String, Fail> {
-    walled(alloc, "+", cells, 128)
-}
-
-// Asserts that a world with a hill of so many cells in each row is shown, and how its text is told.
-fn check_hill<R: Threads + Wait + Sync + Abort>(
-    rt: &R,
-    alloc: Global,
-    cells: u16,
-    told: &Told<'_>,
-) -> Result<(), Fail> {
-    let world = hill(alloc, cells)?;
-    check_text(rt, alloc, &SHOWING.with(Given::World, &world), told)
-}
-
-// Asserts with which line such a world is refused.
-fn check_no_hill<R: Threads + Wait + Sync + Abort>(
-    rt: &R,
-    alloc: Global,
-    cells: u16,
-    line: &str,
-) -> Result<(), Fail> {
-    let world = hill(alloc, cells)?;
-    let wanted = stopped(Status::Input, line);
-    check_with(rt, alloc, &SHOWING, Given::World, &world, wanted)
-}
-
-// The last ant of the largest hill.
-static CROWDED: Told<'static> = Told {
-    start: "random seed: 12345\n",
-    lines: "cell (128, 128): red hill; red ant of id 16383, dir 0, food 0, state 0, resting 0\n",
-    end: "rock\n",
-};
-
-#[test]
-fn a_world_holds_up_to_16384_ants(rt: HostRuntime) -> Result<(), Fail> {
-    check_hill(&rt, rt.alloc(), 128, &CROWDED)?;
-    let line = "ants: w: too many ants, 16512\n";
-    check_no_hill(&rt, rt.alloc(), 129, line)
 }

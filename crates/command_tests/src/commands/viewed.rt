@@ -1,8 +1,7 @@
 // The command `view`.
-use crate::commands::runs::{KILLED, NEIGHBOURS};
+use crate::commands::runs::NEIGHBOURS;
 use crate::commands::{
-    CLOSED, CLOSING, Ending, Given, Job, NO_JOB, Table, Told, check_rows, check_tables, check_text,
-    check_with, done, ending_with,
+    CLOSED, CLOSING, Given, Job, NO_JOB, Table, Told, check_rows, check_tables, check_text,
 };
 use ant_commands::Status;
 use std::alloc::Global;
@@ -148,13 +147,6 @@ fn a_file_of_a_view_at_fault_is_named_before_its_breaks(rt: HostRuntime) -> Resu
     check_tables(&rt, rt.alloc(), &FAULTS)
 }
 
-// The text of the view that stops at the death of the red ant: its cells are those of the dump after the same round.
-fn killed_view(alloc: Global) -> Result<String, Fail> {
-    let (_, dump) = KILLED.split_once("After round 1...\n").ok_or("no dump")?;
-    let (cells, _) = dump.split_once("\nscore").ok_or("no score")?;
-    Ok(format!(in alloc; "random seed: 12345\nstop: round 1, ant 1, break 1\n{cells}")?)
-}
-
 // The text of the view that doesn't stop.
 const NO_STOP: &str = "random seed: 12345\nno stop in 5 rounds\n";
 
@@ -237,18 +229,6 @@ fn a_view_is_of_the_game_of_its_seed_by_the_contests_numbers(rt: HostRuntime) ->
     check_rows(&rt, rt.alloc(), &CONTEST_VIEW)
 }
 
-// Asserts the whole text of the view that stops at the death of the red ant.
-fn check_killed<R: Threads + Wait + Sync + Abort>(rt: &R, alloc: Global) -> Result<(), Fail> {
-    let text = killed_view(alloc)?;
-    let wanted = done(&text);
-    check_with(rt, alloc, &VIEWING, Given::Breaks, "Killed 2", wanted)
-}
-
-#[test]
-fn a_view_stops_after_the_first_turn_at_which_a_break_holds(rt: HostRuntime) -> Result<(), Fail> {
-    check_killed(&rt, rt.alloc())
-}
-
 // Asserts how the view with these breaks begins.
 fn check_start<R: Threads + Wait + Sync + Abort>(
     rt: &R,
@@ -291,38 +271,4 @@ fn check_stops<R: Threads + Wait + Sync + Abort>(
 fn each_kind_of_break_holds_when_it_says(rt: HostRuntime) -> Result<(), Fail> {
     check_stops(&rt, rt.alloc(), &ALONE)?;
     check_stops(&rt, rt.alloc(), &TOGETHER)
-}
-
-// How many breaks there are, and what comes of them.
-const MANY: [(usize, Status, &str); 2] = [
-    (256, Status::Done, NO_STOP),
-    (257, Status::Input, "ants: k: line 257: too many breaks\n"),
-];
-
-// Asserts what comes of so many breaks.
-fn check_many<R: Threads + Wait + Sync + Abort>(
-    rt: &R,
-    alloc: Global,
-    count: usize,
-    wanted: Ending<'_>,
-) -> Result<(), Fail> {
-    let breaks = "Round 9\n".repeat(alloc, count)?;
-    check_with(rt, alloc, &VIEWING, Given::Breaks, &breaks, wanted)
-}
-
-// Asserts of each row what comes of its breaks.
-fn check_numbers<R: Threads + Wait + Sync + Abort>(
-    rt: &R,
-    alloc: Global,
-    rows: &[(usize, Status, &str)],
-) -> Result<(), Fail> {
-    for (count, status, text) in rows {
-        check_many(rt, alloc, *count, ending_with(*status, text))?;
-    }
-    Ok(())
-}
-
-#[test]
-fn a_view_has_up_to_256_breaks(rt: HostRuntime) -> Result<(), Fail> {
-    check_numbers(&rt, rt.alloc(), &MANY)
 }
