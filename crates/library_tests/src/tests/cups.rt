@@ -38,36 +38,6 @@ impl Referee for OneWin {
     }
 }
 
-// Player 0 loses every game by one particle; all others draw.
-struct OneLoser;
-
-impl Referee for OneLoser {
-    ghost use Rattle.std.specs.Prelude.{◌==◌, if◌then◌else◌};
-
-    ghost score = { λ _ _ red black. if red == 0 then record { red = 0; black = 1 } else (if black == 0 then record { red = 1; black = 0 } else record { red = 2; black = 2 }) };
-
-    fn game(&self, _: Global, _: u32, red: u32, black: u32) -> Result<Score, OutOfMemory> {
-        if red == 0 {
-            return Ok(Score { red: 0, black: 1 });
-        }
-        if black == 0 {
-            return Ok(Score { red: 1, black: 0 });
-        }
-        Ok(Score { red: 2, black: 2 })
-    }
-}
-
-// Every game is drawn.
-struct Even;
-
-impl Referee for Even {
-    ghost score = { λ _ _ _ _. record { red = 5; black = 5 } };
-
-    fn game(&self, _: Global, _: u32, _: u32, _: u32) -> Result<Score, OutOfMemory> {
-        Ok(Score { red: 5, black: 5 })
-    }
-}
-
 // Every game on world 0 is drawn, and none on another is played.
 struct FirstWorldAlone;
 
@@ -182,32 +152,6 @@ fn the_winner_stands_first_with_any_number_of_workers(rt: HostRuntime) -> Result
         &names,
         1,
         "3 points: b (1 won, 1 drawn, 0 lost)\n1 points: a (0 won, 1 drawn, 1 lost)\n",
-    )
-}
-
-#[test]
-fn equal_points_stand_in_the_order_of_the_players(rt: HostRuntime) -> Result<(), Fail> {
-    let names = named(rt.alloc(), &["c", "b", "-"])?;
-    check(
-        &rt,
-        rt.alloc(),
-        &OneLoser,
-        &names,
-        1,
-        "6 points: b (2 won, 2 drawn, 0 lost)\n6 points: - (2 won, 2 drawn, 0 lost)\n0 points: c (0 won, 0 drawn, 4 lost)\n",
-    )
-}
-
-#[test]
-fn drawn_games_leave_the_players_in_their_order(rt: HostRuntime) -> Result<(), Fail> {
-    let names = named(rt.alloc(), &["z", "y", "x"])?;
-    check(
-        &rt,
-        rt.alloc(),
-        &Even,
-        &names,
-        2,
-        "8 points: z (0 won, 8 drawn, 0 lost)\n8 points: y (0 won, 8 drawn, 0 lost)\n8 points: x (0 won, 8 drawn, 0 lost)\n",
     )
 }
 

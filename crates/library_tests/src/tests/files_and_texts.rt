@@ -1,8 +1,7 @@
 // What no clause says: that calls succeed, exact bytes, and real files.
 use ant_base::{
-    Calls, Each, Failed, FetchFault, FileShelf, Files, Gate, Layout, Lines, MemShelf, MemSink,
-    NoGate, OutOfMemory, Parts, Shelf, Sink, StreamSink, is_blank, layout, push_number,
-    read_number, trim_line,
+    Calls, Each, Failed, FetchFault, FileShelf, Files, Gate, Layout, MemShelf, MemSink, NoGate,
+    OutOfMemory, Parts, Shelf, Sink, StreamSink, layout,
 };
 use std::alloc::{AllocError, Global};
 use std::fs;
@@ -77,71 +76,6 @@ fn values_print_as_their_texts(rt: HostRuntime) {
     assert!(rt; prints(alloc, &Some("some"), "some"));
     assert!(rt; prints(alloc, &None::<u8>, ""));
     assert!(rt; prints(alloc, &Each(Squares), "0;1;4;"));
-}
-
-// Whether a number is pushed as this text.
-fn pushes(alloc: Global, number: u64, text: &str) -> bool {
-    match sink_with(alloc, 20, &[]) {
-        Ok(mut sink) => push_number(&mut sink, number).is_ok() && sink.held() == text.as_bytes(),
-        Err(_) => false,
-    }
-}
-
-#[test]
-fn a_number_is_pushed_as_its_digits(rt: HostRuntime) {
-    assert!(rt; pushes(rt.alloc(), 12345, "12345"));
-}
-
-// Whether each text is the number.
-fn are_number(texts: &[&str], number: Option<u64>) -> bool {
-    for text in texts {
-        if read_number(text.as_bytes()) != number {
-            return false;
-        }
-    }
-    true
-}
-
-#[test]
-fn numbers_have_one_to_ten_digits(rt: HostRuntime) {
-    assert!(rt; are_number(&["0", "0000000000"], Some(0)));
-    assert!(rt; are_number(&["12", "00012"], Some(12)));
-    assert!(rt; are_number(&["4294967296"], Some(4294967296)));
-    assert!(rt; are_number(&["9999999999"], Some(9999999999)));
-    assert!(rt; are_number(&["", "00000000000", "12345678901"], None));
-    assert!(rt; are_number(&["1a", "a1", "-1", "+1", " 1", "1 ", "1/", "1:"], None));
-}
-
-// Whether these are the lines of a text.
-fn has_lines(text: &[u8], lines: &[&str]) -> bool {
-    let mut rest = Lines::new(text);
-    for line in lines {
-        if rest.next() != Some(line.as_bytes()) {
-            return false;
-        }
-    }
-    rest.next().is_none()
-}
-
-#[test]
-fn no_line_follows_a_last_lf(rt: HostRuntime) {
-    assert!(rt; has_lines(b"", &[]));
-    assert!(rt; has_lines(b"\n", &[""]));
-    assert!(rt; has_lines(b"4\r\n\n # \t.\n\nend", &["4\r", "", " # \t.", "", "end"]));
-}
-
-// Whether this stands within the separators of a line.
-fn has_within(line: &[u8], inner: &[u8]) -> bool {
-    trim_line(line) == inner && is_blank(line) == inner.is_empty()
-}
-
-#[test]
-fn separators_are_space_tab_and_cr(rt: HostRuntime) {
-    assert!(rt; has_within(b"", b""));
-    assert!(rt; has_within(b" \t\r", b""));
-    assert!(rt; has_within(b" 4\r", b"4"));
-    assert!(rt; has_within(b"\t# .\r ", b"# ."));
-    assert!(rt; has_within(b"\x0b4\x0c", b"\x0b4\x0c"));
 }
 
 // Whether a fetch gives this content.

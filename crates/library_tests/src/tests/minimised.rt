@@ -68,55 +68,6 @@ fn check<R: Abort>(
 }
 
 #[test]
-fn equivalent_states_merge(rt: HostRuntime) -> Result<(), Fail> {
-    for (brain, counts, kept, map) in [
-        (
-            "Flip 2 1 2\nMove 0 0\nMove 0 0\n",
-            "; 3 states, 2 kept",
-            "Flip 2 1 1\nMove 0 0\n",
-            " 0 1 1",
-        ),
-        (TEN, "; 10 states, 8 kept", EIGHT, " 0 1 2 3 4 5 6 3 7 -"),
-        // A cycle of two and one of three.
-        (
-            "Flip 2 1 3\nDrop 2\nDrop 1\nDrop 4\nDrop 5\nDrop 3\n",
-            "; 6 states, 2 kept",
-            "Flip 2 1 1\nDrop 1\n",
-            " 0 1 1 1 1 1",
-        ),
-        (
-            "Drop 3\nDrop 0\nDrop 1\nDrop 2\n",
-            "; 4 states, 1 kept",
-            "Drop 0\n",
-            " 0 0 0 0",
-        ),
-    ] {
-        check(&rt, rt.alloc(), brain, counts, kept, map)?;
-    }
-    Ok(())
-}
-
-#[test]
-fn each_state_has_its_line(rt: HostRuntime) -> Result<(), Fail> {
-    for (brain, lines) in [
-        (
-            TEN,
-            "0 0\n1 1\n2 2\n3 3\n4 4\n5 5\n6 6\n7 3\n8 7\n9 dropped\n",
-        ),
-        // A dropped state is equivalent to kept ones.
-        ("Drop 2\nDrop 2\nDrop 2\n", "0 0\n1 dropped\n2 0\n"),
-        ("Move 0 0\n", "0 0\n"),
-    ] {
-        let brain = brain_of(&rt, rt.alloc(), brain);
-        let minimised = minimise(rt.alloc(), &brain)?;
-        let mut sink = MemSink::with_room(rt.alloc(), ROOM, Calls::new(rt.alloc()))?;
-        assert!(rt; minimised.map.push_to(&mut sink).is_ok());
-        assert_eq!(rt; str::from_utf8(sink.held())?, lines);
-    }
-    Ok(())
-}
-
-#[test]
 fn other_states_stay(rt: HostRuntime) -> Result<(), Fail> {
     // Markers, bounds, sights and conditions part states.
     let flips =
