@@ -74,8 +74,8 @@ HasFileVerdict at file =
 short_file : (at : At) (file : File) (bytes : List ℕ) → at file.name ≡ Some bytes → length bytes ≤ longest → HasFileVerdict at file
 short_file at file bytes is short =
     elim (some_reading file.kind bytes) [
-      | inl reads ↦ inl (record { name = file.name; answer = Ok bytes }, reads.0, record { told = is; short = short }, record { bytes = bytes; got = refl; reads = reads.1 })
-      | inr refuses ↦ inr (record { name = file.name; answer = Ok bytes }, refuses.0, record { told = is; short = short }, inr (record { bytes = bytes; got = refl; refuses = refuses.1 }))
+      | inl reads ↦ inl (record { name = file.name; answer = Ok bytes }, reads.0, (is, short), record { bytes = bytes; got = refl; reads = reads.1 })
+      | inr refuses ↦ inr (record { name = file.name; answer = Ok bytes }, refuses.0, (is, short), inr (record { bytes = bytes; got = refl; refuses = refuses.1 }))
     ]
 
 long_file : (at : At) (file : File) (bytes : List ℕ) → at file.name ≡ Some bytes → longest < length bytes → HasFileVerdict at file

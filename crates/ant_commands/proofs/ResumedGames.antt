@@ -179,7 +179,7 @@ fetched world red black save setup game round workers others text at is early to
       read.0,
       record {
         fetches = record { name = save; answer = Ok text } ∷ [];
-        told = (record { told = there; short = short world red black setup game round workers text is early told }, tt);
+        told = ((there, short world red black setup game round workers text is early told), tt);
         judged = (record { bytes = text; got = refl; reads = read.1 }, (refl, refl));
       },
     )
