@@ -17,8 +17,8 @@ pub record ShelfState : Type 0 where
 abbrev pub longest : ℕ
 longest = 4194304
 
--- an answer that agrees with what is told: the bytes are no more than the longest and, where contents are told, the one of the name; or the
--- content of the name is told, and longer than that; a fetch that failed or wanted memory says nothing
+-- an answer that agrees with what is told: the bytes are no more than the longest and, where contents are told, the one of the name; or it is
+-- too long: where contents are told, the name has one that is longer than that; a fetch that failed or wanted memory says nothing
 abbrev pub AnswerIsTold : Option (List ℕ → Option (List ℕ)) → List ℕ → Result (List ℕ) FetchFault → Type 0
 AnswerIsTold files name (Ok bytes) = IfSome files (λ at. at name ≡ Some bytes) × (length bytes ≤ longest)
 AnswerIsTold files name (Err TooLong) = IfSome files (λ at. IsSomeAnd (at name) (λ content. longest < length content))

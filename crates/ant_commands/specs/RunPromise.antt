@@ -59,7 +59,7 @@ pub data IsOption (setup : GameSetup) : List ℕ → List (List ℕ) → GameSet
 -- the rounds are always said
 abbrev pub AreOptions : List (List ℕ × List (List ℕ)) → GameSetup → Type 0
 AreOptions [] setup = setup ≡ record { seed = 0; rounds = 0; dumps = λ round. false; sheet = record { surround = 5; corpse = 3; rest = 14 } }
-AreOptions (option ∷ options) setup = (rest : GameSetup) × IsOption rest option.0 option.1 setup × AreOptions options rest
+AreOptions (option ∷ options) setup = (others : GameSetup) × IsOption others option.0 option.1 setup × AreOptions options others
 
 -- the words are `run`, the names of three files, and options in any order, each at most once, the seed and the rounds among them
 pub record IsRunOf (words : List (List ℕ)) (world red black : List ℕ) (setup : GameSetup) : Type 0 where
@@ -115,7 +115,7 @@ pub record IsPrinted (world red black : List ℕ) (setup : GameSetup) (before af
   pub flushed : NothingWaits after.out.waiting
   pub silent : after.err ≡ before.err
 
--- 3: a file was not read: its fetch failed, of which the shelf wasn't sure, and the shelf's count of faults rose; nothing was written
+-- 3: a file was not read: the fetch of its name failed, of which the shelf wasn't sure, and the shelf's count of faults rose; nothing was written
 pub record IsUnread (world red black : List ℕ) (before after : Outside) : Type 0 where
   pub name : List ℕ
   pub stopped : StopsAt (λ IsText last answer. (last ≡ name) × (answer ≡ Err Failed)) world red black before after
@@ -134,8 +134,8 @@ abbrev pub IsUnfit : (List ℕ → Type 0) → Result (List ℕ) FetchFault → 
 IsUnfit IsText (Ok bytes) says = ¬ IsText bytes
 IsUnfit IsText (Err fault) says = (fault ≡ TooLong) × (says ≡ codes "too long")
 
--- 5: a file is no world or no brain, or too long; nothing was written. The line names the file and what is wrong with it: which fault is said of
--- which text is left to the law `headline`
+-- 5: a file is no world or no brain, or too long; nothing was written. The line names the file; what it says of a text that
+-- is none is left to the law `headline`
 pub record IsNotAccepted (world red black : List ℕ) (before after : Outside) : Type 0 where
   pub name : List ℕ
   pub says : List ℕ

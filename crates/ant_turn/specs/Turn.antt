@@ -75,7 +75,7 @@ cell_becomes cells p cell = record { cells = put_cell cells p cell; drew = false
 abbrev pub ant_becomes : Cells → Pos → Ant → Outcome
 ant_becomes cells p ant = cell_becomes cells p (record (cells p) { ant = Some ant })
 
--- the surrounded ants are checked around q, and nothing else happens
+-- q and its six neighbours are checked, and nothing else happens
 abbrev pub checked : Sheet → Cells → Pos → Outcome
 checked sheet cells q = record { cells = check_all sheet cells (places_around q); drew = false; killed = killed_all sheet cells (places_around q) }
 
@@ -99,7 +99,7 @@ execute sheet seed cells place p ant (Drop next) =
 -- the direction turns Left or Right; the state becomes next
 execute sheet seed cells place p ant (Turn side next) = ant_becomes cells p (record ant { facing = turned_by ant.facing side; state = next })
 -- if the cell ahead is rocky or holds an ant, the state becomes unmet; else the ant moves there, the state becomes met, it rests,
--- and the surrounded ants are checked around the new cell
+-- and the new cell and its six neighbours are checked
 execute sheet seed cells place p ant (Move met unmet) =
     let ahead = adjacent_pos p ant.facing in
     if (cells ahead).rocky || is_some (cells ahead).ant
@@ -114,7 +114,7 @@ abbrev pub instruction_at : List Instr → ℕ → Instr
 instruction_at mind state = slice_index_or mind state (Drop 0)
 
 -- the turn of the ant of p: where its resting count is above 0, it falls by one and nothing else happens; else the instruction at
--- its state in its colour's brain is executed
+-- its state in its colour's brain is executed; where there is none, which never is, `Drop 0`
 abbrev pub acts : ℕ → Minds → ℕ → Cells → ℕ → Pos → Ant → Outcome
 acts zero minds seed cells place p ant = execute minds.sheet seed cells place p ant (slice_index_or (mind_of minds ant.colour) ant.state (Drop 0))
 acts (suc left) minds seed cells place p ant = ant_becomes cells p (record ant { resting = left })

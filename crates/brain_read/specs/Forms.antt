@@ -117,7 +117,7 @@ abbrev pub HasBound : Instr → Type 0
 HasBound (Flip bound met unmet) = bound ≤ most_bound
 HasBound _ = Unit {0}
 
--- the marker of an instruction is from 0 to 5, and its bound from 1 to the largest; its states are any numbers
+-- the marker of an instruction is from 0 to 5, and its bound from 1 to the largest; `IsBrainText` bounds its states
 abbrev pub IsInRange : Instr → Type 0
 IsInRange (Sense sight met unmet condition) = IsSoundCondition condition
 IsInRange (Mark i next) = i < 6

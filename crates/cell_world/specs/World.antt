@@ -18,7 +18,7 @@ pub record World : Type 0 where
   pub ids : ℕ
   pub cells : Cells
 
--- the cells, with this one at p
+-- the cells, with this one at p, and so the cell at q
 unfoldable pub put_cell : Cells → Pos → Cell → Cells
 put_cell cells p cell q = if same_pos p q then cell else cells q
 

@@ -35,7 +35,7 @@ pub struct Ant {
     pub colour: Colour,
     /// The state of its brain, from 0 to 9,999; in a game it is below the length of its colour's brain (the task's neurology).
     pub state: u16,
-    /// For how many more turns it rests, 0 where it acts; after a Move the rest of the game's rules, 14 in the contest (the task's kinetics).
+    /// For how many more turns it rests, 0 where it acts; after a Move the number `rest` of the rules, 14 in the contest (the task's kinetics).
     pub resting: u8,
     /// The direction in which it faces (the task's geometry).
     pub facing: Dir,
