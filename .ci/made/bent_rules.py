@@ -4,9 +4,8 @@ A row is `- BEND | REFUSED BY; REFUSED BY; .. | HOW`, where each of the middle i
 
     lemma NAME of CRATE and N more      lemmas NAME, NAME of CRATE      law NAME of CRATE
     tests in FILE, TABLE                test NAME of CRATE              tests of CRATE
-    RULES, SECTION                      README, SECTION                 a remark may stand behind a colon
-    test NAME of the library            rows of test_ants.c                 rows of .ci/options.txt
-    examples in FILE of examples/
+    RULES, SECTION                      README, SECTION                 examples in FILE; a remark may stand behind a colon
+    test NAME of the library            rows of test_ants.c             rows of .ci/options.txt
 
 Where HOW is `again` the row's edit stands below it, as in must-fail/, which `.ci/bend` puts into a copy: the first of the middle names lemmas then, and
 one of them refuses it. Several `new:` are several lines. A line `or` begins another edit of the same row.
