@@ -1,5 +1,5 @@
 -- Each `run` keeps its promise: what its status says follows from the law `headline`, and its words from the table.
-use Rattle.std.proofs.Common.{◌≡◌, ◌≢◌, ◌⊎◌, inl, inr, ℕ, ◌≤◌, Bool, false, List, [], ◌∷◌, ◌++◌, length, Some, Result, Ok, Err, codes, refl, sym, ap, ◌∙◌, subst}
+use Rattle.std.proofs.Common.{◌≡◌, ◌≢◌, ◌⊎◌, inl, inr, ℕ, Bool, false, List, [], ◌∷◌, ◌++◌, Some, Result, Ok, Err, codes, refl, sym, ap, ◌∙◌, subst}
 use Rattle.std.specs.List.{Contains, flat_map}
 use Rattle.std.proofs.lemmas.Bool.{false≢true}
 use Rattle.std.proofs.lemmas.List.{append-nil, append_assoc}
@@ -10,7 +10,6 @@ use Rattle.ant_base.specs.Sink.{Pushed, PushedAll, PushedFront, SinkState}
 use Rattle.ant_base.specs.declared.sink.Failed.{Failed}
 use Rattle.ant_base.specs.declared.shelf.FetchFault.{FetchFault}
 use Rattle.ant_base.specs.declared.shelf.FetchFault.TheVariants as why
-use Rattle.ant_turn.specs.Minds.{Minds}
 use Rattle.ant_turn.specs.Rounds.{start_of}
 use Rattle.cell_world.specs.Grid.{world_of}
 use Rattle.command_words.proofs.SaidLemmas as said_laws
@@ -38,31 +37,28 @@ use Rattle.ant_commands.specs.Jobs.{job_of, run_job}
 use Rattle.ant_commands.specs.Outputs.{ReadGame, brain_file, chosen_rounds, game_contents, game_files, match_output, minds_named, sheet_named, world_file}
 use Rattle.ant_commands.specs.Outside.{Outside}
 use Rattle.ant_commands.specs.Run.{GotLine, IsRunTo}
-use Rattle.ant_commands.specs.RunPromise.{GameSetup, HasLine, IsBrain, IsCutOff, IsNotAccepted, IsPrinted, IsRunOf, IsSomeRun, IsUnfit, IsUnread, IsWorld, Plays, RefusedWords, RunEnds, RunPromise, StopsAt, WantsMemory, fetch}
+use Rattle.ant_commands.specs.RunPromise.{HasLine, IsBrain, IsCutOff, IsNotAccepted, IsPrinted, IsRunOf, IsUnfit, IsUnread, IsWorld, Plays, PushedPart, RefusedWords, RunAsked, RunEnds, RunPromise, StopsAt, WantsMemory, fetch}
+use Rattle.ant_commands.specs.RunPromise.StopsAt.{AtWorld, AtRed, AtBlack}
 use Rattle.ant_commands.specs.Setups.{RunSetup, setup_of}
 use Rattle.ant_commands.specs.Verdict.{IsRefusedAs}
 use Rattle.ant_commands.proofs.Headlines.{headline}
-use Rattle.ant_commands.proofs.RunWords.{IsTableRun, among_words, game_said, run_of_form, table_run}
+use Rattle.ant_commands.proofs.RunWords.{IsTableRun, among_words, run_of_form, run_said, table_run}
 use Rattle.ant_commands.proofs.Texts.{never_both}
 
--- what the options of a run say of its game
-abbrev game_of : RunSetup → GameSetup
-game_of setup = record { seed = setup.seed; rounds = setup.rounds; dumps = chosen_rounds setup.dumps; sheet = sheet_named setup }
+-- what a run of these files with these options asks for
+abbrev asked_for : List ℕ → List ℕ → List ℕ → RunSetup → RunAsked
+asked_for world red black setup =
+    record { world = world; red = red; black = black; seed = setup.seed; rounds = setup.rounds; dumps = chosen_rounds setup.dumps; sheet = sheet_named setup }
 
--- both brains of a game, with the numbers of its rules
-abbrev minds_in : GameSetup → ReadGame → Minds
-minds_in setup game = record { red = game.red; black = game.black; sheet = setup.sheet }
-
-abbrev game_text : GameSetup → ReadGame → List ℕ
-game_text setup game = run_text (minds_in setup game) setup.seed setup.rounds setup.dumps (world_of game.world)
+abbrev game_text : RunSetup → ReadGame → List ℕ
+game_text setup game = run_text (minds_named setup game.red game.black) setup.seed setup.rounds (chosen_rounds setup.dumps) (world_of game.world)
 
 -- without counts the output is the text of the game
-text_of_game : (setup : RunSetup) (read : ReadGame) → setup.stats ≡ false → match_output setup read ≡ game_text (game_of setup) read
+text_of_game : (setup : RunSetup) (read : ReadGame) → setup.stats ≡ false → match_output setup read ≡ game_text setup read
 unfolding match_output whole_text
 text_of_game setup read off =
-    let text : List ℕ = run_text (minds_named setup read.red read.black) setup.seed setup.rounds (chosen_rounds setup.dumps) (world_of read.world) in
-    ap (λ (stats : Bool). text +++ counts_text stats (totals_of (minds_named setup read.red read.black) setup.seed setup.window (start_of (world_of read.world)) setup.rounds)) off
-    ∙ append-nil text
+    ap (λ (stats : Bool). game_text setup read +++ counts_text stats (totals_of (minds_named setup read.red read.black) setup.seed setup.window (start_of (world_of read.world)) setup.rounds)) off
+    ∙ append-nil (game_text setup read)
 
 -- the line of a fault, or a prefix of it
 has_line : (err new_err : SinkState) (line : List ℕ) → GotLine err new_err line → HasLine err new_err line
@@ -74,7 +70,7 @@ has_line err new_err line got = go got.0 got.1 where
 -- three files that are accepted, and what was written of the text of their game
 plays_read : (IsWritten : SinkState → SinkState → List ℕ → Type 0) (world red black : List ℕ) (setup : RunSetup) (before after : Outside) (fetches : List Fetched) (read : ReadGame) (text : List ℕ)
     → FetchesEach before.shelf after.shelf fetches → AreAccepted (game_files world red black) fetches (game_contents read) → text ≡ match_output setup read → setup.stats ≡ false
-    → IsWritten before.out after.out text → Plays IsWritten world red black (game_of setup) before after
+    → IsWritten before.out after.out text → Plays IsWritten (asked_for world red black setup) before after
 plays_read IsWritten world red black setup before after [] read text fetched are is off written = absurd are
 plays_read IsWritten world red black setup before after (a ∷ []) read text fetched are is off written = absurd are.1
 plays_read IsWritten world red black setup before after (a ∷ b ∷ []) read text fetched are is off written = absurd are.1.1
@@ -92,7 +88,7 @@ plays_read IsWritten world red black setup before after (a ∷ b ∷ c ∷ fetch
       third = z.bytes;
       fetched = subst (FetchesEach before.shelf after.shelf) same fetched;
       grid = read.world;
-      minds = minds_in (game_of setup) read;
+      minds = minds_named setup read.red read.black;
       is_world = x.reads;
       is_red = y.reads;
       is_black = z.reads;
@@ -102,18 +98,18 @@ plays_read IsWritten world red black setup before after (a ∷ b ∷ c ∷ fetch
 
 plays : (IsWritten : SinkState → SinkState → List ℕ → Type 0) (world red black : List ℕ) (setup : RunSetup) (before after : Outside) (fetches : List Fetched) (contents : List FileContent) (text : List ℕ)
     → FetchesEach before.shelf after.shelf fetches → AreAccepted (game_files world red black) fetches contents → IsJobText (run_job world red black setup) contents text → setup.stats ≡ false
-    → IsWritten before.out after.out text → Plays IsWritten world red black (game_of setup) before after
+    → IsWritten before.out after.out text → Plays IsWritten (asked_for world red black setup) before after
 plays IsWritten world red black setup before after fetches contents text fetched are is off written =
     plays_read IsWritten world red black setup before after fetches is.value text fetched (subst (AreAccepted (game_files world red black) fetches) is.read are) is.told off written
 
 -- status 0
 printed : (world red black : List ℕ) (setup : RunSetup) (before after : Outside) → setup.stats ≡ false → PrintsTheGame world red black setup before after
-    → IsPrinted world red black (game_of setup) before after
+    → IsPrinted (asked_for world red black setup) before after
 unfolding run_text dumps_text
 printed world red black setup before after off it =
     let read : ReadGame = record { world = it.start; red = it.red_brain; black = it.black_brain } in
-    let whole : game_text (game_of setup) read +++ it.counts ≡ game_text (game_of setup) read =
-    ap (λ (counts : List ℕ). game_text (game_of setup) read +++ counts) (it.uncounted off) ∙ append-nil (game_text (game_of setup) read) in
+    let whole : game_text setup read +++ it.counts ≡ game_text setup read =
+    ap (λ (counts : List ℕ). game_text setup read +++ counts) (it.uncounted off) ∙ append-nil (game_text setup read) in
     record {
       plays = record {
         first = it.world_bytes;
@@ -121,7 +117,7 @@ printed world red black setup before after off it =
         third = it.black_bytes;
         fetched = it.fetched;
         grid = read.world;
-        minds = minds_in (game_of setup) read;
+        minds = minds_named setup read.red read.black;
         is_world = it.is_world;
         is_red = it.is_red;
         is_black = it.is_black;
@@ -153,50 +149,49 @@ a_brain bytes (SaveContent saved) reads = absurd reads
 abbrev Answer : Type 0
 Answer = Result (List ℕ) FetchFault
 
-record IsLast (IsSuch : (List ℕ → Type 0) → List ℕ → Answer → Type 0) (IsText : List ℕ → Type 0) (name : List ℕ) (last : Fetched) : Type 0 where
+record IsLast (IsSo : (List ℕ → Type 0) → List ℕ → Answer → Type 0) (IsText : List ℕ → Type 0) (name : List ℕ) (last : Fetched) : Type 0 where
   answer : Answer
   got : last ≡ fetch name answer
-  such : IsSuch IsText name answer
+  such : IsSo IsText name answer
 
 -- a run that stopped at one of its files
-module _ (IsOld : File → Fetched → Type 0) (IsSuch : (List ℕ → Type 0) → List ℕ → Answer → Type 0)
-    (last_world : (name : List ℕ) (last : Fetched) → IsOld (world_file name) last → IsLast IsSuch IsWorld name last)
-    (last_brain : (name : List ℕ) (last : Fetched) → IsOld (brain_file name) last → IsLast IsSuch IsBrain name last)
-    (world red black : List ℕ) (before after : Outside) where
-  at_black : (first second : List ℕ) (fetches : List Fetched) → IsWorld first → IsBrain second
-      → FetchesEach before.shelf after.shelf (fetch world (Ok first) ∷ fetch red (Ok second) ∷ fetches)
-      → files.StopsAt IsOld (brain_file black ∷ []) fetches → StopsAt IsSuch world red black before after
-  at_black first second [] is_world is_brain fetched at = absurd at
-  at_black first second (c ∷ fetches) is_world is_brain fetched (inr later) = absurd later.2
-  at_black first second (c ∷ fetches) is_world is_brain fetched (inl here) =
-      let last : IsLast IsSuch IsBrain black c = last_brain black c here.0 in
-      let same : c ∷ fetches ≡ fetch black last.answer ∷ [] = ap (λ (f : Fetched). f ∷ fetches) last.got ∙ ap (λ (more : List Fetched). fetch black last.answer ∷ more) here.1 in
-      inr (inr (first, second, last.answer, subst (λ (fs : List Fetched). FetchesEach before.shelf after.shelf (fetch world (Ok first) ∷ fetch red (Ok second) ∷ fs)) same fetched, is_world, is_brain, last.such))
+module _ (IsOld : File → Fetched → Type 0) (IsSo : (List ℕ → Type 0) → List ℕ → Answer → Type 0)
+    (last_world : (name : List ℕ) (last : Fetched) → IsOld (world_file name) last → IsLast IsSo IsWorld name last)
+    (last_brain : (name : List ℕ) (last : Fetched) → IsOld (brain_file name) last → IsLast IsSo IsBrain name last)
+    (asked : RunAsked) where
+  -- the last fetch, behind these
+  ended : {IsText : List ℕ → Type 0} {name : List ℕ} (before : List Fetched → List Fetched) (last : Fetched) (fetches : List Fetched) (is : IsLast IsSo IsText name last) → fetches ≡ []
+      → StopsAt IsSo asked (before (fetch name is.answer ∷ [])) → StopsAt IsSo asked (before (last ∷ fetches))
+  ended {IsText} {name} before last fetches is none at =
+      subst (λ (fs : List Fetched). StopsAt IsSo asked (before fs)) (sym (ap (λ (f : Fetched). f ∷ fetches) is.got ∙ ap (λ (more : List Fetched). fetch name is.answer ∷ more) none)) at
 
-  at_red : (first : List ℕ) (fetches : List Fetched) → IsWorld first → FetchesEach before.shelf after.shelf (fetch world (Ok first) ∷ fetches)
-      → files.StopsAt IsOld (brain_file red ∷ brain_file black ∷ []) fetches → StopsAt IsSuch world red black before after
-  at_red first [] is_world fetched at = absurd at
-  at_red first (b ∷ fetches) is_world fetched (inl here) =
-      let last : IsLast IsSuch IsBrain red b = last_brain red b here.0 in
-      let same : b ∷ fetches ≡ fetch red last.answer ∷ [] = ap (λ (f : Fetched). f ∷ fetches) last.got ∙ ap (λ (more : List Fetched). fetch red last.answer ∷ more) here.1 in
-      inr (inl (first, last.answer, subst (λ (fs : List Fetched). FetchesEach before.shelf after.shelf (fetch world (Ok first) ∷ fs)) same fetched, is_world, last.such))
-  at_red first (b ∷ fetches) is_world fetched (inr later) =
-      at_black first later.1.bytes fetches is_world (a_brain later.1.bytes later.0 later.1.reads)
-      (subst (λ (f : Fetched). FetchesEach before.shelf after.shelf (fetch world (Ok first) ∷ f ∷ fetches)) later.1.got fetched) later.2
+  at_black : (first second : List ℕ) (fetches : List Fetched) → IsWorld first → IsBrain second → files.StopsAt IsOld (brain_file asked.black ∷ []) fetches
+      → StopsAt IsSo asked (fetch asked.world (Ok first) ∷ fetch asked.red (Ok second) ∷ fetches)
+  at_black first second [] is_world is_brain at = absurd at
+  at_black first second (c ∷ fetches) is_world is_brain (inr later) = absurd later.2
+  at_black first second (c ∷ fetches) is_world is_brain (inl here) =
+      let last = last_brain asked.black c here.0 in
+      ended (λ fs. fetch asked.world (Ok first) ∷ fetch asked.red (Ok second) ∷ fs) c fetches last here.1 (AtBlack first second last.answer is_world is_brain last.such)
 
-  stops : (fetches : List Fetched) → FetchesEach before.shelf after.shelf fetches → files.StopsAt IsOld (game_files world red black) fetches → StopsAt IsSuch world red black before after
-  stops [] fetched at = absurd at
-  stops (a ∷ fetches) fetched (inl here) =
-      let last : IsLast IsSuch IsWorld world a = last_world world a here.0 in
-      let same : a ∷ fetches ≡ fetch world last.answer ∷ [] = ap (λ (f : Fetched). f ∷ fetches) last.got ∙ ap (λ (more : List Fetched). fetch world last.answer ∷ more) here.1 in
-      inl (last.answer, subst (FetchesEach before.shelf after.shelf) same fetched, last.such)
-  stops (a ∷ fetches) fetched (inr later) =
-      at_red later.1.bytes fetches (a_world later.1.bytes later.0 later.1.reads)
-      (subst (λ (f : Fetched). FetchesEach before.shelf after.shelf (f ∷ fetches)) later.1.got fetched) later.2
+  at_red : (first : List ℕ) (fetches : List Fetched) → IsWorld first → files.StopsAt IsOld (brain_file asked.red ∷ brain_file asked.black ∷ []) fetches
+      → StopsAt IsSo asked (fetch asked.world (Ok first) ∷ fetches)
+  at_red first [] is_world at = absurd at
+  at_red first (b ∷ fetches) is_world (inl here) =
+      let last = last_brain asked.red b here.0 in
+      ended (λ fs. fetch asked.world (Ok first) ∷ fs) b fetches last here.1 (AtRed first last.answer is_world last.such)
+  at_red first (b ∷ fetches) is_world (inr later) =
+      subst (λ (f : Fetched). StopsAt IsSo asked (fetch asked.world (Ok first) ∷ f ∷ fetches)) (sym later.1.got)
+      (at_black first later.1.bytes fetches is_world (a_brain later.1.bytes later.0 later.1.reads) later.2)
+
+  stops : (fetches : List Fetched) → files.StopsAt IsOld (game_files asked.world asked.red asked.black) fetches → StopsAt IsSo asked fetches
+  stops [] at = absurd at
+  stops (a ∷ fetches) (inl here) = (let last = last_world asked.world a here.0 in ended (λ fs. fs) a fetches last here.1 (AtWorld last.answer last.such))
+  stops (a ∷ fetches) (inr later) =
+      subst (λ (f : Fetched). StopsAt IsSo asked (f ∷ fetches)) (sym later.1.got) (at_red later.1.bytes fetches (a_world later.1.bytes later.0 later.1.reads) later.2)
 
 -- status 3
 last_unsure : (shelf : ShelfState) (name : List ℕ) (kind : FileKind) (IsText : List ℕ → Type 0) (other : List ℕ) (last : Fetched) → IsUnsure shelf name (record { name = other; kind = kind }) last
-    → IsLast (λ IsText last answer. (last ≡ name) × (answer ≡ Err why.Failed)) IsText other last
+    → IsLast (λ IsText file answer. (file ≡ name) × (answer ≡ Err why.Failed)) IsText other last
 last_unsure shelf name kind IsText other last is = record { answer = Err why.Failed; got = is.failed; such = (is.named, refl) }
 
 never_sure : (shelf : ShelfState) (name : List ℕ) (list : List File) (fetches : List Fetched) → files.StopsAt (IsUnsure shelf name) list fetches → shelf.sure name ≡ false
@@ -208,14 +203,14 @@ never_sure shelf name (file ∷ list) (fetch ∷ fetches) (inr later) = never_su
 -- status 5
 last_unfit : (kind : FileKind) (IsText : List ℕ → Type 0) → ((bytes : List ℕ) → IsText bytes → (content : FileContent) × Reads kind bytes content)
     → (other : List ℕ) (fault : FileFault) (last : Fetched) → IsRefused (record { name = other; kind = kind }) last fault
-    → IsLast (λ IsText last answer. IsUnfit IsText answer (file_fault_text fault)) IsText other last
+    → IsLast (λ IsText file answer. IsUnfit IsText answer (file_fault_text fault)) IsText other last
 last_unfit kind IsText reads other fault last (inl long) = record { answer = Err why.TooLong; got = long.1; such = (refl, ap file_fault_text long.0) }
 last_unfit kind IsText reads other fault last (inr it) =
     record { answer = Ok it.bytes; got = it.got; such = λ text. (let read = reads it.bytes text in never_both kind it.bytes read.0 fault read.1 it.refuses) }
 
 last_refused : (kind : FileKind) (IsText : List ℕ → Type 0) → ((bytes : List ℕ) → IsText bytes → (content : FileContent) × Reads kind bytes content)
     → (name other : List ℕ) (fault : FileFault) (last : Fetched) → IsRefusedAs name fault (record { name = other; kind = kind }) last
-    → IsLast (λ IsText last answer. (last ≡ name) × IsUnfit IsText answer (file_fault_text fault)) IsText other last
+    → IsLast (λ IsText file answer. (file ≡ name) × IsUnfit IsText answer (file_fault_text fault)) IsText other last
 last_refused kind IsText reads name other fault last is =
     let unfit = last_unfit kind IsText reads other fault last is.refused in
     record { answer = unfit.answer; got = unfit.got; such = (is.named, unfit.such) }
@@ -227,7 +222,7 @@ read_brain : (bytes : List ℕ) → IsBrain bytes → (content : FileContent) ×
 read_brain bytes is = (BrainContent is.0, is.1)
 
 -- status 6
-last_got : (kind : FileKind) (IsText : List ℕ → Type 0) (other : List ℕ) (last : Fetched) → IsFetched (record { name = other; kind = kind }) last → IsLast (λ IsText last answer. (answer ≢ Err why.Failed) × (answer ≢ Err why.TooLong)) IsText other last
+last_got : (kind : FileKind) (IsText : List ℕ → Type 0) (other : List ℕ) (last : Fetched) → IsFetched (record { name = other; kind = kind }) last → IsLast (λ IsText file answer. (answer ≢ Err why.Failed) × (answer ≢ Err why.TooLong)) IsText other last
 last_got kind IsText other last (inl got) = record { answer = Ok got.0; got = got.1; such = (λ e. cc, λ e. cc) }
 last_got kind IsText other last (inr want) = record { answer = Err why.OutOfMemory; got = want; such = (λ e. cc, λ e. cc) }
 
@@ -247,12 +242,16 @@ record HasStopped (world red black : List ℕ) (setup : RunSetup) (before after 
   stopped : StopsFor (run_job world red black setup) before after fetches reason
   line : GotLine before.err after.err (fault_line reason)
 
-unread : (world red black : List ℕ) (setup : RunSetup) (before after : Outside) (name : List ℕ) → HasStopped world red black setup before after (AtFile name) → IsUnread world red black before after
+unread : (world red black : List ℕ) (setup : RunSetup) (before after : Outside) (name : List ℕ) → HasStopped world red black setup before after (AtFile name) → IsUnread (asked_for world red black setup) before after
 unfolding fault_line
 unread world red black setup before after name it = record {
   name = name;
-  stopped = stops (IsUnsure before.shelf name) (λ IsText last answer. (last ≡ name) × (answer ≡ Err why.Failed)) (last_unsure before.shelf name WorldFile IsWorld) (last_unsure before.shelf name BrainFile IsBrain)
-      world red black before after it.fetches it.fetched it.stopped.stopped;
+  stopped = (
+    it.fetches,
+    it.fetched,
+    stops (IsUnsure before.shelf name) (λ IsText file answer. (file ≡ name) × (answer ≡ Err why.Failed)) (last_unsure before.shelf name WorldFile IsWorld) (last_unsure before.shelf name BrainFile IsBrain)
+        (asked_for world red black setup) it.fetches it.stopped.stopped,
+  );
   unsure = never_sure before.shelf name (game_files world red black) it.fetches it.stopped.stopped;
   rose = it.stopped.rose;
   unwritten = it.stopped.unwritten;
@@ -260,7 +259,7 @@ unread world red black setup before after name it = record {
 }
 
 cut_off : (world red black : List ℕ) (setup : RunSetup) (before after : Outside) → setup.stats ≡ false → HasStopped world red black setup before after AtOutput
-    → IsCutOff world red black (game_of setup) before after
+    → IsCutOff (asked_for world red black setup) before after
 unfolding fault_line
 cut_off world red black setup before after off it = record {
   plays = plays PushedFront world red black setup before after it.fetches it.stopped.contents it.stopped.text it.fetched it.stopped.accepted it.stopped.is_text off it.stopped.cut;
@@ -268,37 +267,41 @@ cut_off world red black setup before after off it = record {
 }
 
 not_accepted : (world red black : List ℕ) (setup : RunSetup) (before after : Outside) (name : List ℕ) (fault : FileFault) → HasStopped world red black setup before after (AtInput name fault)
-    → IsNotAccepted world red black before after
+    → IsNotAccepted (asked_for world red black setup) before after
 unfolding fault_line
 not_accepted world red black setup before after name fault it = record {
   name = name;
   says = file_fault_text fault;
-  stopped = stops (IsRefusedAs name fault) (λ IsText last answer. (last ≡ name) × IsUnfit IsText answer (file_fault_text fault))
-      (λ other last. last_refused WorldFile IsWorld read_world name other fault last) (λ other last. last_refused BrainFile IsBrain read_brain name other fault last)
-      world red black before after it.fetches it.fetched it.stopped.stopped;
+  stopped = (
+    it.fetches,
+    it.fetched,
+    stops (IsRefusedAs name fault) (λ IsText file answer. (file ≡ name) × IsUnfit IsText answer (file_fault_text fault))
+        (λ other last. last_refused WorldFile IsWorld read_world name other fault last) (λ other last. last_refused BrainFile IsBrain read_brain name other fault last)
+        (asked_for world red black setup) it.fetches it.stopped.stopped,
+  );
   unwritten = it.stopped.unwritten;
   line = subst (HasLine before.err after.err) (ap (λ (says : List ℕ). codes "ants: " +++ says) (append_assoc name (codes ": " +++ file_fault_text fault) (codes "\n")))
       (has_line before.err after.err (fault_line (AtInput name fault)) it.line);
 }
 
--- a proper prefix of the text was appended
-abbrev PushedPart : SinkState → SinkState → List ℕ → Type 0
-PushedPart out new_out text = (front : List ℕ) × (rest : List ℕ) × (text ≡ front ++ rest) × (1 ≤ length rest) × PushedAll out new_out front
-
 -- memory was wanting before the text was begun, or after a proper prefix of it
 wants_memory : (world red black : List ℕ) (setup : RunSetup) (before after : Outside) → setup.stats ≡ false → HasStopped world red black setup before after AtMemory
-    → WantsMemory world red black (game_of setup) before after
+    → WantsMemory (asked_for world red black setup) before after
 unfolding fault_line
 wants_memory world red black setup before after off it = record {
   stopped = elim it.stopped [
-    | inl unbegun ↦ inl (
-      unbegun.unwritten,
-      elim (begun_stops (game_files world red black) it.fetches unbegun.begun) [
-        | inl none ↦ inl (subst (FetchesEach before.shelf after.shelf) none it.fetched)
-        | inr at ↦ inr (stops IsFetched (λ IsText last answer. (answer ≢ Err why.Failed) × (answer ≢ Err why.TooLong)) (last_got WorldFile IsWorld) (last_got BrainFile IsBrain)
-            world red black before after it.fetches it.fetched at)
-      ],
-    )
+    | inl unbegun ↦ inl (record {
+      stopped = (
+        it.fetches,
+        it.fetched,
+        elim (begun_stops (game_files world red black) it.fetches unbegun.begun) [
+          | inl none ↦ inl none
+          | inr at ↦ inr (stops IsFetched (λ IsText file answer. (answer ≢ Err why.Failed) × (answer ≢ Err why.TooLong)) (last_got WorldFile IsWorld) (last_got BrainFile IsBrain)
+              (asked_for world red black setup) it.fetches at)
+        ],
+      );
+      unwritten = unbegun.unwritten;
+    })
     | inr it_broke ↦ inr (let part = it_broke.broken in plays PushedPart world red black setup before after it.fetches it_broke.contents it_broke.text it.fetched it_broke.accepted it_broke.is_text off
         (part.front, part.rest, part.whole, part.some_left, part.pushed))
   ];
@@ -316,7 +319,7 @@ has_stopped words before after reason is it = record {
 }
 
 ends : (words : List (List ℕ)) (before after : Outside) (number : ℕ) → KeepsPromise words before after number → IsCommand words (asked_in Run words) → (asked_in Run words).has choice.Stats ≡ false
-    → RunEnds ((asked_in Run words).file 0) ((asked_in Run words).file 1) ((asked_in Run words).file 2) (game_said (asked_in Run words)) before after number
+    → RunEnds (run_said (asked_in Run words)) before after number
 ends words before after number keeps is off =
     let asked : PlainAsked = asked_in Run words in
     let world = asked.file 0 in
@@ -336,23 +339,14 @@ ends words before after number keeps is off =
       | inr (inr (inr (inr (inr six)))) ↦ inr (inr (inr (inr (six, wants_memory world red black setup before after off (has_stopped words before after AtMemory is (keeps.out_of_memory six))))))
     ]
 
-kept : (words : List (List ℕ)) (world red black : List ℕ) (setup : GameSetup) → IsRunOf words world red black setup
-    → (before after : Outside) (number : ℕ) → IsRunTo words before after number → RunEnds world red black setup before after number
-kept words world red black setup is before after number run =
-    let it : IsTableRun words world red black setup = table_run words world red black setup is in
-    let asked : PlainAsked = asked_in Run words in
-    subst (λ (s : GameSetup). RunEnds world red black s before after number) it.said
-    (subst (λ (b : List ℕ). RunEnds world red b (game_said asked) before after number) it.black_is
-    (subst (λ (r : List ℕ). RunEnds world r (asked.file 2) (game_said asked) before after number) it.red_is
-    (subst (λ (w : List ℕ). RunEnds w (asked.file 1) (asked.file 2) (game_said asked) before after number) it.world_is
-    (ends words before after number (headline words before after number run) it.is it.uncounted))))
+kept : (words : List (List ℕ)) (asked : RunAsked) → IsRunOf words asked → (before after : Outside) (number : ℕ) → IsRunTo words before after number → RunEnds asked before after number
+kept words asked is before after number run =
+    let it : IsTableRun words asked = table_run words asked is in
+    subst (λ (a : RunAsked). RunEnds a before after number) it.said (ends words before after number (headline words before after number run) it.is it.uncounted)
 
 -- both readings are that of the table
-one : (words : List (List ℕ)) (a b : IsSomeRun words) → (a.0 ≡ b.0) × (a.1 ≡ b.1) × (a.2 ≡ b.2) × (a.3 ≡ b.3)
-one words a b =
-    let x : IsTableRun words a.0 a.1 a.2 a.3 = table_run words a.0 a.1 a.2 a.3 a.4 in
-    let y : IsTableRun words b.0 b.1 b.2 b.3 = table_run words b.0 b.1 b.2 b.3 b.4 in
-    (sym x.world_is ∙ y.world_is, sym x.red_is ∙ y.red_is, sym x.black_is ∙ y.black_is, sym x.said ∙ y.said)
+one : (words : List (List ℕ)) (a b : RunAsked) → IsRunOf words a → IsRunOf words b → a ≡ b
+one words a b is also = sym (table_run words a is).said ∙ (table_run words b also).said
 
 -- words that weren't refused are a command
 commanded : (words : List (List ℕ)) (before after : Outside) (number : ℕ) → KeepsPromise words before after number → number ≢ 2 → (command : PlainAsked) × IsCommand words command
@@ -372,7 +366,8 @@ run_begins kind known begins =
     let one : Some Run ≡ Some kind = ap command_kind_of begins ∙ known in
     cc
 
-every : (words : List (List ℕ)) (before after : Outside) (number : ℕ) → IsRunTo (codes "run" ∷ words) before after number → number ≢ 2 → ¬ Contains words (codes "--stats") → IsSomeRun (codes "run" ∷ words)
+every : (words : List (List ℕ)) (before after : Outside) (number : ℕ) → IsRunTo (codes "run" ∷ words) before after number → number ≢ 2 → ¬ Contains words (codes "--stats")
+    → (asked : RunAsked) × IsRunOf (codes "run" ∷ words) asked
 every words before after number run other uncounted =
     let is = (commanded (codes "run" ∷ words) before after number (headline (codes "run" ∷ words) before after number run) other).1 in
     let begins : codes "run" ≡ word_of is.kind = (let whole = is.form.whole in cc) in
@@ -384,11 +379,11 @@ every words before after number run other uncounted =
 pub run_promise : RunPromise
 run_promise = record { kept = kept; one = one; every = every }
 
-accepted : (words : List (List ℕ)) (asked : PlainAsked) → IsCommand words asked → asked.kind ≡ Run → asked.has choice.Stats ≡ false → IsSomeRun words
-accepted words asked is run off =
+accepted : (words : List (List ℕ)) (plain : PlainAsked) → IsCommand words plain → plain.kind ≡ Run → plain.has choice.Stats ≡ false → (asked : RunAsked) × IsRunOf words asked
+accepted words plain is run off =
     let kind : is.kind ≡ Run = ap (λ (a : PlainAsked). a.kind) is.says ∙ run in
     run_of_form is.front is.given words (subst (λ (k : CommandKind). IsCommandOf k is.front is.given words) kind is.form)
-    (λ has. false≢true (sym off ∙ said_laws.says_its_words.given words asked is choice.Stats has))
+    (λ has. false≢true (sym off ∙ said_laws.says_its_words.given words plain is choice.Stats has))
 
 pub refused_words : RefusedWords
 refused_words = record {

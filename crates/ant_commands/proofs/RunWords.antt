@@ -22,12 +22,12 @@ use Rattle.command_words.proofs.TableLemmas.{bytes_eq-same, same_option}
 use Rattle.list_lemmas.proofs.AllElements.{AllByRecursion-at}
 use Rattle.list_lemmas.proofs.Elements.{Contains-cases, Contains-first, Contains-later, Contains-none}
 use Rattle.ant_commands.specs.Outputs.{chosen_rounds}
-use Rattle.ant_commands.specs.RunPromise.{AreOptions, GameSetup, IsDumps, IsNumber, IsOption, IsRunOf, IsSomeRun}
+use Rattle.ant_commands.specs.RunPromise.{AreOptions, IsDumps, IsNumber, IsOption, IsRunOf, RunAsked}
 use Rattle.ant_commands.specs.RunPromise.IsDumps.{NoRound, EveryRound, TheseRounds}
 use Rattle.ant_commands.specs.RunPromise.IsOption.{Seed, Rounds, Dump, Workers, Window, Surround, Corpse, Rest, Far}
 
 -- an option of a `run`, as the table has it
-abbrev pub in_table : {setup new : GameSetup} {name : List ℕ} {words : List (List ℕ)} → IsOption setup name words new → Choice
+abbrev pub in_table : {asked new : RunAsked} {name : List ℕ} {words : List (List ℕ)} → IsOption asked name words new → Choice
 in_table (Seed n word is) = choice.Seed
 in_table (Rounds n word is) = choice.Rounds
 in_table (Dump dumps word is) = choice.Dump
@@ -39,7 +39,7 @@ in_table (Rest n word is) = choice.Rest
 in_table Far = choice.Far
 
 -- it has the same name
-name_in_table : {setup new : GameSetup} {name : List ℕ} {words : List (List ℕ)} (is : IsOption setup name words new) → name ≡ option_of (in_table is)
+name_in_table : {asked new : RunAsked} {name : List ℕ} {words : List (List ℕ)} (is : IsOption asked name words new) → name ≡ option_of (in_table is)
 name_in_table (Seed n word is) = refl
 name_in_table (Rounds n word is) = refl
 name_in_table (Dump dumps word is) = refl
@@ -51,7 +51,7 @@ name_in_table (Rest n word is) = refl
 name_in_table Far = refl
 
 -- and is an option of `run`
-known_in_table : {setup new : GameSetup} {name : List ℕ} {words : List (List ℕ)} (is : IsOption setup name words new) → Contains (choices_of Run) (in_table is)
+known_in_table : {asked new : RunAsked} {name : List ℕ} {words : List (List ℕ)} (is : IsOption asked name words new) → Contains (choices_of Run) (in_table is)
 known_in_table (Seed n word is) = (0, lit< tt, refl)
 known_in_table (Rounds n word is) = (1, lit< tt, refl)
 known_in_table (Dump dumps word is) = (2, lit< tt, refl)
@@ -159,18 +159,21 @@ dumps_read word dumps e =
     go false e false f (Some rounds) is dumps same =
         (let one : ChosenDumps rounds ≡ dumps = cc in subst (λ d. IsDumps (chosen_rounds d) word) one (TheseRounds rounds word (numbers_read (pieces_of word) rounds is)))
 
--- what a command line of `run` says of its game
-abbrev pub game_said : PlainAsked → GameSetup
-game_said asked = record {
-  seed = asked.option choice.Seed;
-  rounds = asked.option choice.Rounds;
-  dumps = chosen_rounds asked.dumps;
-  sheet = record { surround = asked.option choice.Surround; corpse = asked.option choice.Corpse; rest = asked.option choice.Rest };
+-- what a command line of `run` asks for
+abbrev pub run_said : PlainAsked → RunAsked
+run_said plain = record {
+  world = plain.file 0;
+  red = plain.file 1;
+  black = plain.file 2;
+  seed = plain.option choice.Seed;
+  rounds = plain.option choice.Rounds;
+  dumps = chosen_rounds plain.dumps;
+  sheet = record { surround = plain.option choice.Surround; corpse = plain.option choice.Corpse; rest = plain.option choice.Rest };
 }
 
--- what options that are given say of it
-abbrev heard : List Given → GameSetup
-heard given = record {
+-- what options that are given say of these files
+abbrev heard : RunAsked → List Given → RunAsked
+heard asked given = record asked {
   seed = said SeedNumber 0 (value_given choice.Seed given);
   rounds = said RoundCount 0 (value_given choice.Rounds given);
   dumps = chosen_rounds (dumps_said (value_given choice.Dump given));
@@ -198,25 +201,25 @@ chosen_by values are is =
     ap (λ ws. chosen_rounds (dumps_said (first_word ws))) are ∙ ap (λ o. chosen_rounds (unwrap_or o NoDump)) it.is ∙ it.rounds
 
 -- what one more option says
-says : {setup new : GameSetup} {name : List ℕ} {words : List (List ℕ)} (is : IsOption setup name words new) (values : List (List (List ℕ))) (given : List Given) → joined values ≡ words
-    → heard given ≡ setup → heard (given_as (in_table is) values ∷ given) ≡ new
-says (Seed n word is) values given are e =
-    ap (λ n. record (heard given) { seed = n }) (said_by SeedNumber 0 n word values are (number_said 0 4294967295 n word is)) ∙ ap (λ (s : GameSetup). record s { seed = n }) e
-says (Rounds n word is) values given are e =
-    ap (λ n. record (heard given) { rounds = n }) (said_by RoundCount 0 n word values are (number_said 0 1000000 n word is)) ∙ ap (λ (s : GameSetup). record s { rounds = n }) e
-says (Dump dumps word is) values given are e =
-    ap (λ d. record (heard given) { dumps = d }) (chosen_by values are is) ∙ ap (λ (s : GameSetup). record s { dumps = dumps }) e
-says (Workers n word is) values given are e = e
-says (Window n word is) values given are e = e
-says (Surround n word is) values given are e =
-    ap (λ n. record (heard given) { sheet = record (heard given).sheet { surround = n } }) (said_by FoeCount 5 n word values are (number_said 4 6 n word is))
-    ∙ ap (λ (s : GameSetup). record s { sheet = record s.sheet { surround = n } }) e
-says (Corpse n word is) values given are e =
-    ap (λ n. record (heard given) { sheet = record (heard given).sheet { corpse = n } }) (said_by CorpseFood 3 n word values are (number_said 0 9 n word is))
-    ∙ ap (λ (s : GameSetup). record s { sheet = record s.sheet { corpse = n } }) e
-says (Rest n word is) values given are e =
-    ap (λ n. record (heard given) { sheet = record (heard given).sheet { rest = n } }) (said_by RestRounds 14 n word values are (number_said 0 255 n word is))
-    ∙ ap (λ (s : GameSetup). record s { sheet = record s.sheet { rest = n } }) e
+says : {asked new : RunAsked} {name : List ℕ} {words : List (List ℕ)} (is : IsOption asked name words new) (values : List (List (List ℕ))) (given : List Given) → joined values ≡ words
+    → heard asked given ≡ asked → heard new (given_as (in_table is) values ∷ given) ≡ new
+says {asked} (Seed n word is) values given are e =
+    ap (λ n. record (heard asked given) { seed = n }) (said_by SeedNumber 0 n word values are (number_said 0 4294967295 n word is)) ∙ ap (λ (a : RunAsked). record a { seed = n }) e
+says {asked} (Rounds n word is) values given are e =
+    ap (λ n. record (heard asked given) { rounds = n }) (said_by RoundCount 0 n word values are (number_said 0 1000000 n word is)) ∙ ap (λ (a : RunAsked). record a { rounds = n }) e
+says {asked} (Dump dumps word is) values given are e =
+    ap (λ d. record (heard asked given) { dumps = d }) (chosen_by values are is) ∙ ap (λ (a : RunAsked). record a { dumps = dumps }) e
+says {asked} (Workers n word is) values given are e = e
+says {asked} (Window n word is) values given are e = e
+says {asked} (Surround n word is) values given are e =
+    ap (λ n. record (heard asked given) { sheet = record (heard asked given).sheet { surround = n } }) (said_by FoeCount 5 n word values are (number_said 4 6 n word is))
+    ∙ ap (λ (a : RunAsked). record a { sheet = record a.sheet { surround = n } }) e
+says {asked} (Corpse n word is) values given are e =
+    ap (λ n. record (heard asked given) { sheet = record (heard asked given).sheet { corpse = n } }) (said_by CorpseFood 3 n word values are (number_said 0 9 n word is))
+    ∙ ap (λ (a : RunAsked). record a { sheet = record a.sheet { corpse = n } }) e
+says {asked} (Rest n word is) values given are e =
+    ap (λ n. record (heard asked given) { sheet = record (heard asked given).sheet { rest = n } }) (said_by RestRounds 14 n word values are (number_said 0 255 n word is))
+    ∙ ap (λ (a : RunAsked). record a { sheet = record a.sheet { rest = n } }) e
 says Far values given are e = e
 
 -- From the words of a run to the table.
@@ -238,7 +241,7 @@ unfolding is_dumps
 dumps_fit is = ap is_some (dumps_spelled is).is
 
 -- the words behind an option's name fit its places
-words_fit : {setup new : GameSetup} {name : List ℕ} {words : List (List ℕ)} (is : IsOption setup name words new) → FitAll (values_of (in_table is)) (parts_of words)
+words_fit : {asked new : RunAsked} {name : List ℕ} {words : List (List ℕ)} (is : IsOption asked name words new) → FitAll (values_of (in_table is)) (parts_of words)
 words_fit (Seed n word is) = (number_fits SeedNumber n word is, tt)
 words_fit (Rounds n word is) = (number_fits RoundCount n word is, tt)
 words_fit (Dump dumps word is) = (dumps_fit is, tt)
@@ -260,36 +263,36 @@ abbrev pub spelled_by : List Named → List (List ℕ)
 spelled_by options = flat_map (λ (option : Named). option.0 ∷ option.1) options
 
 -- as the table has them
-abbrev given_of : (options : List Named) (setup : GameSetup) → AreOptions options setup → List Given
-given_of [] setup are = []
-given_of (option ∷ options) setup are = given_as (in_table are.1) (parts_of option.1) ∷ given_of options are.0 are.2
+abbrev given_of : (options : List Named) (asked : RunAsked) → AreOptions options asked → List Given
+given_of [] asked are = []
+given_of (option ∷ options) asked are = given_as (in_table are.1) (parts_of option.1) ∷ given_of options are.0 are.2
 
-given_whole : (options : List Named) (setup : GameSetup) (are : AreOptions options setup) → spelled_by options ≡ flat_map given_words (given_of options setup are)
-given_whole [] setup are = refl
-given_whole (option ∷ options) setup are =
+given_whole : (options : List Named) (asked : RunAsked) (are : AreOptions options asked) → spelled_by options ≡ flat_map given_words (given_of options asked are)
+given_whole [] asked are = refl
+given_whole (option ∷ options) asked are =
     ap (λ (name : List ℕ). name ∷ (option.1 ++ spelled_by options)) (name_in_table are.1)
     ∙ ap (λ (words : List (List ℕ)). option_of (in_table are.1) ∷ (words ++ spelled_by options)) (sym (joined-parts option.1))
     ∙ ap (λ (more : List (List ℕ)). option_of (in_table are.1) ∷ (joined (parts_of option.1) ++ more)) (given_whole options are.0 are.2)
 
-given_options : (options : List Named) (setup : GameSetup) (are : AreOptions options setup) → AllByRecursion (IsOptionOf Run) (given_of options setup are)
-given_options [] setup are = tt
-given_options (option ∷ options) setup are = (record { known = known_in_table are.1; fit = words_fit are.1 }, given_options options are.0 are.2)
+given_options : (options : List Named) (asked : RunAsked) (are : AreOptions options asked) → AllByRecursion (IsOptionOf Run) (given_of options asked are)
+given_options [] asked are = tt
+given_options (option ∷ options) asked are = (record { known = known_in_table are.1; fit = words_fit are.1 }, given_options options are.0 are.2)
 
-given_heard : (options : List Named) (setup : GameSetup) (are : AreOptions options setup) → heard (given_of options setup are) ≡ setup
-given_heard [] setup are = sym are
-given_heard (option ∷ options) setup are =
+given_heard : (options : List Named) (asked : RunAsked) (are : AreOptions options asked) → heard asked (given_of options asked are) ≡ asked
+given_heard [] asked are = sym are
+given_heard (option ∷ options) asked are =
     says are.1 (parts_of option.1) (given_of options are.0 are.2) (joined-parts option.1) (given_heard options are.0 are.2)
 
 -- another name than each of theirs is none of theirs
-given_others : (options : List Named) (setup : GameSetup) (are : AreOptions options setup) (of : Choice)
-    → AllByRecursion (λ other. other ≢ option_of of) (names_of options) → AllByRecursion (λ other. other.choice ≢ of) (given_of options setup are)
-given_others [] setup are of differ = tt
-given_others (option ∷ options) setup are of differ =
+given_others : (options : List Named) (asked : RunAsked) (are : AreOptions options asked) (of : Choice)
+    → AllByRecursion (λ other. other ≢ option_of of) (names_of options) → AllByRecursion (λ other. other.choice ≢ of) (given_of options asked are)
+given_others [] asked are of differ = tt
+given_others (option ∷ options) asked are of differ =
     (λ same. differ.0 (name_in_table are.1 ∙ ap option_of same), given_others options are.0 are.2 of differ.1)
 
-given_once : (options : List Named) (setup : GameSetup) (are : AreOptions options setup) → AllDiffer (names_of options) → NoneTwice (given_of options setup are)
-given_once [] setup are once = tt
-given_once (option ∷ options) setup are once = (
+given_once : (options : List Named) (asked : RunAsked) (are : AreOptions options asked) → AllDiffer (names_of options) → NoneTwice (given_of options asked are)
+given_once [] asked are once = tt
+given_once (option ∷ options) asked are once = (
   given_others options are.0 are.2 (in_table are.1) (subst (λ (name : List ℕ). AllByRecursion (λ other. other ≢ name) (names_of options)) (name_in_table are.1) once.0),
   given_once options are.0 are.2 once.1,
 )
@@ -299,17 +302,17 @@ one_of_name : (of other : Choice) → option_of of ≡ option_of other → of �
 one_of_name of other same = same_option of other (subst (λ (name : List ℕ). bytes_eq name (option_of other) ≡ true) (sym same) (bytes_eq-same (option_of other)))
 
 -- what is named is given
-given_named : (options : List Named) (setup : GameSetup) (are : AreOptions options setup) (of : Choice) → Contains (names_of options) (option_of of)
-    → IsGiven of (given_of options setup are)
-given_named [] setup are of has = absurd (Contains-none (option_of of) has)
-given_named (option ∷ options) setup are of has = elim (Contains-cases option.0 (option_of of) (names_of options) has) [
+given_named : (options : List Named) (asked : RunAsked) (are : AreOptions options asked) (of : Choice) → Contains (names_of options) (option_of of)
+    → IsGiven of (given_of options asked are)
+given_named [] asked are of has = absurd (Contains-none (option_of of) has)
+given_named (option ∷ options) asked are of has = elim (Contains-cases option.0 (option_of of) (names_of options) has) [
   | inl here ↦ subst (λ (o : Choice). Contains (in_table are.1 ∷ map (λ g. g.choice) (given_of options are.0 are.2)) o) (one_of_name (in_table are.1) of (sym (name_in_table are.1) ∙ here))
       (Contains-first (in_table are.1) (map (λ g. g.choice) (given_of options are.0 are.2)))
   | inr later ↦ Contains-later (in_table are.1) of (map (λ g. g.choice) (given_of options are.0 are.2)) (given_named options are.0 are.2 of later)
 ]
 
 -- none of them is `--stats`
-not_counts : {setup new : GameSetup} {name : List ℕ} {words : List (List ℕ)} (is : IsOption setup name words new) → bytes_eq (option_of (in_table is)) (option_of choice.Stats) ≡ false
+not_counts : {asked new : RunAsked} {name : List ℕ} {words : List (List ℕ)} (is : IsOption asked name words new) → bytes_eq (option_of (in_table is)) (option_of choice.Stats) ≡ false
 not_counts (Seed n word is) = refl
 not_counts (Rounds n word is) = refl
 not_counts (Dump dumps word is) = refl
@@ -320,9 +323,9 @@ not_counts (Corpse n word is) = refl
 not_counts (Rest n word is) = refl
 not_counts Far = refl
 
-given_uncounted : (options : List Named) (setup : GameSetup) (are : AreOptions options setup) → has_given choice.Stats (given_of options setup are) ≡ false
-given_uncounted [] setup are = refl
-given_uncounted (option ∷ options) setup are =
+given_uncounted : (options : List Named) (asked : RunAsked) (are : AreOptions options asked) → has_given choice.Stats (given_of options asked are) ≡ false
+given_uncounted [] asked are = refl
+given_uncounted (option ∷ options) asked are =
     ap (λ b. cond b true (has_given choice.Stats (given_of options are.0 are.2))) (not_counts are.1) ∙ given_uncounted options are.0 are.2
 
 never : {P : Type 0} → false ≡ true → P
@@ -334,43 +337,37 @@ needs_two given seed rounds of known =
     AllByRecursion-at (λ of. is_needed of ≡ true → IsGiven of given) (choices_of Run) of
     (λ e. seed, (λ e. rounds, (never, (never, (never, (never, (never, (never, (never, (never, tt)))))))))) known
 
--- the words are a command that says these names and this setup
-pub record IsTableRun (words : List (List ℕ)) (world red black : List ℕ) (setup : GameSetup) : Type 0 where
+-- the words are a command that asks for this, and not for counts
+pub record IsTableRun (words : List (List ℕ)) (asked : RunAsked) : Type 0 where
   pub is : IsCommand words (asked_in Run words)
-  pub world_is : (asked_in Run words).file 0 ≡ world
-  pub red_is : (asked_in Run words).file 1 ≡ red
-  pub black_is : (asked_in Run words).file 2 ≡ black
   pub uncounted : (asked_in Run words).has choice.Stats ≡ false
-  pub said : game_said (asked_in Run words) ≡ setup
+  pub said : run_said (asked_in Run words) ≡ asked
 
 -- the names at the places of a run
-abbrev front_of : List ℕ → List ℕ → List ℕ → List (List (List ℕ))
-front_of world red black = (world ∷ []) ∷ (red ∷ []) ∷ (black ∷ []) ∷ []
+abbrev front_of : RunAsked → List (List (List ℕ))
+front_of asked = (asked.world ∷ []) ∷ (asked.red ∷ []) ∷ (asked.black ∷ []) ∷ []
 
-pub table_run : (words : List (List ℕ)) (world red black : List ℕ) (setup : GameSetup) → IsRunOf words world red black setup → IsTableRun words world red black setup
-table_run words world red black setup is =
-    let given : List Given = given_of is.options setup is.said in
-    let front : List (List (List ℕ)) = front_of world red black in
+pub table_run : (words : List (List ℕ)) (asked : RunAsked) → IsRunOf words asked → IsTableRun words asked
+table_run words asked is =
+    let given : List Given = given_of is.options asked is.said in
+    let front : List (List (List ℕ)) = front_of asked in
     let fit : FitAll (places_of Run) front = (is.names.0, (is.names.1.0, (is.names.1.1.0, tt))) in
-    let options : AllByRecursion (IsOptionOf Run) given = given_options is.options setup is.said in
+    let options : AllByRecursion (IsOptionOf Run) given = given_options is.options asked is.said in
     let whole : words ≡ words_of Run front given =
-    is.whole ∙ ap (λ (behind : List (List ℕ)). codes "run" ∷ world ∷ red ∷ black ∷ behind) (given_whole is.options setup is.said) in
+    is.whole ∙ ap (λ (behind : List (List ℕ)). codes "run" ∷ asked.world ∷ asked.red ∷ asked.black ∷ behind) (given_whole is.options asked is.said) in
     let form : IsCommandOf Run front given words = record {
       known = (0, lit< tt, refl);
       whole = whole;
       places = fit;
       options = options;
-      once = given_once is.options setup is.said is.once;
-      needed = λ of known need. needs_two given (given_named is.options setup is.said choice.Seed is.needed.0) (given_named is.options setup is.said choice.Rounds is.needed.1.0) of known need;
+      once = given_once is.options asked is.said is.once;
+      needed = λ of known need. needs_two given (given_named is.options asked is.said choice.Seed is.needed.0) (given_named is.options asked is.said choice.Rounds is.needed.1.0) of known need;
     } in
     let asks : asked_in Run words ≡ asked_of Run (answers_of Run front given) = ap (asked_in Run) whole ∙ ap (asked_of Run) (answers_in-of Run front given fit options) in
     record {
       is = record { kind = Run; front = front; given = given; form = form; says = refl };
-      world_is = ap (λ (asked : PlainAsked). asked.file 0) asks;
-      red_is = ap (λ (asked : PlainAsked). asked.file 1) asks;
-      black_is = ap (λ (asked : PlainAsked). asked.file 2) asks;
-      uncounted = ap (λ (asked : PlainAsked). asked.has choice.Stats) asks ∙ given_uncounted is.options setup is.said;
-      said = ap game_said asks ∙ given_heard is.options setup is.said;
+      uncounted = ap (λ (plain : PlainAsked). plain.has choice.Stats) asks ∙ given_uncounted is.options asked is.said;
+      said = ap run_said asks ∙ given_heard is.options asked is.said;
     }
 
 -- From the table to the words of a run.
@@ -415,56 +412,56 @@ nothing_there [] fit = refl
 nothing_there (part ∷ values) fit = absurd fit
 
 -- an option of the table is one of a run: before what is said already, it says what is heard of all together
-abbrev IsOfRun : Choice → List (List (List ℕ)) → List Given → Type 0
-IsOfRun of values given = IsOption (heard given) (option_of of) (joined values) (heard (given_as of values ∷ given))
+abbrev IsOfRun : RunAsked → Choice → List (List (List ℕ)) → List Given → Type 0
+IsOfRun asked of values given = IsOption (heard asked given) (option_of of) (joined values) (heard asked (given_as of values ∷ given))
 
-moved : (of : Choice) (values : List (List (List ℕ))) (given : List Given) (words : List (List ℕ)) (setup : GameSetup) → joined values ≡ words → heard (given_as of values ∷ given) ≡ setup
-    → IsOption (heard given) (option_of of) words setup → IsOfRun of values given
-moved of values given words setup spelled heard_is is =
-    subst (λ (ws : List (List ℕ)). IsOption (heard given) (option_of of) ws (heard (given_as of values ∷ given))) (sym spelled)
-    (subst (λ (s : GameSetup). IsOption (heard given) (option_of of) words s) (sym heard_is) is)
+moved : (asked : RunAsked) (of : Choice) (values : List (List (List ℕ))) (given : List Given) (words : List (List ℕ)) (new : RunAsked) → joined values ≡ words → heard asked (given_as of values ∷ given) ≡ new
+    → IsOption (heard asked given) (option_of of) words new → IsOfRun asked of values given
+moved asked of values given words new spelled heard_is is =
+    subst (λ (ws : List (List ℕ)). IsOption (heard asked given) (option_of of) ws (heard asked (given_as of values ∷ given))) (sym spelled)
+    (subst (λ (a : RunAsked). IsOption (heard asked given) (option_of of) words a) (sym heard_is) is)
 
 -- one whose value is a number
-number_of_run : (kind : NumberKind) (default : ℕ) (of : Choice) (values : List (List (List ℕ))) (given : List Given) (setup : ℕ → GameSetup)
-    → ((n : ℕ) (word : List ℕ) → IsNumber (least_of kind) (most_of kind) n word → IsOption (heard given) (option_of of) (word ∷ []) (setup n))
-    → heard (given_as of values ∷ given) ≡ setup (said kind default (first_word (joined values))) → FitAll (Word (Number kind) ∷ []) values → IsOfRun of values given
-number_of_run kind default of values given setup row heard_is fit =
+number_of_run : (asked : RunAsked) (kind : NumberKind) (default : ℕ) (of : Choice) (values : List (List (List ℕ))) (given : List Given) (new : ℕ → RunAsked)
+    → ((n : ℕ) (word : List ℕ) → IsNumber (least_of kind) (most_of kind) n word → IsOption (heard asked given) (option_of of) (word ∷ []) (new n))
+    → heard asked (given_as of values ∷ given) ≡ new (said kind default (first_word (joined values))) → FitAll (Word (Number kind) ∷ []) values → IsOfRun asked of values given
+number_of_run asked kind default of values given new row heard_is fit =
     let there = number_there kind values fit in
     let spelled : joined values ≡ there.word ∷ [] = ap joined there.one in
-    moved of values given (there.word ∷ []) (setup there.number) spelled
-    (heard_is ∙ ap setup (said_by kind default there.number there.word values spelled (number_said (least_of kind) (most_of kind) there.number there.word there.is)))
+    moved asked of values given (there.word ∷ []) (new there.number) spelled
+    (heard_is ∙ ap new (said_by kind default there.number there.word values spelled (number_said (least_of kind) (most_of kind) there.number there.word there.is)))
     (row there.number there.word there.is)
 
-dumps_of_run : (values : List (List (List ℕ))) (given : List Given) → FitAll (Word Dumps ∷ []) values → IsOfRun choice.Dump values given
-dumps_of_run values given fit =
+dumps_of_run : (asked : RunAsked) (values : List (List (List ℕ))) (given : List Given) → FitAll (Word Dumps ∷ []) values → IsOfRun asked choice.Dump values given
+dumps_of_run asked values given fit =
     let there = dumps_there values fit in
     let spelled : joined values ≡ there.word ∷ [] = ap joined there.one in
-    moved choice.Dump values given (there.word ∷ []) (record (heard given) { dumps = there.dumps }) spelled
-    (ap (λ d. record (heard given) { dumps = d }) (chosen_by values spelled there.is))
+    moved asked choice.Dump values given (there.word ∷ []) (record (heard asked given) { dumps = there.dumps }) spelled
+    (ap (λ d. record (heard asked given) { dumps = d }) (chosen_by values spelled there.is))
     (Dump there.dumps there.word there.is)
 
-far_of_run : (values : List (List (List ℕ))) (given : List Given) → FitAll [] values → IsOfRun choice.Far values given
-far_of_run values given fit = moved choice.Far values given [] (heard given) (ap joined (nothing_there values fit)) refl Far
+far_of_run : (asked : RunAsked) (values : List (List (List ℕ))) (given : List Given) → FitAll [] values → IsOfRun asked choice.Far values given
+far_of_run asked values given fit = moved asked choice.Far values given [] (heard asked given) (ap joined (nothing_there values fit)) refl Far
 
-of_run : (of : Choice) (values : List (List (List ℕ))) (given : List Given) → Contains (choices_of Run) of → FitAll (values_of of) values → of ≢ choice.Stats → IsOfRun of values given
-of_run of values given known =
-    AllByRecursion-at (λ of. FitAll (values_of of) values → of ≢ choice.Stats → IsOfRun of values given) (choices_of Run) of (
-      λ fit other. number_of_run SeedNumber 0 choice.Seed values given (λ n. record (heard given) { seed = n }) Seed refl fit,
+of_run : (asked : RunAsked) (of : Choice) (values : List (List (List ℕ))) (given : List Given) → Contains (choices_of Run) of → FitAll (values_of of) values → of ≢ choice.Stats → IsOfRun asked of values given
+of_run asked of values given known =
+    AllByRecursion-at (λ of. FitAll (values_of of) values → of ≢ choice.Stats → IsOfRun asked of values given) (choices_of Run) of (
+      λ fit other. number_of_run asked SeedNumber 0 choice.Seed values given (λ n. record (heard asked given) { seed = n }) Seed refl fit,
       (
-        λ fit other. number_of_run RoundCount 0 choice.Rounds values given (λ n. record (heard given) { rounds = n }) Rounds refl fit,
+        λ fit other. number_of_run asked RoundCount 0 choice.Rounds values given (λ n. record (heard asked given) { rounds = n }) Rounds refl fit,
         (
-          λ fit other. dumps_of_run values given fit,
+          λ fit other. dumps_of_run asked values given fit,
           (
-            λ fit other. number_of_run WorkerCount 0 choice.Workers values given (λ n. heard given) Workers refl fit,
+            λ fit other. number_of_run asked WorkerCount 0 choice.Workers values given (λ n. heard asked given) Workers refl fit,
             (
-              λ fit other. number_of_run WindowSize 0 choice.Window values given (λ n. heard given) Window refl fit,
+              λ fit other. number_of_run asked WindowSize 0 choice.Window values given (λ n. heard asked given) Window refl fit,
               (
-                λ fit other. number_of_run FoeCount 5 choice.Surround values given (λ n. record (heard given) { sheet = record (heard given).sheet { surround = n } }) Surround refl fit,
+                λ fit other. number_of_run asked FoeCount 5 choice.Surround values given (λ n. record (heard asked given) { sheet = record (heard asked given).sheet { surround = n } }) Surround refl fit,
                 (
-                  λ fit other. number_of_run CorpseFood 3 choice.Corpse values given (λ n. record (heard given) { sheet = record (heard given).sheet { corpse = n } }) Corpse refl fit,
+                  λ fit other. number_of_run asked CorpseFood 3 choice.Corpse values given (λ n. record (heard asked given) { sheet = record (heard asked given).sheet { corpse = n } }) Corpse refl fit,
                   (
-                    λ fit other. number_of_run RestRounds 14 choice.Rest values given (λ n. record (heard given) { sheet = record (heard given).sheet { rest = n } }) Rest refl fit,
-                    (λ fit other. absurd (other refl), (λ fit other. far_of_run values given fit, tt)),
+                    λ fit other. number_of_run asked RestRounds 14 choice.Rest values given (λ n. record (heard asked given) { sheet = record (heard asked given).sheet { rest = n } }) Rest refl fit,
+                    (λ fit other. absurd (other refl), (λ fit other. far_of_run asked values given fit, tt)),
                   ),
                 ),
               ),
@@ -478,9 +475,9 @@ of_run of values given known =
 abbrev named_in : List Given → List Named
 named_in given = map (λ (g : Given). (option_of g.choice, joined g.values)) given
 
-are_of_run : (given : List Given) → AllByRecursion (IsOptionOf Run) given → AllByRecursion (λ g. g.choice ≢ choice.Stats) given → AreOptions (named_in given) (heard given)
-are_of_run [] are no_counts = refl
-are_of_run (g ∷ given) are no_counts = (heard given, of_run g.choice g.values given are.0.known are.0.fit no_counts.0, are_of_run given are.1 no_counts.1)
+are_of_run : (asked : RunAsked) (given : List Given) → AllByRecursion (IsOptionOf Run) given → AllByRecursion (λ g. g.choice ≢ choice.Stats) given → AreOptions (named_in given) (heard asked given)
+are_of_run asked [] are no_counts = refl
+are_of_run asked (g ∷ given) are no_counts = (heard asked given, of_run asked g.choice g.values given are.0.known are.0.fit no_counts.0, are_of_run asked given are.1 no_counts.1)
 
 spelled_in : (given : List Given) → flat_map given_words given ≡ spelled_by (named_in given)
 spelled_in [] = refl
@@ -501,13 +498,11 @@ has_in (g ∷ given) of has = elim (Contains-cases g.choice of (map (λ h. h.cho
   | inr later ↦ Contains-later (option_of g.choice) (option_of of) (names_of (named_in given)) (has_in given of later)
 ]
 
--- the three names of a run
+-- the three names of a run, with nothing said yet
 record HasNames (front : List (List (List ℕ))) : Type 0 where
-  world : List ℕ
-  red : List ℕ
-  black : List ℕ
-  are : front ≡ front_of world red black
-  names : AllByRecursion (λ name. is_file_name name ≡ true) (world ∷ red ∷ black ∷ [])
+  named : RunAsked
+  are : front ≡ front_of named
+  names : AllByRecursion (λ name. is_file_name name ≡ true) (named.world ∷ named.red ∷ named.black ∷ [])
 
 names_there : (front : List (List (List ℕ))) → FitAll (places_of Run) front → HasNames front
 names_there [] fit = absurd fit
@@ -520,22 +515,28 @@ names_there ((w ∷ []) ∷ (r ∷ []) ∷ []) fit = absurd fit.1.1
 names_there ((w ∷ []) ∷ (r ∷ []) ∷ [] ∷ front) fit = absurd fit.1.1.0
 names_there ((w ∷ []) ∷ (r ∷ []) ∷ (b ∷ x ∷ bs) ∷ front) fit = absurd fit.1.1.0
 names_there ((w ∷ []) ∷ (r ∷ []) ∷ (b ∷ []) ∷ part ∷ front) fit = absurd fit.1.1.1
-names_there ((w ∷ []) ∷ (r ∷ []) ∷ (b ∷ []) ∷ []) fit = record { world = w; red = r; black = b; are = refl; names = (fit.0, (fit.1.0, (fit.1.1.0, tt))) }
+names_there ((w ∷ []) ∷ (r ∷ []) ∷ (b ∷ []) ∷ []) fit = record {
+  named = record { world = w; red = r; black = b; seed = 0; rounds = 0; dumps = λ round. false; sheet = record { surround = 5; corpse = 3; rest = 14 } };
+  are = refl;
+  names = (fit.0, (fit.1.0, (fit.1.1.0, tt)));
+}
 
 -- a command of the table that is a run, without its counts
-pub run_of_form : (front : List (List (List ℕ))) (given : List Given) (words : List (List ℕ)) → IsCommandOf Run front given words → ¬ IsGiven choice.Stats given → IsSomeRun words
+pub run_of_form : (front : List (List (List ℕ))) (given : List Given) (words : List (List ℕ)) → IsCommandOf Run front given words → ¬ IsGiven choice.Stats given
+    → (asked : RunAsked) × IsRunOf words asked
 run_of_form front given words form none =
     let names : HasNames front = names_there front form.places in
-    let is : IsRunOf words names.world names.red names.black (heard given) = record {
+    let asked : RunAsked = heard names.named given in
+    let is : IsRunOf words asked = record {
       options = named_in given;
       whole = form.whole ∙ ap (λ (f : List (List (List ℕ))). word_of Run ∷ (joined f ++ flat_map given_words given)) names.are
-          ∙ ap (λ (behind : List (List ℕ)). word_of Run ∷ (joined (front_of names.world names.red names.black) ++ behind)) (spelled_in given);
+          ∙ ap (λ (behind : List (List ℕ)). word_of Run ∷ (joined (front_of names.named) ++ behind)) (spelled_in given);
       names = names.names;
-      said = are_of_run given form.options (none_is given none);
+      said = are_of_run names.named given form.options (none_is given none);
       once = once_in given form.once;
       needed = (has_in given choice.Seed (form.needed choice.Seed (0, lit< tt, refl) refl), (has_in given choice.Rounds (form.needed choice.Rounds (1, lit< tt, refl) refl), tt));
     } in
-    (names.world, names.red, names.black, heard given, is)
+    (asked, is)
   where
     none_is : (given : List Given) → ¬ IsGiven choice.Stats given → AllByRecursion (λ g. g.choice ≢ choice.Stats) given
     none_is [] none = tt

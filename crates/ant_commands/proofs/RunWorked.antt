@@ -1,10 +1,12 @@
 -- Words of a `run` with what they say, words that are none, and what no status says.
-use Rattle.std.proofs.Common.{◌≡◌, ◌≢◌, inl, inr, ℕ, nat_eq, Bool, true, false, List, [], ◌∷◌, Err, codes, bytes_eq, refl, sym, ap, ◌∙◌, lit<, arith}
+use Rattle.std.proofs.Common.{◌≡◌, ◌≢◌, ◌⊎◌, inl, inr, ℕ, nat_eq, Bool, true, false, List, [], ◌∷◌, Result, Ok, Err, codes, bytes_eq, refl, sym, ap, ◌∙◌, lit<, arith}
 use Rattle.std.specs.List.{list_any}
 use Rattle.std.proofs.lemmas.Bool.{false≢true}
 use Rattle.ant_base.specs.Faults.{Rose}
+use Rattle.ant_base.specs.Fetched.{Fetched}
 use Rattle.ant_base.specs.Number.{decimal_value}
 use Rattle.ant_base.specs.Sink.{NothingWaits}
+use Rattle.ant_base.specs.declared.shelf.FetchFault.{FetchFault}
 use Rattle.ant_base.specs.declared.shelf.FetchFault.TheVariants.{Failed, TooLong}
 use Rattle.command_words.proofs.ReadLemmas.{read-none}
 use Rattle.command_words.proofs.TableLemmas.{bytes_eq-same}
@@ -14,33 +16,34 @@ use Rattle.command_words.specs.Inner.Walk.{choice_of, command_kind_of, read_of}
 use Rattle.command_words.specs.Slots.{dumps_of, is_dumps, is_file_name}
 use Rattle.command_words.specs.declared.table.CommandKind.TheVariants.{Run}
 use Rattle.ant_commands.specs.Outside.{Outside}
-use Rattle.ant_commands.specs.RunPromise.{AreOptions, GameSetup, IsNotAccepted, IsOption, IsPrinted, IsRunOf, IsUnfit, IsUnread, IsWorld, RunEnds}
+use Rattle.ant_commands.specs.RunPromise.{AreOptions, DidFetch, IsBrain, IsNotAccepted, IsOption, IsPrinted, IsRunOf, IsUnbegun, IsUnfit, IsUnread, IsWorld, RunAsked, RunEnds, StopsAt, fetch}
 use Rattle.ant_commands.specs.RunPromise.IsDumps.{NoRound, EveryRound, TheseRounds}
 use Rattle.ant_commands.specs.RunPromise.IsOption.{Seed, Rounds, Dump, Workers, Window, Surround, Corpse, Rest, Far}
+use Rattle.ant_commands.specs.RunPromise.StopsAt.{AtWorld, AtRed, AtBlack}
 use Rattle.ant_commands.proofs.RunWords.{table_run}
 
--- what is said where nothing is, and then a seed, a number of rounds and a choice of them
-abbrev bare : GameSetup
-bare = record { seed = 0; rounds = 0; dumps = λ round. false; sheet = record { surround = 5; corpse = 3; rest = 14 } }
+-- what is asked for where no option says otherwise, and then with a seed, a number of rounds and a choice of them
+abbrev bare : RunAsked
+bare = record { world = codes "w"; red = codes "r"; black = codes "b"; seed = 0; rounds = 0; dumps = λ round. false; sheet = record { surround = 5; corpse = 3; rest = 14 } }
 
-abbrev seeded : GameSetup
+abbrev seeded : RunAsked
 seeded = record bare { seed = 7 }
 
-abbrev limited : GameSetup
+abbrev limited : RunAsked
 limited = record seeded { rounds = 5 }
 
-abbrev dumped : (ℕ → Bool) → GameSetup
+abbrev dumped : (ℕ → Bool) → RunAsked
 dumped dumps = record limited { dumps = dumps }
 
 -- the same with other rules
-abbrev ruled : ℕ → ℕ → ℕ → GameSetup
+abbrev ruled : ℕ → ℕ → ℕ → RunAsked
 ruled surround corpse rest = record (dumped (λ round. true)) { sheet = record { surround = surround; corpse = corpse; rest = rest } }
 
 -- what all options say, in another order than that of the table
 pub all_said : AreOptions
     ((codes "--far", []) ∷ (codes "--rest", codes "1" ∷ []) ∷ (codes "--corpse", codes "2" ∷ []) ∷ (codes "--surround", codes "6" ∷ []) ∷ (codes "--window", codes "3" ∷ [])
     ∷ (codes "--workers", codes "4" ∷ []) ∷ (codes "--dump", codes "all" ∷ []) ∷ (codes "--rounds", codes "5" ∷ []) ∷ (codes "--seed", codes "7" ∷ []) ∷ [])
-    (record { seed = 7; rounds = 5; dumps = λ round. true; sheet = record { surround = 6; corpse = 2; rest = 1 } })
+    (record bare { seed = 7; rounds = 5; dumps = λ round. true; sheet = record { surround = 6; corpse = 2; rest = 1 } })
 unfolding decimal_value
 all_said = (
   ruled 6 2 1,
@@ -74,7 +77,7 @@ all_said = (
 
 -- and what is said without them
 pub least_said : AreOptions ((codes "--rounds", codes "5" ∷ []) ∷ (codes "--seed", codes "7" ∷ []) ∷ [])
-    (record { seed = 7; rounds = 5; dumps = λ round. false; sheet = record { surround = 5; corpse = 3; rest = 14 } })
+    (record bare { seed = 7; rounds = 5; dumps = λ round. false; sheet = record { surround = 5; corpse = 3; rest = 14 } })
 unfolding decimal_value
 least_said = (seeded, Rounds 5 (codes "5") (refl, omega arith, omega arith), (bare, Seed 7 (codes "7") (refl, omega arith, omega arith), refl))
 
@@ -86,8 +89,8 @@ abbrev two_rounds : ℕ → Bool
 two_rounds round = list_any (λ number. nat_eq number round) (0 ∷ 10 ∷ [])
 
 -- a command line whose options stand in another order
-pub reordered : IsRunOf (words_of (codes "run w r b --rest 1 --far --dump 0,10 --rounds 5 --seed 7")) (codes "w") (codes "r") (codes "b")
-    (record { seed = 7; rounds = 5; dumps = two_rounds; sheet = record { surround = 5; corpse = 3; rest = 1 } })
+pub reordered : IsRunOf (words_of (codes "run w r b --rest 1 --far --dump 0,10 --rounds 5 --seed 7"))
+    (record { world = codes "w"; red = codes "r"; black = codes "b"; seed = 7; rounds = 5; dumps = two_rounds; sheet = record { surround = 5; corpse = 3; rest = 1 } })
 unfolding decimal_value is_file_name
 reordered = record {
   options = (codes "--rest", codes "1" ∷ []) ∷ (codes "--far", []) ∷ (codes "--dump", codes "0,10" ∷ []) ∷ (codes "--rounds", codes "5" ∷ []) ∷ (codes "--seed", codes "7" ∷ []) ∷ [];
@@ -120,25 +123,25 @@ reordered = record {
 }
 
 -- the least and the greatest number of each option, and the words of dumps
-pub within_limits : (setup : GameSetup)
-    → IsOption setup (codes "--seed") (codes "0" ∷ []) (record setup { seed = 0 })
-    × IsOption setup (codes "--seed") (codes "4294967295" ∷ []) (record setup { seed = 4294967295 })
-    × IsOption setup (codes "--rounds") (codes "0" ∷ []) (record setup { rounds = 0 })
-    × IsOption setup (codes "--rounds") (codes "1000000" ∷ []) (record setup { rounds = 1000000 })
-    × IsOption setup (codes "--workers") (codes "1" ∷ []) setup
-    × IsOption setup (codes "--workers") (codes "16" ∷ []) setup
-    × IsOption setup (codes "--window") (codes "01" ∷ []) setup
-    × IsOption setup (codes "--window") (codes "16384" ∷ []) setup
-    × IsOption setup (codes "--surround") (codes "4" ∷ []) (record setup { sheet = record setup.sheet { surround = 4 } })
-    × IsOption setup (codes "--surround") (codes "6" ∷ []) (record setup { sheet = record setup.sheet { surround = 6 } })
-    × IsOption setup (codes "--corpse") (codes "0" ∷ []) (record setup { sheet = record setup.sheet { corpse = 0 } })
-    × IsOption setup (codes "--corpse") (codes "9" ∷ []) (record setup { sheet = record setup.sheet { corpse = 9 } })
-    × IsOption setup (codes "--rest") (codes "0" ∷ []) (record setup { sheet = record setup.sheet { rest = 0 } })
-    × IsOption setup (codes "--rest") (codes "255" ∷ []) (record setup { sheet = record setup.sheet { rest = 255 } })
-    × IsOption setup (codes "--dump") (codes "none" ∷ []) (record setup { dumps = λ round. false })
-    × IsOption setup (codes "--dump") (codes "all" ∷ []) (record setup { dumps = λ round. true })
+pub within_limits : (asked : RunAsked)
+    → IsOption asked (codes "--seed") (codes "0" ∷ []) (record asked { seed = 0 })
+    × IsOption asked (codes "--seed") (codes "4294967295" ∷ []) (record asked { seed = 4294967295 })
+    × IsOption asked (codes "--rounds") (codes "0" ∷ []) (record asked { rounds = 0 })
+    × IsOption asked (codes "--rounds") (codes "1000000" ∷ []) (record asked { rounds = 1000000 })
+    × IsOption asked (codes "--workers") (codes "1" ∷ []) asked
+    × IsOption asked (codes "--workers") (codes "16" ∷ []) asked
+    × IsOption asked (codes "--window") (codes "01" ∷ []) asked
+    × IsOption asked (codes "--window") (codes "16384" ∷ []) asked
+    × IsOption asked (codes "--surround") (codes "4" ∷ []) (record asked { sheet = record asked.sheet { surround = 4 } })
+    × IsOption asked (codes "--surround") (codes "6" ∷ []) (record asked { sheet = record asked.sheet { surround = 6 } })
+    × IsOption asked (codes "--corpse") (codes "0" ∷ []) (record asked { sheet = record asked.sheet { corpse = 0 } })
+    × IsOption asked (codes "--corpse") (codes "9" ∷ []) (record asked { sheet = record asked.sheet { corpse = 9 } })
+    × IsOption asked (codes "--rest") (codes "0" ∷ []) (record asked { sheet = record asked.sheet { rest = 0 } })
+    × IsOption asked (codes "--rest") (codes "255" ∷ []) (record asked { sheet = record asked.sheet { rest = 255 } })
+    × IsOption asked (codes "--dump") (codes "none" ∷ []) (record asked { dumps = λ round. false })
+    × IsOption asked (codes "--dump") (codes "all" ∷ []) (record asked { dumps = λ round. true })
 unfolding decimal_value
-within_limits setup = (
+within_limits asked = (
   Seed 0 (codes "0") (refl, omega arith, omega arith),
   Seed 4294967295 (codes "4294967295") (refl, omega arith, omega arith),
   Rounds 0 (codes "0") (refl, omega arith, omega arith),
@@ -158,39 +161,39 @@ within_limits setup = (
 )
 
 -- no option says a number beyond its limits
-pub seed_ends : {setup new : GameSetup} {name : List ℕ} {words : List (List ℕ)} → IsOption setup name words new → new.seed ≡ 4294967296 → setup.seed ≡ 4294967296
+pub seed_ends : {asked new : RunAsked} {name : List ℕ} {words : List (List ℕ)} → IsOption asked name words new → new.seed ≡ 4294967296 → asked.seed ≡ 4294967296
 seed_ends (Seed n word is) e = absurd (let most = is.2 in omega (arith, e))
 seed_ends it e = e
 
-pub rounds_end : {setup new : GameSetup} {name : List ℕ} {words : List (List ℕ)} → IsOption setup name words new → new.rounds ≡ 1000001 → setup.rounds ≡ 1000001
+pub rounds_end : {asked new : RunAsked} {name : List ℕ} {words : List (List ℕ)} → IsOption asked name words new → new.rounds ≡ 1000001 → asked.rounds ≡ 1000001
 rounds_end (Rounds n word is) e = absurd (let most = is.2 in omega (arith, e))
 rounds_end it e = e
 
 -- words that no command line of a `run` is
-no_run : (words : List (List ℕ)) (number : ℕ) → read_of words ≡ Err number → (world red black : List ℕ) (setup : GameSetup) → ¬ IsRunOf words world red black setup
-no_run words number refused world red black setup is = read-none words number refused (asked_in Run words) (table_run words world red black setup is).is
+no_run : (words : List (List ℕ)) (number : ℕ) → read_of words ≡ Err number → (asked : RunAsked) → ¬ IsRunOf words asked
+no_run words number refused asked is = read-none words number refused (asked_in Run words) (table_run words asked is).is
 
 -- an option that stands twice
-pub seed_twice : (world red black : List ℕ) (setup : GameSetup) → ¬ IsRunOf (words_of (codes "run w r b --seed 1 --rounds 2 --seed 1")) world red black setup
+pub seed_twice : (asked : RunAsked) → ¬ IsRunOf (words_of (codes "run w r b --seed 1 --rounds 2 --seed 1")) asked
 unfolding command_kind_of choice_of is_among rest_after is_file_name is_dumps dumps_of decimal_value
 seed_twice = no_run (words_of (codes "run w r b --seed 1 --rounds 2 --seed 1")) 9 refl
 
 -- a seed beyond its limit
-pub seed_too_great : (world red black : List ℕ) (setup : GameSetup) → ¬ IsRunOf (words_of (codes "run w r b --seed 4294967296 --rounds 2")) world red black setup
+pub seed_too_great : (asked : RunAsked) → ¬ IsRunOf (words_of (codes "run w r b --seed 4294967296 --rounds 2")) asked
 unfolding command_kind_of choice_of is_among rest_after is_file_name is_dumps dumps_of decimal_value
 seed_too_great = no_run (words_of (codes "run w r b --seed 4294967296 --rounds 2")) 6 refl
 
 -- no number of rounds
-pub no_rounds : (world red black : List ℕ) (setup : GameSetup) → ¬ IsRunOf (words_of (codes "run w r b --seed 1")) world red black setup
+pub no_rounds : (asked : RunAsked) → ¬ IsRunOf (words_of (codes "run w r b --seed 1")) asked
 unfolding command_kind_of choice_of is_among rest_after is_file_name is_dumps dumps_of decimal_value
 no_rounds = no_run (words_of (codes "run w r b --seed 1")) 7 refl
 
 -- an option in the place of a name, and two commas between two numbers
-pub no_brain : (world red black : List ℕ) (setup : GameSetup) → ¬ IsRunOf (words_of (codes "run w r --seed 1 --rounds 2")) world red black setup
+pub no_brain : (asked : RunAsked) → ¬ IsRunOf (words_of (codes "run w r --seed 1 --rounds 2")) asked
 unfolding command_kind_of choice_of is_among rest_after is_file_name is_dumps dumps_of decimal_value
 no_brain = no_run (words_of (codes "run w r --seed 1 --rounds 2")) 4 refl
 
-pub two_commas : (world red black : List ℕ) (setup : GameSetup) → ¬ IsRunOf (words_of (codes "run w r b --dump 1,,2 --seed 1 --rounds 2")) world red black setup
+pub two_commas : (asked : RunAsked) → ¬ IsRunOf (words_of (codes "run w r b --dump 1,,2 --seed 1 --rounds 2")) asked
 unfolding command_kind_of choice_of is_among rest_after is_file_name is_dumps dumps_of decimal_value
 two_commas = no_run (words_of (codes "run w r b --dump 1,,2 --seed 1 --rounds 2")) 6 refl
 
@@ -202,19 +205,33 @@ pub long_is_unfit : IsUnfit IsWorld (Err TooLong) (codes "too long")
 long_is_unfit = (refl, refl)
 
 -- what is printed is flushed, and the errors got nothing; where a file was not read or is not accepted nothing was written
-printed_alone : (world red black : List ℕ) (setup : GameSetup) (before after : Outside) → IsPrinted world red black setup before after → (after.err ≡ before.err) × NothingWaits after.out.waiting
-printed_alone world red black setup before after is = (is.silent, is.flushed)
+printed_alone : (asked : RunAsked) (before after : Outside) → IsPrinted asked before after → (after.err ≡ before.err) × NothingWaits after.out.waiting
+printed_alone asked before after is = (is.silent, is.flushed)
 
-unread_alone : (world red black : List ℕ) (before after : Outside) (is : IsUnread world red black before after)
+unread_alone : (asked : RunAsked) (before after : Outside) (is : IsUnread asked before after)
     → (after.out ≡ before.out) × Rose before.shelf.faults after.shelf.faults × (before.shelf.sure is.name ≡ false)
-unread_alone world red black before after is = (is.unwritten, is.rose, is.unsure)
+unread_alone asked before after is = (is.unwritten, is.rose, is.unsure)
 
-unaccepted_alone : (world red black : List ℕ) (before after : Outside) → IsNotAccepted world red black before after → after.out ≡ before.out
-unaccepted_alone world red black before after is = is.unwritten
+unaccepted_alone : (asked : RunAsked) (before after : Outside) → IsNotAccepted asked before after → after.out ≡ before.out
+unaccepted_alone asked before after is = is.unwritten
+
+unbegun_alone : (asked : RunAsked) (before after : Outside) → IsUnbegun asked before after
+    → DidFetch before after (λ fetches. (fetches ≡ []) ⊎ StopsAt (λ IsText file answer. (answer ≢ Err Failed) × (answer ≢ Err TooLong)) asked fetches) × (after.out ≡ before.out)
+unbegun_alone asked before after is = (is.stopped, is.unwritten)
+
+-- a run that stopped at a brain had fetched a world before it, and one that stopped at the black brain a red one too
+pub read_before : {IsSo : (List ℕ → Type 0) → List ℕ → Result (List ℕ) FetchFault → Type 0} {asked : RunAsked} {fetches : List Fetched} → StopsAt IsSo asked fetches
+    → ((answer : Result (List ℕ) FetchFault) × (fetches ≡ fetch asked.world answer ∷ []) × IsSo IsWorld asked.world answer)
+    ⊎ ((first : List ℕ) × (answer : Result (List ℕ) FetchFault) × (fetches ≡ fetch asked.world (Ok first) ∷ fetch asked.red answer ∷ []) × IsWorld first × IsSo IsBrain asked.red answer)
+    ⊎ ((first : List ℕ) × (second : List ℕ) × (answer : Result (List ℕ) FetchFault)
+    × (fetches ≡ fetch asked.world (Ok first) ∷ fetch asked.red (Ok second) ∷ fetch asked.black answer ∷ []) × IsWorld first × IsBrain second × IsSo IsBrain asked.black answer)
+read_before (AtWorld answer so) = inl (answer, refl, so)
+read_before (AtRed first answer is_world so) = inr (inl (first, answer, refl, is_world, so))
+read_before (AtBlack first second answer is_world is_brain so) = inr (inr (first, second, answer, refl, is_world, is_brain, so))
 
 -- no other status
-pub never_2 : (world red black : List ℕ) (setup : GameSetup) (before after : Outside) → ¬ RunEnds world red black setup before after 2
-never_2 world red black setup before after ends = elim ends [
+pub never_2 : (asked : RunAsked) (before after : Outside) → ¬ RunEnds asked before after 2
+never_2 asked before after ends = elim ends [
   | inl zero ↦ (let same = zero.0 in omega arith)
   | inr (inl three) ↦ (let same = three.0 in omega arith)
   | inr (inr (inl four)) ↦ (let same = four.0 in omega arith)

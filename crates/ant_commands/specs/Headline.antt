@@ -116,6 +116,6 @@ pub record KeepsPromise (words : List (List ℕ)) (before after : Outside) (numb
   pub out_of_memory : number ≡ 6 → NamesTheReason words before after AtMemory
   pub no_other : (number ≡ 0) ⊎ (number ≡ 2) ⊎ (number ≡ 3) ⊎ (number ≡ 4) ⊎ (number ≡ 5) ⊎ (number ≡ 6)
 
--- each run of the program keeps it
+-- each run of the program keeps `KeepsPromise`
 abbrev pub Headline : Type 0
 Headline = (words : List (List ℕ)) (before after : Outside) (number : ℕ) → IsRunTo words before after number → KeepsPromise words before after number
