@@ -11,7 +11,7 @@ is_lf byte = byte == 10
 abbrev pub ends_in_lf : List ℕ → Bool
 ends_in_lf text = ends_with_byte 10 text
 
--- the lines of a text: its pieces between LF bytes, and no further line after a last LF
+-- the lines of a text: its pieces between LF bytes, and no further line after a last LF; so `codes "a\nb\n"` has the lines `a` and `b`
 abbrev pub lines_of : List ℕ → List (List ℕ)
 lines_of [] = []
 lines_of (byte ∷ text) = if is_lf byte then [] ∷ lines_of text else onto_first byte (lines_of text)

@@ -6,7 +6,7 @@ use Rattle.ant_base.specs.Fetched.{Fetched, fetched}
 use Rattle.ant_base.specs.declared.shelf.FetchFault.{FetchFault}
 use Rattle.ant_base.specs.declared.shelf.FetchFault.TheVariants.{Failed, TooLong, OutOfMemory}
 
--- the content under each name, where the shelf tells it; of which names it is sure; the count of faults; and the log: all fetches with their answers, the first first
+-- the content under each name, where the shelf tells it; of which names it is sure; the count of faults; and the log: all fetches with their answers, in order
 pub record ShelfState : Type 0 where
   pub files : Option (List ℕ → Option (List ℕ))
   pub sure : List ℕ → Bool

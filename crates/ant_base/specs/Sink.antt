@@ -14,8 +14,8 @@ pub record SinkState : Type 0 where
 abbrev pub NothingWaits : Option (List ℕ) → Type 0
 NothingWaits waiting = IfSome waiting (λ bytes. bytes ≡ [])
 
--- all of the text was appended to what is held, where that is told, without a fault; nothing waits behind a text that ends in LF, the byte 10,
--- and nothing begins to wait for a text without bytes
+-- all of the text was appended to what is held, where that is told, without a fault. After a text that ends in LF, the byte 10, nothing waits; and a text
+-- without bytes leaves nothing waiting where nothing was
 pub record PushedAll (old new : SinkState) (text : List ℕ) : Type 0 where
   pub held : new.held ≡ option_map (λ bytes. bytes ++ text) old.held
   pub quiet : new.faults ≡ old.faults

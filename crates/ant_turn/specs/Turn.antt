@@ -61,7 +61,7 @@ arrived sheet ant next = record ant { state = next; resting = sheet.rest }
 -- the cells when the ant of p has moved to q
 unfoldable pub stepped : Sheet → Cells → Pos → Ant → Pos → ℕ → Cells
 stepped sheet cells p ant q next =
-    put_cell (put_cell cells p (record (cells p) { ant = None })) q (record (cells q) { ant = Some (record ant { state = next; resting = sheet.rest }) })
+    put_cell (put_cell cells p (record (cells p) { ant = None })) q (with_ant (cells q) (record ant { state = next; resting = sheet.rest }))
 
 -- nothing happens
 abbrev pub idle : Cells → Outcome
@@ -73,7 +73,7 @@ cell_becomes cells p cell = record { cells = put_cell cells p cell; drew = false
 
 -- the ant of p becomes this one, and nothing else happens
 abbrev pub ant_becomes : Cells → Pos → Ant → Outcome
-ant_becomes cells p ant = cell_becomes cells p (record (cells p) { ant = Some ant })
+ant_becomes cells p ant = cell_becomes cells p (with_ant (cells p) ant)
 
 -- q and its six neighbours are checked, and nothing else happens
 abbrev pub checked : Sheet → Cells → Pos → Outcome
@@ -85,13 +85,13 @@ abbrev pub execute : Sheet → ℕ → Cells → ℕ → Pos → Ant → Instr �
 execute sheet seed cells place p ant (Sense sight met unmet condition) =
     ant_becomes cells p (record ant { state = if meets (cells (sensed_pos p ant.facing sight)) condition ant.colour then met else unmet })
 -- the own colour's marker i is set on its own cell; the state becomes next
-execute sheet seed cells place p ant (Mark i next) = cell_becomes cells p (record (marked (cells p) ant.colour i) { ant = Some (record ant { state = next }) })
+execute sheet seed cells place p ant (Mark i next) = cell_becomes cells p (with_ant (marked (cells p) ant.colour i) (in_state ant next))
 -- the own colour's marker i is cleared on its own cell; the state becomes next
-execute sheet seed cells place p ant (Unmark i next) = cell_becomes cells p (record (unmarked (cells p) ant.colour i) { ant = Some (record ant { state = next }) })
+execute sheet seed cells place p ant (Unmark i next) = cell_becomes cells p (with_ant (unmarked (cells p) ant.colour i) (in_state ant next))
 -- if the ant carries food or its cell has none, the state becomes unmet; else one particle goes from the cell to the ant and the state becomes met
 execute sheet seed cells place p ant (PickUp met unmet) =
     cell_becomes cells p (if ant.laden || (cells p).food == 0
-    then record (cells p) { ant = Some (record ant { state = unmet }) }
+    then with_ant (cells p) (in_state ant unmet)
     else record (cells p) { food = (cells p).food - 1; ant = Some (record ant { laden = true; state = met }) })
 -- if the ant carries food, the cell's food rises by one and the ant carries none; the state becomes next in any case
 execute sheet seed cells place p ant (Drop next) =
@@ -103,7 +103,7 @@ execute sheet seed cells place p ant (Turn side next) = ant_becomes cells p (rec
 execute sheet seed cells place p ant (Move met unmet) =
     let ahead = adjacent_pos p ant.facing in
     if (cells ahead).rocky || is_some (cells ahead).ant
-    then ant_becomes cells p (record ant { state = unmet })
+    then ant_becomes cells p (in_state ant unmet)
     else checked sheet (stepped sheet cells p ant ahead met) ahead
 -- one random number below the bound is drawn; the state becomes met if it is 0, else unmet
 execute sheet seed cells place p ant (Flip bound met unmet) =
@@ -113,8 +113,8 @@ execute sheet seed cells place p ant (Flip bound met unmet) =
 abbrev pub instruction_at : List Instr → ℕ → Instr
 instruction_at mind state = slice_index_or mind state (Drop 0)
 
--- the turn of the ant of p: where its resting count is above 0, it falls by one and nothing else happens; else the instruction at
--- its state in its colour's brain is executed; where there is none, which never is, `Drop 0`
+-- the turn of the ant of p, by its resting count: where that is above 0, it falls by one and nothing else happens; else the instruction
+-- at its state in its colour's brain is executed. Each state of an ant has one, so `Drop 0` never comes
 abbrev pub acts : ℕ → Minds → ℕ → Cells → ℕ → Pos → Ant → Outcome
 acts zero minds seed cells place p ant = execute minds.sheet seed cells place p ant (slice_index_or (mind_of minds ant.colour) ant.state (Drop 0))
 acts (suc left) minds seed cells place p ant = ant_becomes cells p (record ant { resting = left })
@@ -124,7 +124,7 @@ abbrev pub turn_at : Minds → ℕ → Cells → ℕ → Pos → Option Ant → 
 turn_at minds seed cells place p None = idle cells
 turn_at minds seed cells place p (Some ant) = acts ant.resting minds seed cells place p ant
 
--- the turn of an ant that has a place, or is dead
+-- the turn of an ant that stands somewhere, or is dead
 abbrev pub turn_from : Minds → ℕ → Cells → ℕ → Option Pos → Outcome
 turn_from minds seed cells place None = idle cells
 turn_from minds seed cells place (Some p) = turn_at minds seed cells place p (cells p).ant

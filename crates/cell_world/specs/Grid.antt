@@ -1,9 +1,10 @@
 -- A world as its cells in row order, and how it reads as a function from positions to cells.
 use Rattle.std.specs.Prelude.{◌≡◌, ℕ, ◌+◌, ◌*◌, if◌then◌else◌, nat_lt, List, length, None, slice_index_or}
 use Rattle.std.specs.List.{AllByRecursion}
+use Rattle.hex_geometry.specs.declared.position.Pos.{Pos}
 use Rattle.cell_world.specs.declared.cell.Cell.{Cell}
 use Rattle.cell_world.specs.Cell.{rock}
-use Rattle.cell_world.specs.World.{World, Cells}
+use Rattle.cell_world.specs.World.{World}
 use Rattle.cell_world.specs.Valid.{Valid}
 
 -- a world's sizes, the number of ids ever made and its cells, row by row from the top, each row from left to right
@@ -14,7 +15,7 @@ pub record Grid : Type 0 where
   pub cells : List Cell
 
 -- the cell at a position: right of the rows and below the last there is rock
-unfoldable pub cell_in : Grid → Cells
+unfoldable pub cell_in : Grid → Pos → Cell
 cell_in g p = if nat_lt p.x g.width then slice_index_or g.cells (p.y * g.width + p.x) rock else rock
 
 -- the world that a grid stands for

@@ -18,8 +18,8 @@ pub record World : Type 0 where
   pub ids : ℕ
   pub cells : Cells
 
--- the cells, with this one at p, and so the cell at q
-unfoldable pub put_cell : Cells → Pos → Cell → Cells
+-- what is at q, where the cell at p is replaced by this one
+unfoldable pub put_cell : Cells → Pos → Cell → Pos → Cell
 put_cell cells p cell q = if same_pos p q then cell else cells q
 
 -- the world with these cells
@@ -35,7 +35,7 @@ abbrev pub sum_over : ℕ → (Pos → ℕ) → ℕ → ℕ
 sum_over width f zero = 0
 sum_over width f (suc n) = sum_over width f n + f (pos_at width n)
 
--- the first of the first n positions in row order at which the test holds, if there is one
+-- of the first n positions in row order the first at which the test holds, if there is one: of n + 1 that of the first n, and else the last
 abbrev pub first_of : ℕ → (Pos → Bool) → ℕ → Option Pos
 first_of width test zero = None
 first_of width test (suc n) = option_or (first_of width test n) (if test (pos_at width n) then Some (pos_at width n) else None)

@@ -14,7 +14,7 @@ number_of West = 3
 number_of NorthWest = 4
 number_of NorthEast = 5
 
--- the direction of a number below 6: of 0 to 4 these, and of 5 the last
+-- the direction of a number below 6: what stands at that place of this list, and NorthEast at 5
 abbrev pub dir_of : ℕ → Dir
 dir_of number = slice_index_or (East ∷ SouthEast ∷ SouthWest ∷ West ∷ NorthWest ∷ []) number NorthEast
 

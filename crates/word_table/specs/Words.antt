@@ -3,7 +3,7 @@ use Rattle.std.specs.Prelude.{◌≡◌, ℕ, suc, Bool, true, not, ◌&&◌, Li
 use Rattle.std.specs.List.{list_any}
 use Rattle.std.specs.Str.{str_to_ascii_lowercase, str_eq_ignore_ascii_case}
 
--- two texts are the same word in some ASCII case: with each capital letter made small they are equal; the test of it is std's
+-- two texts are the same word in some ASCII case: with each capital letter made small they are equal
 abbrev pub IsSameWord : List ℕ → List ℕ → Type 0
 IsSameWord a b = str_to_ascii_lowercase a ≡ str_to_ascii_lowercase b
 

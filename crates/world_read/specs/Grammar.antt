@@ -13,7 +13,7 @@ pub record Plan : Type 0 where
   pub height : ℕ
   pub kinds : List Kind
 
--- the lines of rows spell these kinds, row by row: each without its separators is the bytes of as many kinds as the width
+-- the lines of rows spell these kinds: the first line, without its separators, is the bytes of the first `width` kinds, and the other lines spell the rest
 abbrev pub AreRows : ℕ → List (List ℕ) → List Kind → Type 0
 AreRows width [] kinds = kinds ≡ []
 AreRows width (line ∷ lines) kinds =
