@@ -37,8 +37,10 @@ use Rattle.ant_commands.specs.Jobs.{job_of, run_job}
 use Rattle.ant_commands.specs.Outputs.{ReadGame, brain_file, chosen_rounds, game_contents, game_files, match_output, minds_named, sheet_named, world_file}
 use Rattle.ant_commands.specs.Outside.{Outside}
 use Rattle.ant_commands.specs.Run.{GotLine, IsRunTo}
-use Rattle.ant_commands.specs.RunPromise.{HasLine, IsBrain, IsCutOff, IsNotAccepted, IsPrinted, IsRunOf, IsUnfit, IsUnread, IsWorld, Plays, PushedPart, RefusedWords, RunAsked, RunEnds, RunPromise, StopsAt, WantsMemory, fetch}
-use Rattle.ant_commands.specs.RunPromise.StopsAt.{AtWorld, AtRed, AtBlack}
+use Rattle.ant_commands.specs.RunPromise.{ComesNext, DidFetch, HasLine, IsCutOff, IsNotAccepted, IsPrinted, IsRunOf, IsText, IsUnbegun, IsUnfit, IsUnread, Plays, PushedPart, RefusedWords, RunAsked, RunEnds, RunPromise, StopsAt, TextKind, WantsMemory, fetch}
+use Rattle.ant_commands.specs.RunPromise.ComesNext.{WorldFirst, RedNext, BlackLast}
+use Rattle.ant_commands.specs.RunPromise.IsUnbegun.{NothingFetched, BytesCame, NoBytes}
+use Rattle.ant_commands.specs.RunPromise.TextKind.{OfWorld, OfBrain}
 use Rattle.ant_commands.specs.Setups.{RunSetup, setup_of}
 use Rattle.ant_commands.specs.Verdict.{IsRefusedAs}
 use Rattle.ant_commands.proofs.Headlines.{headline}
@@ -69,7 +71,7 @@ has_line err new_err line got = go got.0 got.1 where
 
 -- three files that are accepted, and what was written of the text of their game
 plays_read : (IsWritten : SinkState → SinkState → List ℕ → Type 0) (world red black : List ℕ) (setup : RunSetup) (before after : Outside) (fetches : List Fetched) (read : ReadGame) (text : List ℕ)
-    → FetchesEach before.shelf after.shelf fetches → AreAccepted (game_files world red black) fetches (game_contents read) → text ≡ match_output setup read → setup.stats ≡ false
+    → DidFetch before after fetches → AreAccepted (game_files world red black) fetches (game_contents read) → text ≡ match_output setup read → setup.stats ≡ false
     → IsWritten before.out after.out text → Plays IsWritten (asked_for world red black setup) before after
 plays_read IsWritten world red black setup before after [] read text fetched are is off written = absurd are
 plays_read IsWritten world red black setup before after (a ∷ []) read text fetched are is off written = absurd are.1
@@ -86,7 +88,7 @@ plays_read IsWritten world red black setup before after (a ∷ b ∷ c ∷ fetch
       first = x.bytes;
       second = y.bytes;
       third = z.bytes;
-      fetched = subst (FetchesEach before.shelf after.shelf) same fetched;
+      fetched = subst (DidFetch before after) same fetched;
       grid = read.world;
       minds = minds_named setup read.red read.black;
       is_world = x.reads;
@@ -97,7 +99,7 @@ plays_read IsWritten world red black setup before after (a ∷ b ∷ c ∷ fetch
     }
 
 plays : (IsWritten : SinkState → SinkState → List ℕ → Type 0) (world red black : List ℕ) (setup : RunSetup) (before after : Outside) (fetches : List Fetched) (contents : List FileContent) (text : List ℕ)
-    → FetchesEach before.shelf after.shelf fetches → AreAccepted (game_files world red black) fetches contents → IsJobText (run_job world red black setup) contents text → setup.stats ≡ false
+    → DidFetch before after fetches → AreAccepted (game_files world red black) fetches contents → IsJobText (run_job world red black setup) contents text → setup.stats ≡ false
     → IsWritten before.out after.out text → Plays IsWritten (asked_for world red black setup) before after
 plays IsWritten world red black setup before after fetches contents text fetched are is off written =
     plays_read IsWritten world red black setup before after fetches is.value text fetched (subst (AreAccepted (game_files world red black) fetches) is.read are) is.told off written
@@ -115,7 +117,7 @@ printed world red black setup before after off it =
         first = it.world_bytes;
         second = it.red_bytes;
         third = it.black_bytes;
-        fetched = it.fetched;
+        fetched = it.fetched.log;
         grid = read.world;
         minds = minds_named setup read.red read.black;
         is_world = it.is_world;
@@ -129,7 +131,7 @@ printed world red black setup before after off it =
     }
 
 -- what is read of a world's file is a world, and of a brain's a brain
-a_world : (bytes : List ℕ) (content : FileContent) → Reads WorldFile bytes content → IsWorld bytes
+a_world : (bytes : List ℕ) (content : FileContent) → Reads WorldFile bytes content → IsText OfWorld bytes
 a_world bytes (WorldContent grid) reads = (grid, reads)
 a_world bytes (BrainContent list) reads = absurd reads
 a_world bytes (BreakContent items) reads = absurd reads
@@ -137,7 +139,7 @@ a_world bytes (LabelledContent brain places) reads = absurd reads
 a_world bytes (SourceContent source) reads = absurd reads
 a_world bytes (SaveContent saved) reads = absurd reads
 
-a_brain : (bytes : List ℕ) (content : FileContent) → Reads BrainFile bytes content → IsBrain bytes
+a_brain : (bytes : List ℕ) (content : FileContent) → Reads BrainFile bytes content → IsText OfBrain bytes
 a_brain bytes (WorldContent grid) reads = absurd reads
 a_brain bytes (BrainContent list) reads = (list, reads)
 a_brain bytes (BreakContent items) reads = absurd reads
@@ -149,82 +151,99 @@ a_brain bytes (SaveContent saved) reads = absurd reads
 abbrev Answer : Type 0
 Answer = Result (List ℕ) FetchFault
 
-record IsLast (IsSo : (List ℕ → Type 0) → List ℕ → Answer → Type 0) (IsText : List ℕ → Type 0) (name : List ℕ) (last : Fetched) : Type 0 where
+record IsLast (IsSo : TextKind → List ℕ → Answer → Type 0) (kind : TextKind) (name : List ℕ) (last : Fetched) : Type 0 where
   answer : Answer
   got : last ≡ fetch name answer
-  such : IsSo IsText name answer
+  such : IsSo kind name answer
 
 -- a run that stopped at one of its files
-module _ (IsOld : File → Fetched → Type 0) (IsSo : (List ℕ → Type 0) → List ℕ → Answer → Type 0)
-    (last_world : (name : List ℕ) (last : Fetched) → IsOld (world_file name) last → IsLast IsSo IsWorld name last)
-    (last_brain : (name : List ℕ) (last : Fetched) → IsOld (brain_file name) last → IsLast IsSo IsBrain name last)
-    (asked : RunAsked) where
-  -- the last fetch, behind these
-  ended : {IsText : List ℕ → Type 0} {name : List ℕ} (before : List Fetched → List Fetched) (last : Fetched) (fetches : List Fetched) (is : IsLast IsSo IsText name last) → fetches ≡ []
-      → StopsAt IsSo asked (before (fetch name is.answer ∷ [])) → StopsAt IsSo asked (before (last ∷ fetches))
-  ended {IsText} {name} before last fetches is none at =
-      subst (λ (fs : List Fetched). StopsAt IsSo asked (before fs)) (sym (ap (λ (f : Fetched). f ∷ fetches) is.got ∙ ap (λ (more : List Fetched). fetch name is.answer ∷ more) none)) at
+record IsStop (IsSo : TextKind → List ℕ → Answer → Type 0) (asked : RunAsked) (before after : Outside) : Type 0 where
+  kind : TextKind
+  name : List ℕ
+  answer : Answer
+  at : StopsAt asked before after kind name answer
+  such : IsSo kind name answer
 
-  at_black : (first second : List ℕ) (fetches : List Fetched) → IsWorld first → IsBrain second → files.StopsAt IsOld (brain_file asked.black ∷ []) fetches
-      → StopsAt IsSo asked (fetch asked.world (Ok first) ∷ fetch asked.red (Ok second) ∷ fetches)
-  at_black first second [] is_world is_brain at = absurd at
-  at_black first second (c ∷ fetches) is_world is_brain (inr later) = absurd later.2
-  at_black first second (c ∷ fetches) is_world is_brain (inl here) =
-      let last = last_brain asked.black c here.0 in
-      ended (λ fs. fetch asked.world (Ok first) ∷ fetch asked.red (Ok second) ∷ fs) c fetches last here.1 (AtBlack first second last.answer is_world is_brain last.such)
+module _ (IsOld : File → Fetched → Type 0) (IsSo : TextKind → List ℕ → Answer → Type 0)
+    (last_world : (name : List ℕ) (last : Fetched) → IsOld (world_file name) last → IsLast IsSo OfWorld name last)
+    (last_brain : (name : List ℕ) (last : Fetched) → IsOld (brain_file name) last → IsLast IsSo OfBrain name last)
+    (asked : RunAsked) (before after : Outside) (unwritten : after.out ≡ before.out) where
+  ended : {kind : TextKind} {name : List ℕ} (earlier : List Fetched) → ComesNext asked kind name earlier → (last : Fetched) (fetches : List Fetched) → IsLast IsSo kind name last → fetches ≡ []
+      → DidFetch before after (earlier ++ (last ∷ fetches)) → IsStop IsSo asked before after
+  ended {kind} {name} earlier next last fetches is none did = record {
+    kind = kind;
+    name = name;
+    answer = is.answer;
+    at = record {
+      earlier = earlier;
+      next = next;
+      fetched = subst (λ (fs : List Fetched). DidFetch before after (earlier ++ fs))
+          (ap (λ (f : Fetched). f ∷ fetches) is.got ∙ ap (λ (more : List Fetched). fetch name is.answer ∷ more) none) did;
+      unwritten = unwritten;
+    };
+    such = is.such;
+  }
 
-  at_red : (first : List ℕ) (fetches : List Fetched) → IsWorld first → files.StopsAt IsOld (brain_file asked.red ∷ brain_file asked.black ∷ []) fetches
-      → StopsAt IsSo asked (fetch asked.world (Ok first) ∷ fetches)
-  at_red first [] is_world at = absurd at
-  at_red first (b ∷ fetches) is_world (inl here) =
-      let last = last_brain asked.red b here.0 in
-      ended (λ fs. fetch asked.world (Ok first) ∷ fs) b fetches last here.1 (AtRed first last.answer is_world last.such)
-  at_red first (b ∷ fetches) is_world (inr later) =
-      subst (λ (f : Fetched). StopsAt IsSo asked (fetch asked.world (Ok first) ∷ f ∷ fetches)) (sym later.1.got)
-      (at_black first later.1.bytes fetches is_world (a_brain later.1.bytes later.0 later.1.reads) later.2)
+  at_black : (first second : List ℕ) (fetches : List Fetched) → IsText OfWorld first → IsText OfBrain second → files.StopsAt IsOld (brain_file asked.black ∷ []) fetches
+      → DidFetch before after (fetch asked.world (Ok first) ∷ fetch asked.red (Ok second) ∷ fetches) → IsStop IsSo asked before after
+  at_black first second [] is_world is_brain at did = absurd at
+  at_black first second (c ∷ fetches) is_world is_brain (inr later) did = absurd later.2
+  at_black first second (c ∷ fetches) is_world is_brain (inl here) did =
+      ended (fetch asked.world (Ok first) ∷ fetch asked.red (Ok second) ∷ []) (BlackLast first second is_world is_brain) c fetches (last_brain asked.black c here.0) here.1 did
 
-  stops : (fetches : List Fetched) → files.StopsAt IsOld (game_files asked.world asked.red asked.black) fetches → StopsAt IsSo asked fetches
-  stops [] at = absurd at
-  stops (a ∷ fetches) (inl here) = (let last = last_world asked.world a here.0 in ended (λ fs. fs) a fetches last here.1 (AtWorld last.answer last.such))
-  stops (a ∷ fetches) (inr later) =
-      subst (λ (f : Fetched). StopsAt IsSo asked (f ∷ fetches)) (sym later.1.got) (at_red later.1.bytes fetches (a_world later.1.bytes later.0 later.1.reads) later.2)
+  at_red : (first : List ℕ) (fetches : List Fetched) → IsText OfWorld first → files.StopsAt IsOld (brain_file asked.red ∷ brain_file asked.black ∷ []) fetches
+      → DidFetch before after (fetch asked.world (Ok first) ∷ fetches) → IsStop IsSo asked before after
+  at_red first [] is_world at did = absurd at
+  at_red first (b ∷ fetches) is_world (inl here) did =
+      ended (fetch asked.world (Ok first) ∷ []) (RedNext first is_world) b fetches (last_brain asked.red b here.0) here.1 did
+  at_red first (b ∷ fetches) is_world (inr later) did = at_black first later.1.bytes fetches is_world (a_brain later.1.bytes later.0 later.1.reads) later.2
+      (subst (λ (f : Fetched). DidFetch before after (fetch asked.world (Ok first) ∷ f ∷ fetches)) later.1.got did)
+
+  stops : (fetches : List Fetched) → files.StopsAt IsOld (game_files asked.world asked.red asked.black) fetches → DidFetch before after fetches → IsStop IsSo asked before after
+  stops [] at did = absurd at
+  stops (a ∷ fetches) (inl here) did = ended [] WorldFirst a fetches (last_world asked.world a here.0) here.1 did
+  stops (a ∷ fetches) (inr later) did =
+      at_red later.1.bytes fetches (a_world later.1.bytes later.0 later.1.reads) later.2 (subst (λ (f : Fetched). DidFetch before after (f ∷ fetches)) later.1.got did)
 
 -- status 3
-last_unsure : (shelf : ShelfState) (name : List ℕ) (kind : FileKind) (IsText : List ℕ → Type 0) (other : List ℕ) (last : Fetched) → IsUnsure shelf name (record { name = other; kind = kind }) last
-    → IsLast (λ IsText file answer. (file ≡ name) × (answer ≡ Err why.Failed)) IsText other last
-last_unsure shelf name kind IsText other last is = record { answer = Err why.Failed; got = is.failed; such = (is.named, refl) }
+abbrev IsFailedFetch : List ℕ → TextKind → List ℕ → Answer → Type 0
+IsFailedFetch name kind file answer = (file ≡ name) × (answer ≡ Err why.Failed)
 
-never_sure : (shelf : ShelfState) (name : List ℕ) (list : List File) (fetches : List Fetched) → files.StopsAt (IsUnsure shelf name) list fetches → shelf.sure name ≡ false
-never_sure shelf name [] fetches at = absurd at
-never_sure shelf name (file ∷ list) [] at = absurd at
-never_sure shelf name (file ∷ list) (fetch ∷ fetches) (inl here) = here.0.unsure
-never_sure shelf name (file ∷ list) (fetch ∷ fetches) (inr later) = never_sure shelf name list fetches later.2
+last_unsure : (shelf : ShelfState) (name : List ℕ) (kind : FileKind) (text : TextKind) (other : List ℕ) (last : Fetched) → IsUnsure shelf name (record { name = other; kind = kind }) last
+    → IsLast (IsFailedFetch name) text other last
+last_unsure shelf name kind text other last is = record { answer = Err why.Failed; got = is.failed; such = (is.named, refl) }
 
 -- status 5
-last_unfit : (kind : FileKind) (IsText : List ℕ → Type 0) → ((bytes : List ℕ) → IsText bytes → (content : FileContent) × Reads kind bytes content)
-    → (other : List ℕ) (fault : FileFault) (last : Fetched) → IsRefused (record { name = other; kind = kind }) last fault
-    → IsLast (λ IsText file answer. IsUnfit IsText answer (file_fault_text fault)) IsText other last
-last_unfit kind IsText reads other fault last (inl long) = record { answer = Err why.TooLong; got = long.1; such = (refl, ap file_fault_text long.0) }
-last_unfit kind IsText reads other fault last (inr it) =
-    record { answer = Ok it.bytes; got = it.got; such = λ text. (let read = reads it.bytes text in never_both kind it.bytes read.0 fault read.1 it.refuses) }
+abbrev IsUnfitFile : List ℕ → List ℕ → TextKind → List ℕ → Answer → Type 0
+IsUnfitFile name says kind file answer = (file ≡ name) × IsUnfit kind answer says
 
-last_refused : (kind : FileKind) (IsText : List ℕ → Type 0) → ((bytes : List ℕ) → IsText bytes → (content : FileContent) × Reads kind bytes content)
+last_unfit : (kind : FileKind) (text : TextKind) → ((bytes : List ℕ) → IsText text bytes → (content : FileContent) × Reads kind bytes content)
+    → (other : List ℕ) (fault : FileFault) (last : Fetched) → IsRefused (record { name = other; kind = kind }) last fault
+    → IsLast (λ text file answer. IsUnfit text answer (file_fault_text fault)) text other last
+last_unfit kind text reads other fault last (inl long) = record { answer = Err why.TooLong; got = long.1; such = (refl, ap file_fault_text long.0) }
+last_unfit kind text reads other fault last (inr it) =
+    record { answer = Ok it.bytes; got = it.got; such = λ is. (let read = reads it.bytes is in never_both kind it.bytes read.0 fault read.1 it.refuses) }
+
+last_refused : (kind : FileKind) (text : TextKind) → ((bytes : List ℕ) → IsText text bytes → (content : FileContent) × Reads kind bytes content)
     → (name other : List ℕ) (fault : FileFault) (last : Fetched) → IsRefusedAs name fault (record { name = other; kind = kind }) last
-    → IsLast (λ IsText file answer. (file ≡ name) × IsUnfit IsText answer (file_fault_text fault)) IsText other last
-last_refused kind IsText reads name other fault last is =
-    let unfit = last_unfit kind IsText reads other fault last is.refused in
+    → IsLast (IsUnfitFile name (file_fault_text fault)) text other last
+last_refused kind text reads name other fault last is =
+    let unfit = last_unfit kind text reads other fault last is.refused in
     record { answer = unfit.answer; got = unfit.got; such = (is.named, unfit.such) }
 
-read_world : (bytes : List ℕ) → IsWorld bytes → (content : FileContent) × Reads WorldFile bytes content
+read_world : (bytes : List ℕ) → IsText OfWorld bytes → (content : FileContent) × Reads WorldFile bytes content
 read_world bytes is = (WorldContent is.0, is.1)
 
-read_brain : (bytes : List ℕ) → IsBrain bytes → (content : FileContent) × Reads BrainFile bytes content
+read_brain : (bytes : List ℕ) → IsText OfBrain bytes → (content : FileContent) × Reads BrainFile bytes content
 read_brain bytes is = (BrainContent is.0, is.1)
 
 -- status 6
-last_got : (kind : FileKind) (IsText : List ℕ → Type 0) (other : List ℕ) (last : Fetched) → IsFetched (record { name = other; kind = kind }) last → IsLast (λ IsText file answer. (answer ≢ Err why.Failed) × (answer ≢ Err why.TooLong)) IsText other last
-last_got kind IsText other last (inl got) = record { answer = Ok got.0; got = got.1; such = (λ e. cc, λ e. cc) }
-last_got kind IsText other last (inr want) = record { answer = Err why.OutOfMemory; got = want; such = (λ e. cc, λ e. cc) }
+abbrev IsNoFault : TextKind → List ℕ → Answer → Type 0
+IsNoFault kind file answer = ((bytes : List ℕ) × (answer ≡ Ok bytes)) ⊎ (answer ≡ Err why.OutOfMemory)
+
+last_got : (kind : FileKind) (text : TextKind) (other : List ℕ) (last : Fetched) → IsFetched (record { name = other; kind = kind }) last → IsLast IsNoFault text other last
+last_got kind text other last (inl got) = record { answer = Ok got.0; got = got.1; such = inl (got.0, refl) }
+last_got kind text other last (inr want) = record { answer = Err why.OutOfMemory; got = want; such = inr refl }
 
 begun_stops : (list : List File) (fetches : List Fetched) → AreBegun list fetches → (fetches ≡ []) ⊎ files.StopsAt IsFetched list fetches
 begun_stops [] fetches e = inl e
@@ -244,45 +263,53 @@ record HasStopped (world red black : List ℕ) (setup : RunSetup) (before after 
 
 unread : (world red black : List ℕ) (setup : RunSetup) (before after : Outside) (name : List ℕ) → HasStopped world red black setup before after (AtFile name) → IsUnread (asked_for world red black setup) before after
 unfolding fault_line
-unread world red black setup before after name it = record {
-  name = name;
-  stopped = (
-    it.fetches,
-    it.fetched,
-    stops (IsUnsure before.shelf name) (λ IsText file answer. (file ≡ name) × (answer ≡ Err why.Failed)) (last_unsure before.shelf name WorldFile IsWorld) (last_unsure before.shelf name BrainFile IsBrain)
-        (asked_for world red black setup) it.fetches it.stopped.stopped,
-  );
-  unsure = never_sure before.shelf name (game_files world red black) it.fetches it.stopped.stopped;
-  rose = it.stopped.rose;
-  unwritten = it.stopped.unwritten;
-  line = subst (HasLine before.err after.err) (ap (λ (says : List ℕ). codes "ants: " +++ says) (append_assoc name (codes ": not read") (codes "\n"))) (has_line before.err after.err (fault_line (AtFile name)) it.line);
-}
+unread world red black setup before after name it =
+    let asked = asked_for world red black setup in
+    let stop : IsStop (IsFailedFetch name) asked before after =
+    stops (IsUnsure before.shelf name) (IsFailedFetch name) (last_unsure before.shelf name WorldFile OfWorld) (last_unsure before.shelf name BrainFile OfBrain)
+    asked before after it.stopped.unwritten it.fetches it.stopped.stopped it.fetched.log in
+    record {
+      kind = stop.kind;
+      name = name;
+      stopped = subst (λ (answer : Answer). StopsAt asked before after stop.kind name answer) stop.such.1 (subst (λ (n : List ℕ). StopsAt asked before after stop.kind n stop.answer) stop.such.0 stop.at);
+      line = subst (HasLine before.err after.err) (ap (λ (says : List ℕ). codes "ants: " +++ says) (append_assoc name (codes ": not read") (codes "\n")))
+          (has_line before.err after.err (fault_line (AtFile name)) it.line);
+    }
 
 cut_off : (world red black : List ℕ) (setup : RunSetup) (before after : Outside) → setup.stats ≡ false → HasStopped world red black setup before after AtOutput
     → IsCutOff (asked_for world red black setup) before after
 unfolding fault_line
 cut_off world red black setup before after off it = record {
-  plays = plays PushedFront world red black setup before after it.fetches it.stopped.contents it.stopped.text it.fetched it.stopped.accepted it.stopped.is_text off it.stopped.cut;
+  plays = plays PushedFront world red black setup before after it.fetches it.stopped.contents it.stopped.text it.fetched.log it.stopped.accepted it.stopped.is_text off it.stopped.cut;
   line = has_line before.err after.err (fault_line AtOutput) it.line;
 }
 
 not_accepted : (world red black : List ℕ) (setup : RunSetup) (before after : Outside) (name : List ℕ) (fault : FileFault) → HasStopped world red black setup before after (AtInput name fault)
     → IsNotAccepted (asked_for world red black setup) before after
 unfolding fault_line
-not_accepted world red black setup before after name fault it = record {
-  name = name;
-  says = file_fault_text fault;
-  stopped = (
-    it.fetches,
-    it.fetched,
-    stops (IsRefusedAs name fault) (λ IsText file answer. (file ≡ name) × IsUnfit IsText answer (file_fault_text fault))
-        (λ other last. last_refused WorldFile IsWorld read_world name other fault last) (λ other last. last_refused BrainFile IsBrain read_brain name other fault last)
-        (asked_for world red black setup) it.fetches it.stopped.stopped,
-  );
-  unwritten = it.stopped.unwritten;
-  line = subst (HasLine before.err after.err) (ap (λ (says : List ℕ). codes "ants: " +++ says) (append_assoc name (codes ": " +++ file_fault_text fault) (codes "\n")))
-      (has_line before.err after.err (fault_line (AtInput name fault)) it.line);
-}
+not_accepted world red black setup before after name fault it =
+    let asked = asked_for world red black setup in
+    let stop : IsStop (IsUnfitFile name (file_fault_text fault)) asked before after =
+    stops (IsRefusedAs name fault) (IsUnfitFile name (file_fault_text fault))
+    (λ other last. last_refused WorldFile OfWorld read_world name other fault last) (λ other last. last_refused BrainFile OfBrain read_brain name other fault last)
+    asked before after it.stopped.unwritten it.fetches it.stopped.stopped it.fetched.log in
+    record {
+      kind = stop.kind;
+      name = name;
+      answer = stop.answer;
+      says = file_fault_text fault;
+      stopped = subst (λ (n : List ℕ). StopsAt asked before after stop.kind n stop.answer) stop.such.0 stop.at;
+      unfit = stop.such.1;
+      line = subst (HasLine before.err after.err) (ap (λ (says : List ℕ). codes "ants: " +++ says) (append_assoc name (codes ": " +++ file_fault_text fault) (codes "\n")))
+          (has_line before.err after.err (fault_line (AtInput name fault)) it.line);
+    }
+
+-- a run that stopped at a file without a fault
+stopped_short : {asked : RunAsked} {before after : Outside} → IsStop IsNoFault asked before after → IsUnbegun asked before after
+stopped_short {asked} {before} {after} stop = elim stop.such [
+  | inl came ↦ BytesCame stop.kind stop.name came.0 (subst (StopsAt asked before after stop.kind stop.name) came.1 stop.at)
+  | inr wanting ↦ NoBytes stop.kind stop.name (subst (StopsAt asked before after stop.kind stop.name) wanting stop.at)
+]
 
 -- memory was wanting before the text was begun, or after a proper prefix of it
 wants_memory : (world red black : List ℕ) (setup : RunSetup) (before after : Outside) → setup.stats ≡ false → HasStopped world red black setup before after AtMemory
@@ -290,19 +317,12 @@ wants_memory : (world red black : List ℕ) (setup : RunSetup) (before after : O
 unfolding fault_line
 wants_memory world red black setup before after off it = record {
   stopped = elim it.stopped [
-    | inl unbegun ↦ inl (record {
-      stopped = (
-        it.fetches,
-        it.fetched,
-        elim (begun_stops (game_files world red black) it.fetches unbegun.begun) [
-          | inl none ↦ inl none
-          | inr at ↦ inr (stops IsFetched (λ IsText file answer. (answer ≢ Err why.Failed) × (answer ≢ Err why.TooLong)) (last_got WorldFile IsWorld) (last_got BrainFile IsBrain)
-              (asked_for world red black setup) it.fetches at)
-        ],
-      );
-      unwritten = unbegun.unwritten;
-    })
-    | inr it_broke ↦ inr (let part = it_broke.broken in plays PushedPart world red black setup before after it.fetches it_broke.contents it_broke.text it.fetched it_broke.accepted it_broke.is_text off
+    | inl unbegun ↦ inl (elim (begun_stops (game_files world red black) it.fetches unbegun.begun) [
+      | inl none ↦ NothingFetched (subst (DidFetch before after) none it.fetched.log) unbegun.unwritten
+      | inr at ↦ stopped_short (stops IsFetched IsNoFault (last_got WorldFile OfWorld) (last_got BrainFile OfBrain)
+          (asked_for world red black setup) before after unbegun.unwritten it.fetches at it.fetched.log)
+    ])
+    | inr it_broke ↦ inr (let part = it_broke.broken in plays PushedPart world red black setup before after it.fetches it_broke.contents it_broke.text it.fetched.log it_broke.accepted it_broke.is_text off
         (part.front, part.rest, part.whole, part.some_left, part.pushed))
   ];
   line = has_line before.err after.err (fault_line AtMemory) it.line;

@@ -22,7 +22,7 @@ use Rattle.command_words.proofs.TableLemmas.{bytes_eq-same, same_option}
 use Rattle.list_lemmas.proofs.AllElements.{AllByRecursion-at}
 use Rattle.list_lemmas.proofs.Elements.{Contains-cases, Contains-first, Contains-later, Contains-none}
 use Rattle.ant_commands.specs.Outputs.{chosen_rounds}
-use Rattle.ant_commands.specs.RunPromise.{AreOptions, IsDumps, IsNumber, IsOption, IsRunOf, RunAsked}
+use Rattle.ant_commands.specs.RunPromise.{AreOptions, bare_run, IsDumps, IsNumber, IsOption, IsRunOf, RunAsked}
 use Rattle.ant_commands.specs.RunPromise.IsDumps.{NoRound, EveryRound, TheseRounds}
 use Rattle.ant_commands.specs.RunPromise.IsOption.{Seed, Rounds, Dump, Workers, Window, Surround, Corpse, Rest, Far}
 
@@ -263,38 +263,38 @@ abbrev pub spelled_by : List Named → List (List ℕ)
 spelled_by options = flat_map (λ (option : Named). option.0 ∷ option.1) options
 
 -- as the table has them
-abbrev given_of : (options : List Named) (asked : RunAsked) → AreOptions options asked → List Given
-given_of [] asked are = []
-given_of (option ∷ options) asked are = given_as (in_table are.1) (parts_of option.1) ∷ given_of options are.0 are.2
+abbrev given_of : (start : RunAsked) (options : List Named) (asked : RunAsked) → AreOptions start options asked → List Given
+given_of start [] asked are = []
+given_of start (option ∷ options) asked are = given_as (in_table are.1) (parts_of option.1) ∷ given_of start options are.0 are.2
 
-given_whole : (options : List Named) (asked : RunAsked) (are : AreOptions options asked) → spelled_by options ≡ flat_map given_words (given_of options asked are)
-given_whole [] asked are = refl
-given_whole (option ∷ options) asked are =
+given_whole : (start : RunAsked) (options : List Named) (asked : RunAsked) (are : AreOptions start options asked) → spelled_by options ≡ flat_map given_words (given_of start options asked are)
+given_whole start [] asked are = refl
+given_whole start (option ∷ options) asked are =
     ap (λ (name : List ℕ). name ∷ (option.1 ++ spelled_by options)) (name_in_table are.1)
     ∙ ap (λ (words : List (List ℕ)). option_of (in_table are.1) ∷ (words ++ spelled_by options)) (sym (joined-parts option.1))
-    ∙ ap (λ (more : List (List ℕ)). option_of (in_table are.1) ∷ (joined (parts_of option.1) ++ more)) (given_whole options are.0 are.2)
+    ∙ ap (λ (more : List (List ℕ)). option_of (in_table are.1) ∷ (joined (parts_of option.1) ++ more)) (given_whole start options are.0 are.2)
 
-given_options : (options : List Named) (asked : RunAsked) (are : AreOptions options asked) → AllByRecursion (IsOptionOf Run) (given_of options asked are)
-given_options [] asked are = tt
-given_options (option ∷ options) asked are = (record { known = known_in_table are.1; fit = words_fit are.1 }, given_options options are.0 are.2)
+given_options : (start : RunAsked) (options : List Named) (asked : RunAsked) (are : AreOptions start options asked) → AllByRecursion (IsOptionOf Run) (given_of start options asked are)
+given_options start [] asked are = tt
+given_options start (option ∷ options) asked are = (record { known = known_in_table are.1; fit = words_fit are.1 }, given_options start options are.0 are.2)
 
-given_heard : (options : List Named) (asked : RunAsked) (are : AreOptions options asked) → heard asked (given_of options asked are) ≡ asked
-given_heard [] asked are = sym are
-given_heard (option ∷ options) asked are =
-    says are.1 (parts_of option.1) (given_of options are.0 are.2) (joined-parts option.1) (given_heard options are.0 are.2)
+given_heard : (world red black : List ℕ) (options : List Named) (asked : RunAsked) (are : AreOptions (bare_run world red black) options asked) → heard asked (given_of (bare_run world red black) options asked are) ≡ asked
+given_heard world red black [] asked are = ap (λ (a : RunAsked). bare_run a.world a.red a.black) are ∙ sym are
+given_heard world red black (option ∷ options) asked are =
+    says are.1 (parts_of option.1) (given_of (bare_run world red black) options are.0 are.2) (joined-parts option.1) (given_heard world red black options are.0 are.2)
 
 -- another name than each of theirs is none of theirs
-given_others : (options : List Named) (asked : RunAsked) (are : AreOptions options asked) (of : Choice)
-    → AllByRecursion (λ other. other ≢ option_of of) (names_of options) → AllByRecursion (λ other. other.choice ≢ of) (given_of options asked are)
-given_others [] asked are of differ = tt
-given_others (option ∷ options) asked are of differ =
-    (λ same. differ.0 (name_in_table are.1 ∙ ap option_of same), given_others options are.0 are.2 of differ.1)
+given_others : (start : RunAsked) (options : List Named) (asked : RunAsked) (are : AreOptions start options asked) (of : Choice)
+    → AllByRecursion (λ other. other ≢ option_of of) (names_of options) → AllByRecursion (λ other. other.choice ≢ of) (given_of start options asked are)
+given_others start [] asked are of differ = tt
+given_others start (option ∷ options) asked are of differ =
+    (λ same. differ.0 (name_in_table are.1 ∙ ap option_of same), given_others start options are.0 are.2 of differ.1)
 
-given_once : (options : List Named) (asked : RunAsked) (are : AreOptions options asked) → AllDiffer (names_of options) → NoneTwice (given_of options asked are)
-given_once [] asked are once = tt
-given_once (option ∷ options) asked are once = (
-  given_others options are.0 are.2 (in_table are.1) (subst (λ (name : List ℕ). AllByRecursion (λ other. other ≢ name) (names_of options)) (name_in_table are.1) once.0),
-  given_once options are.0 are.2 once.1,
+given_once : (start : RunAsked) (options : List Named) (asked : RunAsked) (are : AreOptions start options asked) → AllDiffer (names_of options) → NoneTwice (given_of start options asked are)
+given_once start [] asked are once = tt
+given_once start (option ∷ options) asked are once = (
+  given_others start options are.0 are.2 (in_table are.1) (subst (λ (name : List ℕ). AllByRecursion (λ other. other ≢ name) (names_of options)) (name_in_table are.1) once.0),
+  given_once start options are.0 are.2 once.1,
 )
 
 -- a name is that of one option of the table
@@ -302,13 +302,13 @@ one_of_name : (of other : Choice) → option_of of ≡ option_of other → of �
 one_of_name of other same = same_option of other (subst (λ (name : List ℕ). bytes_eq name (option_of other) ≡ true) (sym same) (bytes_eq-same (option_of other)))
 
 -- what is named is given
-given_named : (options : List Named) (asked : RunAsked) (are : AreOptions options asked) (of : Choice) → Contains (names_of options) (option_of of)
-    → IsGiven of (given_of options asked are)
-given_named [] asked are of has = absurd (Contains-none (option_of of) has)
-given_named (option ∷ options) asked are of has = elim (Contains-cases option.0 (option_of of) (names_of options) has) [
-  | inl here ↦ subst (λ (o : Choice). Contains (in_table are.1 ∷ map (λ g. g.choice) (given_of options are.0 are.2)) o) (one_of_name (in_table are.1) of (sym (name_in_table are.1) ∙ here))
-      (Contains-first (in_table are.1) (map (λ g. g.choice) (given_of options are.0 are.2)))
-  | inr later ↦ Contains-later (in_table are.1) of (map (λ g. g.choice) (given_of options are.0 are.2)) (given_named options are.0 are.2 of later)
+given_named : (start : RunAsked) (options : List Named) (asked : RunAsked) (are : AreOptions start options asked) (of : Choice) → Contains (names_of options) (option_of of)
+    → IsGiven of (given_of start options asked are)
+given_named start [] asked are of has = absurd (Contains-none (option_of of) has)
+given_named start (option ∷ options) asked are of has = elim (Contains-cases option.0 (option_of of) (names_of options) has) [
+  | inl here ↦ subst (λ (o : Choice). Contains (in_table are.1 ∷ map (λ g. g.choice) (given_of start options are.0 are.2)) o) (one_of_name (in_table are.1) of (sym (name_in_table are.1) ∙ here))
+      (Contains-first (in_table are.1) (map (λ g. g.choice) (given_of start options are.0 are.2)))
+  | inr later ↦ Contains-later (in_table are.1) of (map (λ g. g.choice) (given_of start options are.0 are.2)) (given_named start options are.0 are.2 of later)
 ]
 
 -- none of them is `--stats`
@@ -323,10 +323,10 @@ not_counts (Corpse n word is) = refl
 not_counts (Rest n word is) = refl
 not_counts Far = refl
 
-given_uncounted : (options : List Named) (asked : RunAsked) (are : AreOptions options asked) → has_given choice.Stats (given_of options asked are) ≡ false
-given_uncounted [] asked are = refl
-given_uncounted (option ∷ options) asked are =
-    ap (λ b. cond b true (has_given choice.Stats (given_of options are.0 are.2))) (not_counts are.1) ∙ given_uncounted options are.0 are.2
+given_uncounted : (start : RunAsked) (options : List Named) (asked : RunAsked) (are : AreOptions start options asked) → has_given choice.Stats (given_of start options asked are) ≡ false
+given_uncounted start [] asked are = refl
+given_uncounted start (option ∷ options) asked are =
+    ap (λ b. cond b true (has_given choice.Stats (given_of start options are.0 are.2))) (not_counts are.1) ∙ given_uncounted start options are.0 are.2
 
 never : {P : Type 0} → false ≡ true → P
 never e = absurd (false≢true e)
@@ -349,25 +349,26 @@ front_of asked = (asked.world ∷ []) ∷ (asked.red ∷ []) ∷ (asked.black �
 
 pub table_run : (words : List (List ℕ)) (asked : RunAsked) → IsRunOf words asked → IsTableRun words asked
 table_run words asked is =
-    let given : List Given = given_of is.options asked is.said in
+    let start : RunAsked = bare_run asked.world asked.red asked.black in
+    let given : List Given = given_of start is.options asked is.said in
     let front : List (List (List ℕ)) = front_of asked in
     let fit : FitAll (places_of Run) front = (is.names.0, (is.names.1.0, (is.names.1.1.0, tt))) in
-    let options : AllByRecursion (IsOptionOf Run) given = given_options is.options asked is.said in
+    let options : AllByRecursion (IsOptionOf Run) given = given_options start is.options asked is.said in
     let whole : words ≡ words_of Run front given =
-    is.whole ∙ ap (λ (behind : List (List ℕ)). codes "run" ∷ asked.world ∷ asked.red ∷ asked.black ∷ behind) (given_whole is.options asked is.said) in
+    is.whole ∙ ap (λ (behind : List (List ℕ)). codes "run" ∷ asked.world ∷ asked.red ∷ asked.black ∷ behind) (given_whole start is.options asked is.said) in
     let form : IsCommandOf Run front given words = record {
       known = (0, lit< tt, refl);
       whole = whole;
       places = fit;
       options = options;
-      once = given_once is.options asked is.said is.once;
-      needed = λ of known need. needs_two given (given_named is.options asked is.said choice.Seed is.needed.0) (given_named is.options asked is.said choice.Rounds is.needed.1.0) of known need;
+      once = given_once start is.options asked is.said is.once;
+      needed = λ of known need. needs_two given (given_named start is.options asked is.said choice.Seed is.seeded) (given_named start is.options asked is.said choice.Rounds is.limited) of known need;
     } in
     let asks : asked_in Run words ≡ asked_of Run (answers_of Run front given) = ap (asked_in Run) whole ∙ ap (asked_of Run) (answers_in-of Run front given fit options) in
     record {
       is = record { kind = Run; front = front; given = given; form = form; says = refl };
-      uncounted = ap (λ (plain : PlainAsked). plain.has choice.Stats) asks ∙ given_uncounted is.options asked is.said;
-      said = ap run_said asks ∙ given_heard is.options asked is.said;
+      uncounted = ap (λ (plain : PlainAsked). plain.has choice.Stats) asks ∙ given_uncounted start is.options asked is.said;
+      said = ap run_said asks ∙ given_heard asked.world asked.red asked.black is.options asked is.said;
     }
 
 -- From the table to the words of a run.
@@ -475,7 +476,7 @@ of_run asked of values given known =
 abbrev named_in : List Given → List Named
 named_in given = map (λ (g : Given). (option_of g.choice, joined g.values)) given
 
-are_of_run : (asked : RunAsked) (given : List Given) → AllByRecursion (IsOptionOf Run) given → AllByRecursion (λ g. g.choice ≢ choice.Stats) given → AreOptions (named_in given) (heard asked given)
+are_of_run : (asked : RunAsked) (given : List Given) → AllByRecursion (IsOptionOf Run) given → AllByRecursion (λ g. g.choice ≢ choice.Stats) given → AreOptions (bare_run asked.world asked.red asked.black) (named_in given) (heard asked given)
 are_of_run asked [] are no_counts = refl
 are_of_run asked (g ∷ given) are no_counts = (heard asked given, of_run asked g.choice g.values given are.0.known are.0.fit no_counts.0, are_of_run asked given are.1 no_counts.1)
 
@@ -516,7 +517,7 @@ names_there ((w ∷ []) ∷ (r ∷ []) ∷ [] ∷ front) fit = absurd fit.1.1.0
 names_there ((w ∷ []) ∷ (r ∷ []) ∷ (b ∷ x ∷ bs) ∷ front) fit = absurd fit.1.1.0
 names_there ((w ∷ []) ∷ (r ∷ []) ∷ (b ∷ []) ∷ part ∷ front) fit = absurd fit.1.1.1
 names_there ((w ∷ []) ∷ (r ∷ []) ∷ (b ∷ []) ∷ []) fit = record {
-  named = record { world = w; red = r; black = b; seed = 0; rounds = 0; dumps = λ round. false; sheet = record { surround = 5; corpse = 3; rest = 14 } };
+  named = bare_run w r b;
   are = refl;
   names = (fit.0, (fit.1.0, (fit.1.1.0, tt)));
 }
@@ -534,7 +535,8 @@ run_of_form front given words form none =
       names = names.names;
       said = are_of_run names.named given form.options (none_is given none);
       once = once_in given form.once;
-      needed = (has_in given choice.Seed (form.needed choice.Seed (0, lit< tt, refl) refl), (has_in given choice.Rounds (form.needed choice.Rounds (1, lit< tt, refl) refl), tt));
+      seeded = has_in given choice.Seed (form.needed choice.Seed (0, lit< tt, refl) refl);
+      limited = has_in given choice.Rounds (form.needed choice.Rounds (1, lit< tt, refl) refl);
     } in
     (asked, is)
   where

@@ -1,13 +1,12 @@
 -- Words of a `run` with what they say, words that are none, and what no status says.
-use Rattle.std.proofs.Common.{◌≡◌, ◌≢◌, ◌⊎◌, inl, inr, ℕ, nat_eq, Bool, true, false, List, [], ◌∷◌, Result, Ok, Err, codes, bytes_eq, refl, sym, ap, ◌∙◌, lit<, arith}
+use Rattle.std.proofs.Common.{◌≡◌, ◌≢◌, ◌⊎◌, inl, inr, ℕ, ◌≤◌, nat_eq, Bool, true, false, List, [], ◌∷◌, ◌++◌, length, Result, Ok, Err, codes, bytes_eq, refl, sym, ap, ◌∙◌, lit<, arith}
 use Rattle.std.specs.List.{list_any}
 use Rattle.std.proofs.lemmas.Bool.{false≢true}
-use Rattle.ant_base.specs.Faults.{Rose}
 use Rattle.ant_base.specs.Fetched.{Fetched}
 use Rattle.ant_base.specs.Number.{decimal_value}
-use Rattle.ant_base.specs.Sink.{NothingWaits}
+use Rattle.ant_base.specs.Sink.{NothingWaits, SinkState}
 use Rattle.ant_base.specs.declared.shelf.FetchFault.{FetchFault}
-use Rattle.ant_base.specs.declared.shelf.FetchFault.TheVariants.{Failed, TooLong}
+use Rattle.ant_base.specs.declared.shelf.FetchFault.TheVariants.{Failed, TooLong, OutOfMemory}
 use Rattle.command_words.proofs.ReadLemmas.{read-none}
 use Rattle.command_words.proofs.TableLemmas.{bytes_eq-same}
 use Rattle.command_words.proofs.WorkedLines.{words_of}
@@ -16,10 +15,12 @@ use Rattle.command_words.specs.Inner.Walk.{choice_of, command_kind_of, read_of}
 use Rattle.command_words.specs.Slots.{dumps_of, is_dumps, is_file_name}
 use Rattle.command_words.specs.declared.table.CommandKind.TheVariants.{Run}
 use Rattle.ant_commands.specs.Outside.{Outside}
-use Rattle.ant_commands.specs.RunPromise.{AreOptions, DidFetch, IsBrain, IsNotAccepted, IsOption, IsPrinted, IsRunOf, IsUnbegun, IsUnfit, IsUnread, IsWorld, RunAsked, RunEnds, StopsAt, fetch}
+use Rattle.ant_commands.specs.RunPromise.{AreOptions, bare_run, ComesNext, DidFetch, IsOption, IsPrinted, IsRunOf, IsText, IsUnbegun, IsUnfit, PushedPart, RunAsked, RunEnds, StopsAt, TextKind, fetch}
 use Rattle.ant_commands.specs.RunPromise.IsDumps.{NoRound, EveryRound, TheseRounds}
 use Rattle.ant_commands.specs.RunPromise.IsOption.{Seed, Rounds, Dump, Workers, Window, Surround, Corpse, Rest, Far}
-use Rattle.ant_commands.specs.RunPromise.StopsAt.{AtWorld, AtRed, AtBlack}
+use Rattle.ant_commands.specs.RunPromise.ComesNext.{WorldFirst, RedNext, BlackLast}
+use Rattle.ant_commands.specs.RunPromise.IsUnbegun.{NothingFetched, BytesCame, NoBytes}
+use Rattle.ant_commands.specs.RunPromise.TextKind.{OfWorld, OfBrain}
 use Rattle.ant_commands.proofs.RunWords.{table_run}
 
 -- what is asked for where no option says otherwise, and then with a seed, a number of rounds and a choice of them
@@ -40,7 +41,7 @@ abbrev ruled : ℕ → ℕ → ℕ → RunAsked
 ruled surround corpse rest = record (dumped (λ round. true)) { sheet = record { surround = surround; corpse = corpse; rest = rest } }
 
 -- what all options say, in another order than that of the table
-pub all_said : AreOptions
+pub all_said : AreOptions (bare_run (codes "w") (codes "r") (codes "b"))
     ((codes "--far", []) ∷ (codes "--rest", codes "1" ∷ []) ∷ (codes "--corpse", codes "2" ∷ []) ∷ (codes "--surround", codes "6" ∷ []) ∷ (codes "--window", codes "3" ∷ [])
     ∷ (codes "--workers", codes "4" ∷ []) ∷ (codes "--dump", codes "all" ∷ []) ∷ (codes "--rounds", codes "5" ∷ []) ∷ (codes "--seed", codes "7" ∷ []) ∷ [])
     (record bare { seed = 7; rounds = 5; dumps = λ round. true; sheet = record { surround = 6; corpse = 2; rest = 1 } })
@@ -76,7 +77,7 @@ all_said = (
 )
 
 -- and what is said without them
-pub least_said : AreOptions ((codes "--rounds", codes "5" ∷ []) ∷ (codes "--seed", codes "7" ∷ []) ∷ [])
+pub least_said : AreOptions (bare_run (codes "w") (codes "r") (codes "b")) ((codes "--rounds", codes "5" ∷ []) ∷ (codes "--seed", codes "7" ∷ []) ∷ [])
     (record bare { seed = 7; rounds = 5; dumps = λ round. false; sheet = record { surround = 5; corpse = 3; rest = 14 } })
 unfolding decimal_value
 least_said = (seeded, Rounds 5 (codes "5") (refl, omega arith, omega arith), (bare, Seed 7 (codes "7") (refl, omega arith, omega arith), refl))
@@ -119,7 +120,8 @@ reordered = record {
       ),
     ),
   );
-  needed = ((4, lit< tt, refl), ((3, lit< tt, refl), tt));
+  seeded = (4, lit< tt, refl);
+  limited = (3, lit< tt, refl);
 }
 
 -- the least and the greatest number of each option, and the words of dumps
@@ -198,36 +200,40 @@ unfolding command_kind_of choice_of is_among rest_after is_file_name is_dumps du
 two_commas = no_run (words_of (codes "run w r b --dump 1,,2 --seed 1 --rounds 2")) 6 refl
 
 -- a fetch that failed is no file that isn't accepted; one that was too long says so
-pub not_unfit : (says : List ℕ) → ¬ IsUnfit IsWorld (Err Failed) says
+not_unfit : (says : List ℕ) → ¬ IsUnfit OfWorld (Err Failed) says
 not_unfit says is = (let no : ⊥ = (let same = is.0 in cc) in no)
 
-pub long_is_unfit : IsUnfit IsWorld (Err TooLong) (codes "too long")
+pub long_is_unfit : IsUnfit OfWorld (Err TooLong) (codes "too long")
 long_is_unfit = (refl, refl)
 
--- what is printed is flushed, and the errors got nothing; where a file was not read or is not accepted nothing was written
+-- what is printed is flushed, and the errors got nothing
 printed_alone : (asked : RunAsked) (before after : Outside) → IsPrinted asked before after → (after.err ≡ before.err) × NothingWaits after.out.waiting
 printed_alone asked before after is = (is.silent, is.flushed)
 
-unread_alone : (asked : RunAsked) (before after : Outside) (is : IsUnread asked before after)
-    → (after.out ≡ before.out) × Rose before.shelf.faults after.shelf.faults × (before.shelf.sure is.name ≡ false)
-unread_alone asked before after is = (is.unwritten, is.rose, is.unsure)
+-- where a run stopped at a file, nothing was written
+stopped_alone : {asked : RunAsked} {before after : Outside} {kind : TextKind} {name : List ℕ} {answer : Result (List ℕ) FetchFault} → StopsAt asked before after kind name answer
+    → after.out ≡ before.out
+stopped_alone at = at.unwritten
 
-unaccepted_alone : (asked : RunAsked) (before after : Outside) → IsNotAccepted asked before after → after.out ≡ before.out
-unaccepted_alone asked before after is = is.unwritten
+-- so is it where it stopped before the text was begun, and what it fetched is told
+unbegun_alone : (asked : RunAsked) (before after : Outside) → IsUnbegun asked before after → (after.out ≡ before.out) × ((fetches : List Fetched) × DidFetch before after fetches)
+unbegun_alone asked before after (NothingFetched did unwritten) = (unwritten, ([], did))
+unbegun_alone asked before after (BytesCame kind name bytes at) = (at.unwritten, (at.earlier ++ (fetch name (Ok bytes) ∷ []), at.fetched))
+unbegun_alone asked before after (NoBytes kind name at) = (at.unwritten, (at.earlier ++ (fetch name (Err OutOfMemory) ∷ []), at.fetched))
 
-unbegun_alone : (asked : RunAsked) (before after : Outside) → IsUnbegun asked before after
-    → DidFetch before after (λ fetches. (fetches ≡ []) ⊎ StopsAt (λ IsText file answer. (answer ≢ Err Failed) × (answer ≢ Err TooLong)) asked fetches) × (after.out ≡ before.out)
-unbegun_alone asked before after is = (is.stopped, is.unwritten)
+-- of a text that is given up there is something left
+part_left : (out new_out : SinkState) (text : List ℕ) (part : PushedPart out new_out text) → 1 ≤ length part.1
+part_left out new_out text part = part.3
 
--- a run that stopped at a brain had fetched a world before it, and one that stopped at the black brain a red one too
-pub read_before : {IsSo : (List ℕ → Type 0) → List ℕ → Result (List ℕ) FetchFault → Type 0} {asked : RunAsked} {fetches : List Fetched} → StopsAt IsSo asked fetches
-    → ((answer : Result (List ℕ) FetchFault) × (fetches ≡ fetch asked.world answer ∷ []) × IsSo IsWorld asked.world answer)
-    ⊎ ((first : List ℕ) × (answer : Result (List ℕ) FetchFault) × (fetches ≡ fetch asked.world (Ok first) ∷ fetch asked.red answer ∷ []) × IsWorld first × IsSo IsBrain asked.red answer)
-    ⊎ ((first : List ℕ) × (second : List ℕ) × (answer : Result (List ℕ) FetchFault)
-    × (fetches ≡ fetch asked.world (Ok first) ∷ fetch asked.red (Ok second) ∷ fetch asked.black answer ∷ []) × IsWorld first × IsBrain second × IsSo IsBrain asked.black answer)
-read_before (AtWorld answer so) = inl (answer, refl, so)
-read_before (AtRed first answer is_world so) = inr (inl (first, answer, refl, is_world, so))
-read_before (AtBlack first second answer is_world is_brain so) = inr (inr (first, second, answer, refl, is_world, is_brain, so))
+-- before a brain a world was fetched, and before the black brain a red one too
+pub read_before : {asked : RunAsked} {kind : TextKind} {name : List ℕ} {earlier : List Fetched} → ComesNext asked kind name earlier
+    → ((kind ≡ OfWorld) × (name ≡ asked.world) × (earlier ≡ []))
+    ⊎ ((first : List ℕ) × (kind ≡ OfBrain) × (name ≡ asked.red) × (earlier ≡ fetch asked.world (Ok first) ∷ []) × IsText OfWorld first)
+    ⊎ ((first : List ℕ) × (second : List ℕ) × (kind ≡ OfBrain) × (name ≡ asked.black) × (earlier ≡ fetch asked.world (Ok first) ∷ fetch asked.red (Ok second) ∷ [])
+    × IsText OfWorld first × IsText OfBrain second)
+read_before WorldFirst = inl (refl, refl, refl)
+read_before (RedNext first is_world) = inr (inl (first, refl, refl, refl, is_world))
+read_before (BlackLast first second is_world is_brain) = inr (inr (first, second, refl, refl, refl, is_world, is_brain))
 
 -- no other status
 pub never_2 : (asked : RunAsked) (before after : Outside) → ¬ RunEnds asked before after 2

@@ -2,14 +2,12 @@
 -- that each run of the program keeps it; docs/RUN.md shows all that it rests on.
 use Rattle.std.specs.Prelude.{◌≡◌, ◌≢◌, ◌⊎◌, ℕ, ◌≤◌, nat_eq, Bool, true, false, List, [], ◌∷◌, ◌++◌, length, map, flat_map, ◌==◌, Some, Result, Ok, Err, codes}
 use Rattle.std.specs.List.{AllByRecursion, AllZip, Contains, list_any, slice_split}
-use Rattle.ant_base.specs.Faults.{Rose}
 use Rattle.ant_base.specs.Fetched.{Fetched}
 use Rattle.ant_base.specs.Layout.{◌+++◌}
 use Rattle.ant_base.specs.Number.{decimal_value}
-use Rattle.ant_base.specs.Shelf.{FetchesEach}
 use Rattle.ant_base.specs.Sink.{NothingWaits, PushedAll, PushedFront, SinkState}
 use Rattle.ant_base.specs.declared.shelf.FetchFault.{FetchFault}
-use Rattle.ant_base.specs.declared.shelf.FetchFault.TheVariants.{Failed, TooLong}
+use Rattle.ant_base.specs.declared.shelf.FetchFault.TheVariants.{Failed, TooLong, OutOfMemory}
 use Rattle.ant_turn.specs.Minds.{Minds}
 use Rattle.ant_turn.specs.Sheet.{Sheet}
 use Rattle.brain_read.specs.declared.instr.Instr.{Instr}
@@ -29,7 +27,7 @@ use Rattle.ant_commands.specs.Run.{IsNoCommand, IsRunTo}
 abbrev pub IsNumber : ℕ → ℕ → ℕ → List ℕ → Type 0
 IsNumber least greatest number word = (decimal_value word ≡ Some number) × (least ≤ number) × (number ≤ greatest)
 
--- a word chooses the rounds that are dumped: `none`, `all`, or their numbers with one comma between them, which is the byte 44
+-- a word chooses the rounds that are dumped: `none`, `all`, or the numbers of these rounds, with one comma between them, which is the byte 44
 pub data IsDumps : (ℕ → Bool) → List ℕ → Type 0 where
   NoRound : IsDumps (λ round. false) (codes "none")
   EveryRound : IsDumps (λ round. true) (codes "all")
@@ -46,7 +44,8 @@ pub record RunAsked : Type 0 where
   pub dumps : ℕ → Bool
   pub sheet : Sheet
 
--- an option: its name, the words behind it, and what is asked for with it, where the others ask for this; `--workers`, `--window` and `--far` change nothing
+-- `IsOption others name words asked`: the option of this name, with these words behind it, makes `asked` of `others`: `--seed 7` makes the seed 7. `--workers`,
+-- `--window` and `--far` change nothing
 pub data IsOption (others : RunAsked) : List ℕ → List (List ℕ) → RunAsked → Type 0 where
   Seed : (n : ℕ) (word : List ℕ) → IsNumber 0 4294967295 n word → IsOption others (codes "--seed") (word ∷ []) (record others { seed = n })
   Rounds : (n : ℕ) (word : List ℕ) → IsNumber 0 1000000 n word → IsOption others (codes "--rounds") (word ∷ []) (record others { rounds = n })
@@ -58,51 +57,72 @@ pub data IsOption (others : RunAsked) : List ℕ → List (List ℕ) → RunAske
   Rest : (n : ℕ) (word : List ℕ) → IsNumber 0 255 n word → IsOption others (codes "--rest") (word ∷ []) (record others { sheet = record others.sheet { rest = n } })
   Far : IsOption others (codes "--far") [] others
 
--- options, each a name and the words behind it, ask for this; where none says otherwise nothing is dumped and the rules are the contest's. The seed and
--- the rounds are always said
-abbrev pub AreOptions : List (List ℕ × List (List ℕ)) → RunAsked → Type 0
-AreOptions [] asked = asked ≡ record asked { seed = 0; rounds = 0; dumps = λ round. false; sheet = record { surround = 5; corpse = 3; rest = 14 } }
-AreOptions (option ∷ options) asked = (others : RunAsked) × IsOption others option.0 option.1 asked × AreOptions options others
+-- what options start from, where these are the files: nothing is dumped, and the rules are the contest's; a seed and a number of rounds are always said
+abbrev pub bare_run : List ℕ → List ℕ → List ℕ → RunAsked
+bare_run world red black =
+    record { world = world; red = red; black = black; seed = 0; rounds = 0; dumps = λ round. false; sheet = record { surround = 5; corpse = 3; rest = 14 } }
+
+-- options, each a name and the words behind it, make `asked` of `start`, one by one, the last first; as each stands once at most, their order doesn't matter
+abbrev pub AreOptions : RunAsked → List (List ℕ × List (List ℕ)) → RunAsked → Type 0
+AreOptions start [] asked = asked ≡ start
+AreOptions start (option ∷ options) asked = (others : RunAsked) × IsOption others option.0 option.1 asked × AreOptions start options others
 
 -- the words are `run`, the names of three files, and options in any order, each at most once, the seed and the rounds among them
 pub record IsRunOf (words : List (List ℕ)) (asked : RunAsked) : Type 0 where
   pub options : List (List ℕ × List (List ℕ))
   pub whole : words ≡ codes "run" ∷ asked.world ∷ asked.red ∷ asked.black ∷ flat_map (λ option. option.0 ∷ option.1) options
   pub names : AllByRecursion (λ name. is_file_name name ≡ true) (asked.world ∷ asked.red ∷ asked.black ∷ [])
-  pub said : AreOptions options asked
+  pub said : AreOptions (bare_run asked.world asked.red asked.black) options asked
   pub once : AllDiffer (map (λ option. option.0) options)
-  pub needed : AllByRecursion (Contains (map (λ option. option.0) options)) (codes "--seed" ∷ codes "--rounds" ∷ [])
+  pub seeded : Contains (map (λ option. option.0) options) (codes "--seed")
+  pub limited : Contains (map (λ option. option.0) options) (codes "--rounds")
 
 -- a fetch: the name that was asked for, and what was answered
 abbrev pub fetch : List ℕ → Result (List ℕ) FetchFault → Fetched
 fetch name answer = record { name = name; answer = answer }
 
--- some fetches were done, and this holds of them
-abbrev pub DidFetch : Outside → Outside → (List Fetched → Type 0) → Type 0
-DidFetch before after AreSo = (fetches : List Fetched) × FetchesEach before.shelf after.shelf fetches × AreSo fetches
+-- what was fetched in between, in order
+abbrev pub DidFetch : Outside → Outside → List Fetched → Type 0
+DidFetch before after fetches = after.shelf.log ≡ before.shelf.log ++ fetches
 
--- bytes are the text of a world, or of a brain
-abbrev pub IsWorld : List ℕ → Type 0
-IsWorld bytes = (world : Grid) × OpensAs bytes world
+-- what a file has to be: the text of a world, or of a brain
+pub data TextKind : Type 0 where
+  OfWorld : TextKind
+  OfBrain : TextKind
 
-abbrev pub IsBrain : List ℕ → Type 0
-IsBrain bytes = (brain : List Instr) × IsBrainText bytes brain
+-- bytes are a text of this kind
+abbrev pub IsText : TextKind → List ℕ → Type 0
+IsText OfWorld bytes = (world : Grid) × OpensAs bytes world
+IsText OfBrain bytes = (brain : List Instr) × IsBrainText bytes brain
 
--- a run stopped at one of its files: it was fetched last, those before it in order, as a world, then a brain; `IsSo` holds of `IsWorld` or `IsBrain`,
--- its name and the answer
-pub data StopsAt (IsSo : (List ℕ → Type 0) → List ℕ → Result (List ℕ) FetchFault → Type 0) (asked : RunAsked) : List Fetched → Type 0 where
-  AtWorld : (answer : Result (List ℕ) FetchFault) → IsSo IsWorld asked.world answer → StopsAt IsSo asked (fetch asked.world answer ∷ [])
-  AtRed : (first : List ℕ) (answer : Result (List ℕ) FetchFault) → IsWorld first → IsSo IsBrain asked.red answer
-      → StopsAt IsSo asked (fetch asked.world (Ok first) ∷ fetch asked.red answer ∷ [])
-  AtBlack : (first second : List ℕ) (answer : Result (List ℕ) FetchFault) → IsWorld first → IsBrain second → IsSo IsBrain asked.black answer
-      → StopsAt IsSo asked (fetch asked.world (Ok first) ∷ fetch asked.red (Ok second) ∷ fetch asked.black answer ∷ [])
+-- `ComesNext asked kind name earlier`: after the fetches `earlier` the file of this name comes next, and has to be a text of this kind
+pub data ComesNext (asked : RunAsked) : TextKind → List ℕ → List Fetched → Type 0 where
+  -- the world, after none
+  WorldFirst : ComesNext asked OfWorld asked.world []
+  -- red's brain, after a world
+  RedNext : (first : List ℕ) → IsText OfWorld first → ComesNext asked OfBrain asked.red (fetch asked.world (Ok first) ∷ [])
+  -- black's brain, after a world and a brain
+  BlackLast : (first second : List ℕ) → IsText OfWorld first → IsText OfBrain second
+      → ComesNext asked OfBrain asked.black (fetch asked.world (Ok first) ∷ fetch asked.red (Ok second) ∷ [])
 
--- the three files were fetched, in this order, and no others; they are a world and two brains, and `IsWritten` says what was written of the text of their game
+-- a run stopped at the file of this name, which has to be a text of this kind: it was fetched last, with this answer, and nothing was written
+pub record StopsAt (asked : RunAsked) (before after : Outside) (kind : TextKind) (name : List ℕ) (answer : Result (List ℕ) FetchFault) : Type 0 where
+  pub earlier : List Fetched
+  pub next : ComesNext asked kind name earlier
+  pub fetched : DidFetch before after (earlier ++ (fetch name answer ∷ []))
+  pub unwritten : after.out ≡ before.out
+
+-- a proper prefix of the text was appended, without a fault
+abbrev pub PushedPart : SinkState → SinkState → List ℕ → Type 0
+PushedPart out new_out text = (front : List ℕ) × (rest : List ℕ) × (text ≡ front ++ rest) × (1 ≤ length rest) × PushedAll out new_out front
+
+-- the three files were fetched, in this order, and no others; they are a world and two brains, and `IsWritten` says what was written of the text of their game:
+-- `PushedAll` at 0, `PushedFront` at 4, and `PushedPart` at 6
 pub record Plays (IsWritten : SinkState → SinkState → List ℕ → Type 0) (asked : RunAsked) (before after : Outside) : Type 0 where
   pub first : List ℕ
   pub second : List ℕ
   pub third : List ℕ
-  pub fetched : FetchesEach before.shelf after.shelf (fetch asked.world (Ok first) ∷ fetch asked.red (Ok second) ∷ fetch asked.black (Ok third) ∷ [])
+  pub fetched : DidFetch before after (fetch asked.world (Ok first) ∷ fetch asked.red (Ok second) ∷ fetch asked.black (Ok third) ∷ [])
   pub grid : Grid
   pub minds : Minds
   pub is_world : OpensAs first grid
@@ -121,13 +141,11 @@ pub record IsPrinted (asked : RunAsked) (before after : Outside) : Type 0 where
   pub flushed : NothingWaits after.out.waiting
   pub silent : after.err ≡ before.err
 
--- 3: the last fetch failed, of a name of which the shelf wasn't sure, and the shelf's count of faults rose; nothing was written
+-- 3: a file wasn't read: its fetch failed
 pub record IsUnread (asked : RunAsked) (before after : Outside) : Type 0 where
+  pub kind : TextKind
   pub name : List ℕ
-  pub stopped : DidFetch before after (StopsAt (λ IsText file answer. (file ≡ name) × (answer ≡ Err Failed)) asked)
-  pub unsure : before.shelf.sure name ≡ false
-  pub rose : Rose before.shelf.faults after.shelf.faults
-  pub unwritten : after.out ≡ before.out
+  pub stopped : StopsAt asked before after kind name (Err Failed)
   pub line : HasLine before.err after.err (codes "ants: " +++ name +++ codes ": not read\n")
 
 -- 4: the output failed after a prefix of the text
@@ -135,27 +153,29 @@ pub record IsCutOff (asked : RunAsked) (before after : Outside) : Type 0 where
   pub plays : Plays PushedFront asked before after
   pub line : HasLine before.err after.err (codes "ants: output failed\n")
 
--- an answer that is no such text, or too long, of which that is said
-abbrev pub IsUnfit : (List ℕ → Type 0) → Result (List ℕ) FetchFault → List ℕ → Type 0
-IsUnfit IsText (Ok bytes) says = ¬ IsText bytes
-IsUnfit IsText (Err fault) says = (fault ≡ TooLong) × (says ≡ codes "too long")
+-- bytes came that are no such text, and `says` is anything; or the fetch answered that the file is too long, and `says` is `too long`
+abbrev pub IsUnfit : TextKind → Result (List ℕ) FetchFault → List ℕ → Type 0
+IsUnfit kind (Ok bytes) _ = ¬ IsText kind bytes
+IsUnfit kind (Err fault) says = (fault ≡ TooLong) × (says ≡ codes "too long")
 
--- 5: a file is no world or no brain, or was answered as too long; nothing was written. What the line says of a text that is none is left to the law `headline`
+-- 5: a file is no world or no brain, or its fetch answered that it is too long. Which fault of a text the line tells, the law `headline` says
 pub record IsNotAccepted (asked : RunAsked) (before after : Outside) : Type 0 where
+  pub kind : TextKind
   pub name : List ℕ
+  pub answer : Result (List ℕ) FetchFault
   pub says : List ℕ
-  pub stopped : DidFetch before after (StopsAt (λ IsText file answer. (file ≡ name) × IsUnfit IsText answer says) asked)
-  pub unwritten : after.out ≡ before.out
+  pub stopped : StopsAt asked before after kind name answer
+  pub unfit : IsUnfit kind answer says
   pub line : HasLine before.err after.err (codes "ants: " +++ name +++ codes ": " +++ says +++ codes "\n")
 
--- it stopped before the text was begun; no fetch failed or was too long
-pub record IsUnbegun (asked : RunAsked) (before after : Outside) : Type 0 where
-  pub stopped : DidFetch before after (λ fetches. (fetches ≡ []) ⊎ StopsAt (λ IsText file answer. (answer ≢ Err Failed) × (answer ≢ Err TooLong)) asked fetches)
-  pub unwritten : after.out ≡ before.out
-
--- a proper prefix of the text was appended
-abbrev pub PushedPart : SinkState → SinkState → List ℕ → Type 0
-PushedPart out new_out text = (front : List ℕ) × (rest : List ℕ) × (text ≡ front ++ rest) × (1 ≤ length rest) × PushedAll out new_out front
+-- the text wasn't begun, and nothing was written
+pub data IsUnbegun (asked : RunAsked) (before after : Outside) : Type 0 where
+  -- it stopped before the first fetch
+  NothingFetched : DidFetch before after [] → after.out ≡ before.out → IsUnbegun asked before after
+  -- or after a file whose bytes came, whether they are such a text or not
+  BytesCame : (kind : TextKind) (name bytes : List ℕ) → StopsAt asked before after kind name (Ok bytes) → IsUnbegun asked before after
+  -- or at a fetch that answered out of memory
+  NoBytes : (kind : TextKind) (name : List ℕ) → StopsAt asked before after kind name (Err OutOfMemory) → IsUnbegun asked before after
 
 -- 6: it gave up for want of memory, before the text or within it
 pub record WantsMemory (asked : RunAsked) (before after : Outside) : Type 0 where
@@ -171,8 +191,9 @@ RunEnds asked before after number =
     ⊎ ((number ≡ 5) × IsNotAccepted asked before after)
     ⊎ ((number ≡ 6) × WantsMemory asked before after)
 
--- the promise of a run: where words ask for one and the program ends, it ends so; no words ask for two; and words that begin with `run`, have no
--- `--stats` and aren't refused (status 2) ask for one
+-- the promise of a run. `IsRunOf words asked`: these words ask for this run. `IsRunTo words before after number`: the program, called with these words, ended
+-- with this number. So a run ended as `RunEnds` says; words ask for one run at most; and where the program, called with `run` and other words, no `--stats`
+-- among them, didn't end with 2, `run` and these words ask for a run
 pub record RunPromise : Type 0 where
   pub kept : (words : List (List ℕ)) (asked : RunAsked) → IsRunOf words asked
       → (before after : Outside) (number : ℕ) → IsRunTo words before after number → RunEnds asked before after number
