@@ -95,7 +95,7 @@ class RunPage:
         if before.endswith(".") and not isinstance(of, Call):
             owners = [it for it in self.reached if it.shape in ("record", "type") and text in it.members()]
             to = owners[0] if len(owners) == 1 else None
-        if to is None and text in self.told and not text[0].isalnum() and not isinstance(of, Call):
+        if to is None and text in self.told and not text[0].isalnum() and not isinstance(of, (Call, CodeType)):
             to = text  # a sign of the language
         if isinstance(to, str):
             self.library.add(to)
