@@ -3,6 +3,7 @@ use Rattle.std.proofs.Common.{◌≡◌, ◌≢◌, ◌⊎◌, inl, inr, ℕ, Bo
 use Rattle.std.specs.List.{Contains, flat_map}
 use Rattle.std.proofs.lemmas.Bool.{false≢true}
 use Rattle.std.proofs.lemmas.List.{append-nil, append_assoc}
+use Rattle.ant_base.specs.Faults.{Rose}
 use Rattle.ant_base.specs.Fetched.{Fetched}
 use Rattle.ant_base.specs.Layout.{◌+++◌}
 use Rattle.ant_base.specs.Shelf.{FetchesEach, ShelfState}
@@ -37,7 +38,7 @@ use Rattle.ant_commands.specs.Jobs.{job_of, run_job}
 use Rattle.ant_commands.specs.Outputs.{ReadGame, brain_file, chosen_rounds, game_contents, game_files, match_output, minds_named, sheet_named, world_file}
 use Rattle.ant_commands.specs.Outside.{Outside}
 use Rattle.ant_commands.specs.Run.{GotLine, IsRunTo}
-use Rattle.ant_commands.specs.RunPromise.{ComesNext, DidFetch, HasLine, IsCutOff, IsNotAccepted, IsPrinted, IsRunOf, IsText, IsUnbegun, IsUnfit, IsUnread, Plays, PushedPart, RefusedWords, RunAsked, RunEnds, RunPromise, StopsAt, TextKind, WantsMemory, fetch}
+use Rattle.ant_commands.specs.RunPromise.{ComesNext, DidFetch, HasLine, IsCutOff, IsNotAccepted, IsPrinted, IsRunOf, IsText, IsUnbegun, IsUnfit, IsUnread, Plays, PushedPart, RefusedWords, RunAsked, RunEnds, RunPromise, RunShelf, StopsAt, TextKind, WantsMemory, fetch}
 use Rattle.ant_commands.specs.RunPromise.ComesNext.{WorldFirst, RedNext, BlackLast}
 use Rattle.ant_commands.specs.RunPromise.IsUnbegun.{NothingFetched, BytesCame, NoBytes}
 use Rattle.ant_commands.specs.RunPromise.TextKind.{OfWorld, OfBrain}
@@ -213,6 +214,12 @@ last_unsure : (shelf : ShelfState) (name : List ℕ) (kind : FileKind) (text : T
     → IsLast (IsFailedFetch name) text other last
 last_unsure shelf name kind text other last is = record { answer = Err why.Failed; got = is.failed; such = (is.named, refl) }
 
+never_sure : (shelf : ShelfState) (name : List ℕ) (list : List File) (fetches : List Fetched) → files.StopsAt (IsUnsure shelf name) list fetches → shelf.sure name ≡ false
+never_sure shelf name [] fetches at = absurd at
+never_sure shelf name (file ∷ list) [] at = absurd at
+never_sure shelf name (file ∷ list) (fetch ∷ fetches) (inl here) = here.0.unsure
+never_sure shelf name (file ∷ list) (fetch ∷ fetches) (inr later) = never_sure shelf name list fetches later.2
+
 -- status 5
 abbrev IsUnfitFile : List ℕ → List ℕ → TextKind → List ℕ → Answer → Type 0
 IsUnfitFile name says kind file answer = (file ≡ name) × IsUnfit kind answer says
@@ -261,17 +268,26 @@ record HasStopped (world red black : List ℕ) (setup : RunSetup) (before after 
   stopped : StopsFor (run_job world red black setup) before after fetches reason
   line : GotLine before.err after.err (fault_line reason)
 
-unread : (world red black : List ℕ) (setup : RunSetup) (before after : Outside) (name : List ℕ) → HasStopped world red black setup before after (AtFile name) → IsUnread (asked_for world red black setup) before after
-unfolding fault_line
-unread world red black setup before after name it =
+-- where a file was not read
+unread_at : (world red black : List ℕ) (setup : RunSetup) (before after : Outside) (name : List ℕ) → HasStopped world red black setup before after (AtFile name)
+    → (kind : TextKind) × StopsAt (asked_for world red black setup) before after kind name (Err why.Failed)
+unread_at world red black setup before after name it =
     let asked = asked_for world red black setup in
     let stop : IsStop (IsFailedFetch name) asked before after =
     stops (IsUnsure before.shelf name) (IsFailedFetch name) (last_unsure before.shelf name WorldFile OfWorld) (last_unsure before.shelf name BrainFile OfBrain)
-    asked before after it.stopped.unwritten it.fetches it.stopped.stopped it.fetched.log in
+    asked before after it.stopped.unwritten it.fetches it.stopped.stopped it.fetched.log in (
+      stop.kind,
+      subst (λ (answer : Answer). StopsAt asked before after stop.kind name answer) stop.such.1 (subst (λ (n : List ℕ). StopsAt asked before after stop.kind n stop.answer) stop.such.0 stop.at),
+    )
+
+unread : (world red black : List ℕ) (setup : RunSetup) (before after : Outside) (name : List ℕ) → HasStopped world red black setup before after (AtFile name) → IsUnread (asked_for world red black setup) before after
+unfolding fault_line
+unread world red black setup before after name it =
+    let at = unread_at world red black setup before after name it in
     record {
-      kind = stop.kind;
+      kind = at.0;
       name = name;
-      stopped = subst (λ (answer : Answer). StopsAt asked before after stop.kind name answer) stop.such.1 (subst (λ (n : List ℕ). StopsAt asked before after stop.kind n stop.answer) stop.such.0 stop.at);
+      stopped = at.1;
       line = subst (HasLine before.err after.err) (ap (λ (says : List ℕ). codes "ants: " +++ says) (append_assoc name (codes ": not read") (codes "\n")))
           (has_line before.err after.err (fault_line (AtFile name)) it.line);
     }
@@ -398,6 +414,25 @@ every words before after number run other uncounted =
 
 pub run_promise : RunPromise
 run_promise = record { kept = kept; one = one; every = every }
+
+-- a run at whose end a file was not read
+unread_of : (words : List (List ℕ)) (asked : RunAsked) → IsRunOf words asked → (before after : Outside) → IsRunTo words before after 3
+    → (kind : TextKind) × (name : List ℕ) × StopsAt asked before after kind name (Err why.Failed) × (before.shelf.sure name ≡ false) × Rose before.shelf.faults after.shelf.faults
+unread_of words asked is before after run =
+    let it : IsTableRun words asked = table_run words asked is in
+    let plain : PlainAsked = asked_in Run words in
+    let found = (headline words before after 3 run).not_read refl in
+    let stop = has_stopped words before after (AtFile found.0) it.is found.1 in
+    let at = unread_at (plain.file 0) (plain.file 1) (plain.file 2) (setup_of plain) before after found.0 stop in
+    subst (λ (a : RunAsked). (kind : TextKind) × (name : List ℕ) × StopsAt a before after kind name (Err why.Failed) × (before.shelf.sure name ≡ false) × Rose before.shelf.faults after.shelf.faults)
+    it.said
+    (at.0, found.0, at.1, never_sure before.shelf found.0 (game_files (plain.file 0) (plain.file 1) (plain.file 2)) stop.fetches stop.stopped.stopped, stop.stopped.rose)
+
+pub run_shelf : RunShelf
+run_shelf = record {
+  each = λ words asked is before after number run. (run.run.fetches, run.run.fetched);
+  unread = unread_of;
+}
 
 accepted : (words : List (List ℕ)) (plain : PlainAsked) → IsCommand words plain → plain.kind ≡ Run → plain.has choice.Stats ≡ false → (asked : RunAsked) × IsRunOf words asked
 accepted words plain is run off =

@@ -2,9 +2,11 @@
 -- that each run of the program keeps it; docs/RUN.md shows all that it rests on.
 use Rattle.std.specs.Prelude.{◌≡◌, ◌≢◌, ◌⊎◌, ℕ, ◌≤◌, nat_eq, Bool, true, false, List, [], ◌∷◌, ◌++◌, length, map, flat_map, ◌==◌, Some, Result, Ok, Err, codes}
 use Rattle.std.specs.List.{AllByRecursion, AllZip, Contains, list_any, slice_split}
+use Rattle.ant_base.specs.Faults.{Rose}
 use Rattle.ant_base.specs.Fetched.{Fetched}
 use Rattle.ant_base.specs.Layout.{◌+++◌}
 use Rattle.ant_base.specs.Number.{decimal_value}
+use Rattle.ant_base.specs.Shelf.{FetchesEach}
 use Rattle.ant_base.specs.Sink.{NothingWaits, PushedAll, PushedFront, SinkState}
 use Rattle.ant_base.specs.declared.shelf.FetchFault.{FetchFault}
 use Rattle.ant_base.specs.declared.shelf.FetchFault.TheVariants.{Failed, TooLong, OutOfMemory}
@@ -200,6 +202,14 @@ pub record RunPromise : Type 0 where
   pub one : (words : List (List ℕ)) (a b : RunAsked) → IsRunOf words a → IsRunOf words b → a ≡ b
   pub every : (words : List (List ℕ)) (before after : Outside) (number : ℕ) → IsRunTo (codes "run" ∷ words) before after number → number ≢ 2
       → ¬ Contains words (codes "--stats") → (asked : RunAsked) × IsRunOf (codes "run" ∷ words) asked
+
+-- what a run does to its shelf besides. `each`: its fetches agree with what the shelf tells, contents and sureness stay, and the count of faults falls never;
+-- `unread`: at 3 the shelf wasn't sure of the file at which the run stopped, and its count of faults rose
+pub record RunShelf : Type 0 where
+  pub each : (words : List (List ℕ)) (asked : RunAsked) → IsRunOf words asked → (before after : Outside) (number : ℕ) → IsRunTo words before after number
+      → (fetches : List Fetched) × FetchesEach before.shelf after.shelf fetches
+  pub unread : (words : List (List ℕ)) (asked : RunAsked) → IsRunOf words asked → (before after : Outside) → IsRunTo words before after 3
+      → (kind : TextKind) × (name : List ℕ) × StopsAt asked before after kind name (Err Failed) × (before.shelf.sure name ≡ false) × Rose before.shelf.faults after.shelf.faults
 
 -- words that are no command end with status 2 at the refused word; and what the table of commands has as a `run` without `--stats` is one
 pub record RefusedWords : Type 0 where

@@ -1,6 +1,6 @@
 // Laws on the definitions of what a command does. Each is proved by a function that does nothing.
 ghost use Rattle.ant_commands.specs.Headline.{Headline};
-ghost use Rattle.ant_commands.specs.RunPromise.{RefusedWords, RunPromise};
+ghost use Rattle.ant_commands.specs.RunPromise.{RefusedWords, RunPromise, RunShelf};
 ghost use Rattle.ant_commands.specs.Verdict.{JudgesOnce};
 ghost use Rattle.ant_commands.specs.Laws.{AssembledAndMinimised, HasOutput, OneText, SavesAreResumed, TextsEndInLf, WindowsChangeCountsAlone, WorkersChangeNothing};
 
@@ -14,6 +14,12 @@ pub fn headline()
 /// errors. The words of a `run` name one game; and words that begin with `run`, have no `--stats` and are not refused are such words.
 pub fn run_promise()
     ensures { RunPromise }
+{}
+
+/// What such a run does to its shelf besides: its fetches agree with what the shelf tells of its contents and of a file's greatest length; and where a file
+/// was not read, the shelf was not sure of it, and its count of faults rose.
+pub fn run_shelf()
+    ensures { RunShelf }
 {}
 
 /// Words that are no command end with status 2 at the first word that is refused; and what the table of commands has as a `run` without
