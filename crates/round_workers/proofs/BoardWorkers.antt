@@ -7,7 +7,7 @@ use Rattle.std.proofs.lemmas.Bool.{and_from, and_parts, false≢true, le-leb, le
 use Rattle.cell_world.specs.Cell.{one_if}
 use Rattle.cell_world.specs.World.{World}
 use Rattle.ant_turn.specs.Minds.{Minds}
-use Rattle.spec_record.specs.Look.{LookValue, look_of}
+use Rattle.spec_record.specs.Look.{look_of}
 use Rattle.round_book.specs.Book.{BookValue, FieldValue, IsLentFor, IsSameWindow, StandsFor, StandsOn, window_of}
 use Rattle.round_book.specs.Machine.{times}
 use Rattle.round_book.specs.Window.{Window, guess_for, look_for}
@@ -175,14 +175,6 @@ module _ (field : FieldValue) (window : Window) (lent : IsLentFor field window) 
 pub look-so : (window : Window) (t g seed : ℕ) (minds : Minds) (base : World) → minds ≡ window.minds → seed ≡ window.seed → base ≡ window.base → g ≡ guess_for window t → look_of minds seed base g t ≡ look_for window t
 unfolding look_for
 look-so window t g seed minds base em es eb eg = λ k. look_of (em k) (es k) (eb k) (eg k) t
-
--- the turn of a look of a window, and its ticket
-pub look-turn : (window : Window) (look : LookValue) (t : ℕ) → look ≡ look_for window t → look.turn ≡ t
-unfolding look_for look_of
-look-turn window look t is = ap (λ (l : LookValue). l.turn) is
-
-pub look-again : (window : Window) (look : LookValue) (t : ℕ) → look ≡ look_for window t → look ≡ look_for window look.turn
-look-again window look t is = is ∙ ap (look_for window) (sym (look-turn window look t is))
 
 -- a field that is lent for a window has it, between the window's ends
 pub window_at : (field : FieldValue) (window : Window) → IsLentFor field window → (from to : ℕ) → from ≡ window.from → to ≡ window.to → window_of field from to ≡ window

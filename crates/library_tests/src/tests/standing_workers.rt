@@ -1,7 +1,6 @@
-// Looks that a job makes of a game's first round, against fields that are the same and others; and what takes memory, with it.
+// Errands by far workers, who look at the same time; and what takes memory, with it.
 ghost use Rattle.std.specs.Prelude.{◌≡◌, ◌≤◌, true, IfOk, length};
 ghost use Rattle.std.specs.Option.{ForSome};
-ghost use Rattle.std.specs.Arc.{arc_value};
 ghost use Rattle.ant_base.specs.Shelf.{longest};
 ghost use Rattle.ant_turn.specs.Minds.{Fits, minds_of};
 ghost use Rattle.cell_world.specs.Grid.{world_of};
@@ -10,84 +9,26 @@ use ant_base::{Gate, LONGEST, NoGate};
 use ant_turn::{Brains, Sheet};
 use brain_read::{Brain, read_brain};
 use cell_world::World;
-use far_crew::{Errand, FarCrew, Found, Job, OwnBrains, agrees, with_far};
-use round_book::{Crew, Field, play_window};
+use far_crew::{Errand, FarCrew, with_far};
+use round_book::{Crew, Field};
 use std::alloc::Global;
 use std::hint::spin_loop;
 use std::process::Abort;
+use std::sync::Wait;
 use std::sync::atomic::{AtomicBool, AtomicU32, Ordering};
-use std::sync::{Arc, Wait};
 use std::test::Fail;
 use std::thread::Threads;
 use world_read::read_world;
 
 // The world in which a surrounded ant dies in the first round, the brains, and its seed.
-pub(crate) const WORLD: &str =
+const WORLD: &str =
     "7\n6\n# # # # # # #\n # . . . . . #\n# . . - # . #\n # - . + - # #\n# + . - - # #\n # # # # # # #\n";
-
-// The same with a rocky column more, with a rocky row more, and with a hill cell more in row order, so that all ids are the same.
-const WIDER: &str =
-    "8\n6\n# # # # # # # #\n # . . . . . # #\n# . . - # . # #\n # - . + - # # #\n# + . - - # # #\n # # # # # # # #\n";
-
-const HIGHER: &str =
-    "7\n7\n# # # # # # #\n # . . . . . #\n# . . - # . #\n # - . + - # #\n# + . - - # #\n # # # # # # #\n# # # # # # #\n";
-
-const CROWDED: &str =
-    "7\n6\n# # # # # # #\n # . . . . . #\n# . . - # . #\n # - . + - # #\n# + . - - + #\n # # # # # # #\n";
 
 const FLIPS: &str = "Flip 2 0 0";
 
 pub(crate) const MOVES: &str = "Move 0 0";
 
-pub(crate) const SEED: u32 = 12345;
-
-// The guesses of the seven turns: each red ant draws, and no black one.
-const GUESSES: [u64; 7] = [0, 0, 0, 1, 1, 2, 2];
-
-// Turns of the looks with guesses, and whether they agree with the field on which they were made.
-const OPENING: [(u32, u64, bool); 8] = [
-    (0, 0, true),
-    (1, 0, true),
-    (2, 0, true),
-    (3, 1, true),
-    (4, 1, true),
-    (5, 2, true),
-    (6, 2, true),
-    (4, 0, false),
-];
-
-// With the field after the round: a cell that turn 1 reads is another, and the ant of turn 2 is dead.
-const LATER: [(u32, u64, bool); 7] = [
-    (0, 0, true),
-    (1, 0, false),
-    (2, 0, false),
-    (3, 1, true),
-    (4, 1, true),
-    (5, 2, true),
-    (6, 2, true),
-];
-
-// With a field of another seed, of other rules, or on a world of another width, height or number of ids.
-const OTHERS: [(u32, u64, bool); 7] = [
-    (0, 0, false),
-    (1, 0, false),
-    (2, 0, false),
-    (3, 1, false),
-    (4, 1, false),
-    (5, 2, false),
-    (6, 2, false),
-];
-
-// With a field on which the black ants have another instruction.
-const REDS: [(u32, u64, bool); 7] = [
-    (0, 0, false),
-    (1, 0, false),
-    (2, 0, true),
-    (3, 1, false),
-    (4, 1, true),
-    (5, 2, false),
-    (6, 2, false),
-];
+const SEED: u32 = 12345;
 
 // The brains of a game.
 #[derive(Drop)]
@@ -109,7 +50,7 @@ pub(crate) fn make_players<R: Abort>(rt: &R, alloc: Global, black: &str) -> Resu
 }
 
 // The world of a text, which these brains fit.
-pub(crate) fn opened_world(alloc: Global, text: &[u8], brains: Brains<'_>) -> Result<World, Fail>
+fn opened_world(alloc: Global, text: &[u8], brains: Brains<'_>) -> Result<World, Fail>
     requires { length text.now ≤ longest }
     ensures { IfOk result (λ world. Fits (world_of world) (minds_of brains.entry)) }
 {
@@ -133,150 +74,18 @@ pub(crate) fn field_on<'b>(
     Ok(Field::new(alloc, world, brains, seed, 0)?)
 }
 
-// A whole field at the start of a game on the world of a text.
-fn field_in<'b, R: Abort>(
-    rt: &R,
-    alloc: Global,
-    text: &str,
-    players: &'b Players,
-    sheet: Sheet,
-    seed: u32,
-) -> Result<Field<'b>, Fail>
+// A whole field at the start of the game.
+fn field_of<'b, R: Abort>(rt: &R, alloc: Global, players: &'b Players) -> Result<Field<'b>, Fail>
     ensures { IfOk result (λ field. (field.whole ≡ true) × (field.place ≡ 0)) }
 {
-    let bytes = text.as_bytes();
+    let bytes = WORLD.as_bytes();
     assert!(rt; bytes.len() <= LONGEST);
     let brains = Brains {
         red: &players.red,
         black: &players.black,
-        sheet,
+        sheet: Sheet::contest(),
     };
-    field_on(alloc, bytes, brains, seed)
-}
-
-// A whole field at the start of the game.
-pub(crate) fn field_of<'b, R: Abort>(
-    rt: &R,
-    alloc: Global,
-    players: &'b Players,
-    sheet: Sheet,
-    seed: u32,
-) -> Result<Field<'b>, Fail>
-    ensures { IfOk result (λ field. (field.whole ≡ true) × (field.place ≡ 0)) }
-{
-    field_in(rt, alloc, WORLD, players, sheet, seed)
-}
-
-// Copies of a field's brains.
-fn own_brains(alloc: Global, field: &Field<'_>) -> Result<Arc<OwnBrains>, Fail>
-    ensures { IfOk result (λ minds. arc_value minds ≡ field.now.minds) }
-{
-    Ok(Arc::new(alloc, OwnBrains::of(alloc, field.brains())?)?)
-}
-
-// A copy of its world.
-fn base_of(alloc: Global, field: &Field<'_>) -> Result<Arc<World>, Fail>
-    ensures { IfOk result (λ base. arc_value base ≡ field.now.world) }
-{
-    Ok(Arc::new(alloc, field.world().copy(alloc)?)?)
-}
-
-// The looks at all turns of a field's first round, each at the guess of the row.
-fn found_on<R: Abort>(rt: &R, alloc: Global, field: &Field<'_>) -> Result<Found, Fail> {
-    assert!(rt; 7 <= field.world().ant_count());
-    let minds = own_brains(alloc, field)?;
-    let base = base_of(alloc, field)?;
-    let job = Job::of(alloc, field, minds, base, 0, 7, &GUESSES)?;
-    Ok(job.work(&NoGate, 0))
-}
-
-// Asserts of each row whether the look at its turn agrees with a field at its guess.
-fn check_rows<R: Abort>(rt: &R, field: &Field<'_>, found: &Found, rows: &[(u32, u64, bool)]) {
-    for (turn, guess, wanted) in rows {
-        assert!(rt; (*turn as usize) < found.len());
-        assert_eq!(rt; agrees(field, found, *turn, *guess), *wanted, "turn {turn}");
-    }
-}
-
-// The looks of the game's first round.
-fn first_looks<R: Abort>(rt: &R, alloc: Global) -> Result<Found, Fail> {
-    let players = make_players(rt, alloc, MOVES)?;
-    let field = field_of(rt, alloc, &players, Sheet::contest(), SEED)?;
-    found_on(rt, alloc, &field)
-}
-
-// Asserts the same of the looks of the game's first round.
-fn check_first<R: Abort>(
-    rt: &R,
-    alloc: Global,
-    field: &Field<'_>,
-    rows: &[(u32, u64, bool)],
-) -> Result<(), Fail> {
-    let found = first_looks(rt, alloc)?;
-    check_rows(rt, field, &found, rows);
-    Ok(())
-}
-
-// Asserts the same of them with a field of other rules, another seed and another black brain.
-fn check_field<R: Abort>(
-    rt: &R,
-    alloc: Global,
-    black: &str,
-    sheet: Sheet,
-    seed: u32,
-    rows: &[(u32, u64, bool)],
-) -> Result<(), Fail> {
-    let players = make_players(rt, alloc, black)?;
-    let field = field_of(rt, alloc, &players, sheet, seed)?;
-    check_first(rt, alloc, &field, rows)
-}
-
-#[test]
-fn looks_agree_with_their_field(rt: HostRuntime) -> Result<(), Fail> {
-    check_field(&rt, rt.alloc(), MOVES, Sheet::contest(), SEED, &OPENING)
-}
-
-#[test]
-fn looks_of_another_game_dont_agree(rt: HostRuntime) -> Result<(), Fail> {
-    check_field(&rt, rt.alloc(), MOVES, Sheet::contest(), 1, &OTHERS)?;
-    check_field(&rt, rt.alloc(), MOVES, Sheet::new(5, 3, 0), SEED, &OTHERS)?;
-    check_field(&rt, rt.alloc(), FLIPS, Sheet::contest(), SEED, &REDS)
-}
-
-// Asserts of the looks of the game's first round that none agrees with the same game on another world.
-fn check_world<R: Abort>(rt: &R, alloc: Global, text: &str) -> Result<(), Fail> {
-    let players = make_players(rt, alloc, MOVES)?;
-    let field = field_in(rt, alloc, text, &players, Sheet::contest(), SEED)?;
-    check_first(rt, alloc, &field, &OTHERS)
-}
-
-#[test]
-fn looks_on_a_world_of_other_numbers_dont_agree(rt: HostRuntime) -> Result<(), Fail> {
-    check_world(&rt, rt.alloc(), WIDER)?;
-    check_world(&rt, rt.alloc(), HIGHER)?;
-    check_world(&rt, rt.alloc(), CROWDED)
-}
-
-// The field after the round.
-fn later_field<'b, R: Abort>(rt: &R, alloc: Global, players: &'b Players) -> Result<Field<'b>, Fail>
-    ensures { IfOk result (λ field. field.whole ≡ true) }
-{
-    let mut field = field_of(rt, alloc, players, Sheet::contest(), SEED)?;
-    let ids = field.world().ant_count();
-    play_window(&NoGate, alloc, &mut field, 0, ids)?;
-    Ok(field)
-}
-
-// Asserts of the rows with the field after the round whether the looks of the round agree with it.
-fn check_later<R: Abort>(rt: &R, alloc: Global, players: &Players) -> Result<(), Fail> {
-    let field = later_field(rt, alloc, players)?;
-    check_first(rt, alloc, &field, &LATER)
-}
-
-#[test]
-fn looks_agree_with_a_later_field_where_it_is_the_same(rt: HostRuntime) -> Result<(), Fail> {
-    let players = make_players(&rt, rt.alloc(), MOVES)?;
-    check_later(&rt, rt.alloc(), &players)
+    field_on(alloc, bytes, brains, SEED)
 }
 
 // An errand that ends at once.
@@ -382,7 +191,7 @@ impl Gate for Told {
 
 // Asserts that a window of three turns by five workers, none of which was started, is announced turn by turn with the number of workers.
 fn check_unstarted<R: Wait + Abort>(rt: &R, alloc: Global, players: &Players) -> Result<(), Fail> {
-    let mut field = field_of(rt, alloc, players, Sheet::contest(), SEED)?;
+    let mut field = field_of(rt, alloc, players)?;
     assert!(rt; 3 <= field.world().ant_count());
     let told = Told {
         calls: AtomicU32::new(0),
@@ -468,7 +277,7 @@ fn check_pair<R: Threads + Wait + Sync + Abort>(
     alloc: Global,
     players: &Players,
 ) -> Result<(), Fail> {
-    let field = field_of(rt, alloc, players, Sheet::contest(), SEED)?;
+    let field = field_of(rt, alloc, players)?;
     let pair = Pair::new();
     let errand = FirstRound {
         alloc,
