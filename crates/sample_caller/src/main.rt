@@ -11,12 +11,15 @@ mod played;
 mod refusal;
 mod watched;
 
+ghost use Rattle.world_read.specs.Opened.{IsOpeningWorld};
+
 use crate::fetcher::{fetcher, play_fetchers, small_fetcher};
 use crate::played::{play, push_outcome};
 use crate::watched::first_laden;
 use ant_base::{FileShelf, Layout, OutSink, Shelf, Sink, layout, read_u32_within};
 use ant_turn::{Brains, Sheet};
 use anyhow::{Context, Result, bail};
+use cell_world::World;
 use dump_print::push_score;
 use match_run::MOST_ROUNDS;
 use std::alloc::Global;
@@ -48,12 +51,10 @@ fn play_words<S: Shelf, K: Sink>(
     Ok(())
 }
 
-// Prints the score of fetchers in the corridor, and after which round its ant carries food.
-fn show_fetchers<K: Sink>(alloc: Global, out: &mut K) -> Result<()> {
-    let world = read_world(alloc, CORRIDOR.as_bytes())?;
-    let small = small_fetcher(alloc)?;
-    push_score(play_fetchers(&small, world, ROUNDS), out)?;
-    let world = read_world(alloc, CORRIDOR.as_bytes())?;
+// Prints after which round of a game by fetchers ant 0 carries food.
+fn show_first_laden<K: Sink>(alloc: Global, world: World, out: &mut K) -> Result<()>
+    requires { IsOpeningWorld world }
+{
     let brain = fetcher(alloc)?;
     let brains = Brains {
         red: &brain,
@@ -65,6 +66,14 @@ fn show_fetchers<K: Sink>(alloc: Global, out: &mut K) -> Result<()> {
         None => "ant 0 carries no food\n".push_to(out)?,
     }
     Ok(())
+}
+
+// Prints the score of fetchers in the corridor, and after which round its ant carries food.
+fn show_fetchers<K: Sink>(alloc: Global, out: &mut K) -> Result<()> {
+    let small = small_fetcher(alloc)?;
+    let world = read_world(alloc, CORRIDOR.as_bytes())?;
+    push_score(play_fetchers(&small, world, ROUNDS), out)?;
+    show_first_laden(alloc, read_world(alloc, CORRIDOR.as_bytes())?, out)
 }
 
 fn main(rt: HostRuntime) -> Result<()> {
