@@ -36,8 +36,8 @@ def glossary_page():
     return "# Glossary\n\nWords that are coined here, or used in a sense of their own. Made by `.ci/make-documents` from `docs/glossary.txt`.\n\n" + table(("word", "sense"), found)
 
 
-def wrong_bodies(name):
-    return glob.glob("crates/%s/must-fail/*.edit" % name)
+def wrong_bodies(name, folder="must-fail"):
+    return glob.glob("crates/%s/%s/*.edit" % (name, folder))
 
 
 def cost_rows():
@@ -53,8 +53,8 @@ def cost_table():
     measured, names = cost_rows(), [it.name for it in crates()]
     for name in set(measured) - set(names):
         raise Unknown("%s: there is no crate %s" % (COSTS, name))
-    figures = [["`%s`" % name] + [it.strip("-") for it in measured.get(name, ["not measured", "-", "-"])] + [str(len(wrong_bodies(name)) or "")] for name in names]
-    return table(("crate", "proved", "with its tests", "its wrong bodies", "how many"), figures)
+    figures = [["`%s`" % name] + [it.strip("-") for it in measured.get(name, ["not measured", "-", "-"])] + [str(len(wrong_bodies(name, it)) or "") for it in ("must-fail", "planted")] for name in names]
+    return table(("crate", "proved", "with its tests", "its wrong bodies", "how many", "beside the gate"), figures)
 
 
 def planted_table():
@@ -72,9 +72,9 @@ def gate_page():
     return (
         "# The gate\n\nMade by `.ci/make-documents` from `docs/gate_costs.txt`, `docs/planted.txt` and the wrong bodies on disk.\n\n## What it costs\n\nProcessor seconds of `rt ci`; `docs/gate_costs.txt` says how they were measured.\n"
         "`.ci/timed-ci > LOG` is `rt ci` with its times, and `.ci/gate-costs LOG` writes that file from them.\n\n"
-        "A crate with tests is proved twice; its wrong bodies begin with a third proof and share it. So write the answer of a goal whose search takes seconds. Beside that a wrong body costs 5 to\n"
-        "40 seconds, since a check first loads what the crate stands on; a test that hands a table to a helper costs 1 to 5, one with assertions of its own\n"
-        "10 to 30. A table of structs is a `static`. Texts cost by their number times their length, so a long table stands alone or is split.\n\n" + cost_table()
+        "A crate with tests is proved twice. Its wrong body costs another proof; two or more begin with one, share it, and cost 10 to 40 seconds each beside it. So write the answer of a goal whose\n"
+        "search takes seconds, and split a function that owns many values: what it costs grows faster than their number. A test that hands a table to a helper costs 1 to 5 seconds, one with assertions of its own\n"
+        "10 to 30, an example of `examples/` nothing here. A table of structs is a `static`. Texts cost by their number times their length. The wrong bodies beside the gate stand in `planted/`, and `.ci/planted` tries them.\n\n" + cost_table()
         + "\n## Bugs that were tried\n\n`rt plant` tries wrong bodies of a function against its clauses: in how many functions, how many bodies were refused, how many were not run for want of time. By hand: bugs in the real\n"
         "code, one at a time. A body that answers out of memory in place of its work passes every clause, since that may be answered at any time; tests call each such function once where there is memory.\n\n" + planted_table()
     )
