@@ -1,4 +1,5 @@
 // Each file has tests of one library, by what it calls; some libraries have several files.
+mod boards;
 mod cups;
 mod faults;
 mod files_and_texts;

@@ -75,7 +75,11 @@ pub(crate) fn field_on<'b>(
 }
 
 // A whole field at the start of the game.
-fn field_of<'b, R: Abort>(rt: &R, alloc: Global, players: &'b Players) -> Result<Field<'b>, Fail>
+pub(crate) fn field_of<'b, R: Abort>(
+    rt: &R,
+    alloc: Global,
+    players: &'b Players,
+) -> Result<Field<'b>, Fail>
     ensures { IfOk result (λ field. (field.whole ≡ true) × (field.place ≡ 0)) }
 {
     let bytes = WORLD.as_bytes();
