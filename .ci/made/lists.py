@@ -72,7 +72,7 @@ def gate_page():
     return (
         "# The gate\n\nMade by `.ci/make-documents` from `docs/gate_costs.txt`, `docs/planted.txt` and the wrong bodies on disk.\n\n## What it costs\n\nProcessor seconds of `rt ci`; `docs/gate_costs.txt` says how they were measured.\n"
         "`.ci/timed-ci > LOG` is `rt ci` with its times, and `.ci/gate-costs LOG` writes that file from them.\n\n"
-        "A crate with tests is proved twice. Its wrong body costs another proof; two or more begin with one, share it, and cost 10 to 40 seconds each beside it. So write the answer of a goal whose\n"
+        "A crate with tests is proved twice. A wrong body costs another proof of its crate; two or more begin with one, share it, and cost 10 to 40 seconds each beside it. So write the answer of a goal whose\n"
         "search takes seconds, and split a function that owns many values: what it costs grows faster than their number. A test that hands a table to a helper costs 1 to 5 seconds, one with assertions of its own\n"
         "10 to 30, an example of `examples/` nothing here. A table of structs is a `static`. Texts cost by their number times their length. The wrong bodies beside the gate stand in `planted/`, and `.ci/planted` tries them.\n\n" + cost_table()
         + "\n## Bugs that were tried\n\n`rt plant` tries wrong bodies of a function against its clauses: in how many functions, how many bodies were refused, how many were not run for want of time. By hand: bugs in the real\n"
