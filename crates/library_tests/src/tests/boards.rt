@@ -2,7 +2,7 @@
 ghost use Rattle.std.specs.Prelude.{IfOk};
 ghost use Rattle.round_book.specs.Book.{CanBegin};
 
-use super::standing_workers::{MOVES, Players, field_of, make_players};
+use super::standing_workers::{Players, field_of, make_players};
 use ant_base::NoGate;
 use round_book::Field;
 use round_workers::{Board, Worker};
@@ -53,7 +53,7 @@ fn work_alone<R: Abort>(rt: &R, alloc: Global, field: &mut Field<'_>) -> Result<
 
 #[test]
 fn a_worker_alone_settles_the_whole_window(rt: HostRuntime) -> Result<(), Fail> {
-    let players = make_players(&rt, rt.alloc(), MOVES)?;
+    let players = make_players(&rt, rt.alloc())?;
     let mut field = first_field(&rt, rt.alloc(), &players)?;
     work_alone(&rt, rt.alloc(), &mut field)
 }

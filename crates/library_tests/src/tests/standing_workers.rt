@@ -26,7 +26,7 @@ const WORLD: &str =
 
 const FLIPS: &str = "Flip 2 0 0";
 
-pub(crate) const MOVES: &str = "Move 0 0";
+const MOVES: &str = "Move 0 0";
 
 const SEED: u32 = 12345;
 
@@ -43,9 +43,9 @@ fn brain_of<R: Abort>(rt: &R, alloc: Global, text: &str) -> Result<Brain, Fail> 
     Ok(read_brain(alloc, bytes)?)
 }
 
-pub(crate) fn make_players<R: Abort>(rt: &R, alloc: Global, black: &str) -> Result<Players, Fail> {
+pub(crate) fn make_players<R: Abort>(rt: &R, alloc: Global) -> Result<Players, Fail> {
     let red = brain_of(rt, alloc, FLIPS)?;
-    let black = brain_of(rt, alloc, black)?;
+    let black = brain_of(rt, alloc, MOVES)?;
     Ok(Players { red, black })
 }
 
@@ -211,7 +211,7 @@ fn check_unstarted<R: Wait + Abort>(rt: &R, alloc: Global, players: &Players) ->
 
 #[test]
 fn the_committer_announces_each_look_by_the_number_of_workers(rt: HostRuntime) -> Result<(), Fail> {
-    let players = make_players(&rt, rt.alloc(), MOVES)?;
+    let players = make_players(&rt, rt.alloc())?;
     check_unstarted(&rt, rt.alloc(), &players)
 }
 
@@ -307,6 +307,6 @@ const PLAYED: Played = Played {
 fn workers_that_stand_by_look_at_the_same_time_in_both_windows(
     rt: HostRuntime,
 ) -> Result<(), Fail> {
-    let players = make_players(&rt, rt.alloc(), MOVES)?;
+    let players = make_players(&rt, rt.alloc())?;
     check_pair(&rt, rt.alloc(), &players)
 }

@@ -1,5 +1,5 @@
 // Where a game stands when its sink had no room for its text.
-use crate::tests::standing_workers::{MOVES, Players, field_on, make_players};
+use crate::tests::standing_workers::{Players, field_on, make_players};
 use ant_base::{Calls, LONGEST, MemSink};
 use ant_turn::{Brains, Sheet};
 use match_run::{Dumps, Game, PlayFault, play_on};
@@ -53,7 +53,7 @@ fn check_stop<R: Abort>(
 
 // Asserts the same of each row.
 fn check_stops<R: Abort>(rt: &R, alloc: Global, rows: &[(u64, u32)]) -> Result<(), Fail> {
-    let players = make_players(rt, alloc, MOVES)?;
+    let players = make_players(rt, alloc)?;
     for (room, done) in rows {
         check_stop(rt, alloc, &players, *room, *done)?;
     }
