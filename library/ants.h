@@ -108,7 +108,7 @@ extern "C" {
 #endif
 
 // The version of this source, which is the program's: three numbers, and `-dev` behind them where it is of no release (this project's own).
-#define ANTS_VERSION "1.1.0"
+#define ANTS_VERSION "1.2.0-dev"
 
 // What a call answers.
 enum ants_status {

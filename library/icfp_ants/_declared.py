@@ -3,7 +3,7 @@ import ctypes
 import enum
 from ctypes import POINTER, c_char_p, c_size_t, c_uint16, c_uint32, c_uint64, c_uint8
 
-VERSION = "1.1.0"
+VERSION = "1.2.0-dev"
 DONE = 0  # Done.
 UNREADABLE = 1  # What a call of the program is given can't be read: its words, or the names and sizes of its files.
 NUMBER = 2  # A number is beyond its limits; of a call of the program, its words are no command.

@@ -14,5 +14,5 @@ static const Command here("help", help);
 static const Command here_too("--help", help);
 static const Command version("--version", [](Words& words) {
     words.end();
-    print("ants 1.1.0\n");
+    print("ants 1.2.0-dev\n");
 });

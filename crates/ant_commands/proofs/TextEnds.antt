@@ -43,7 +43,7 @@ use Rattle.dump_print.specs.Texts.{cell_line, cell_words, cells_text, dump_text,
 use Rattle.dump_print.specs.declared.totals.Totals.{Totals}
 use Rattle.game_tellings.specs.Events.{events_text, turn_lines}
 use Rattle.game_tellings.specs.Profile.{brain_lines, executed_in_rounds, met_of, met_text, profile_text, state_line as tally_of_state, tally_line, times_of}
-use Rattle.game_tellings.specs.Told.{told_in_rounds}
+use Rattle.match_run.specs.Told.{told_in_rounds}
 use Rattle.line_tokens.specs.Fields.{LineField, field_text, further_text, line_text}
 use Rattle.match_run.specs.Counts.{counts_text, totals_of, whole_text, both}
 use Rattle.match_run.specs.Run.{dumps_text, run_text, world_after}

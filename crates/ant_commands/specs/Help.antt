@@ -7,7 +7,7 @@ use Rattle.command_words.specs.Help.{table_text}
 -- the first lines: what the program is, and how it is called
 unfoldable pub head_lines : List ℕ
 head_lines =
-    codes "ants 1.1.0 plays the ant world of the ICFP Programming Contest 2004.\n"
+    codes "ants 1.2.0-dev plays the ant world of the ICFP Programming Contest 2004.\n"
     +++ codes "\n"
     +++ codes "usage: ants COMMAND WORD.. [OPTION]..\n"
     +++ codes "\n"
@@ -39,4 +39,4 @@ help_text = head_lines +++ table_text +++ tail_lines
 
 -- the output of `--version`
 unfoldable pub version_text : List ℕ
-version_text = codes "ants 1.1.0\n"
+version_text = codes "ants 1.2.0-dev\n"

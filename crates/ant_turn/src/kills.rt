@@ -11,7 +11,7 @@ ghost use Rattle.ant_turn.specs.Deaths.{dead_around, dead_at, with_noted};
 ghost use Rattle.ant_turn.specs.Kills as kill;
 ghost use Rattle.ant_turn.specs.Sheet.{sheet_of};
 
-use crate::notes::{Notes, Unnoted};
+use crate::kill_log::{KillLog, NoKillLog};
 use crate::sheet::Sheet;
 use arrayvec::ArrayVec;
 use cell_world::{Ant, Cell, Ground, PlacedAnt};
@@ -48,12 +48,12 @@ pub fn check_around<G: Ground>(ground: &mut G, sheet: Sheet, p: Pos) -> ArrayVec
     ensures room { G.room ground.old ≤ G.room ground.new + 7 }
     ensures valid { Valid (G.world ground.new) }
 {
-    kill_around(ground, sheet, p, &mut Unnoted)
+    kill_around(ground, sheet, p, &mut NoKillLog)
 }
 
 // The same checks, whose killed are noted, each where and as it stood when its cell was checked.
 #[inline(always)]
-pub(crate) fn kill_around<G: Ground, N: Notes>(
+pub(crate) fn kill_around<G: Ground, N: KillLog>(
     ground: &mut G,
     sheet: Sheet,
     p: Pos,
@@ -80,7 +80,7 @@ pub(crate) fn kill_around<G: Ground, N: Notes>(
 // The check of one cell: where its ant is surrounded, kills it and adds it to the killed. Most checked cells hold no ant, so it is
 // part of the loop over rounds and ids, and the count of foes alone is a call.
 #[inline(always)]
-fn check<G: Ground, N: Notes>(
+fn check<G: Ground, N: KillLog>(
     ground: &mut G,
     sheet: Sheet,
     p: Pos,

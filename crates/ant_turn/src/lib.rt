@@ -13,8 +13,8 @@ mod brains;
 mod conditions;
 mod hill_laws;
 mod in_place;
+mod kill_log;
 mod kills;
-mod notes;
 mod own_cell;
 mod renumber_laws;
 mod sheet;
@@ -25,12 +25,12 @@ pub use brains::Brains;
 pub use conditions::matches;
 pub use hill_laws::{games_keep_hills, rounds_keep_hills, turns_keep_hills};
 pub use in_place::{InPlace, turn_in_place};
+pub use kill_log::KillLog;
 pub use kills::{check_around, surrounded};
-pub use notes::Notes;
 pub use own_cell::is_blocked;
 pub use renumber_laws::{rounds_renumber, turns_renumber};
 pub use sheet::Sheet;
-pub use turn::{Deed, take_acting_turn, take_found_turn, take_told_turn, take_turn};
+pub use turn::{Deed, act, take_turn, take_turn_noting_kills};
 pub use turn_laws::{
     idle_turns, openings_fit, rounds_keep, rounds_keep_food, turns_are_near, turns_draw,
     turns_follow, turns_keep, turns_keep_ants, turns_keep_food, turns_keep_weight,

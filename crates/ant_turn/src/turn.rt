@@ -6,7 +6,6 @@ ghost use Rattle.cell_world.specs.Inner.Replaces.{Replaces};
 ghost use Rattle.cell_world.specs.World.{put, with_cells};
 ghost use Rattle.brain_read.specs.Soundness.{IsSound};
 ghost use Rattle.ant_turn.specs.Deaths.{dead_around, dead_by, dead_in, with_noted};
-ghost use Rattle.ant_turn.specs.Listed.{IsUp};
 ghost use Rattle.ant_turn.specs.Minds.{Fits, minds_of};
 ghost use Rattle.ant_turn.specs.Sheet.{sheet_of};
 ghost use Rattle.ant_turn.specs.Inner.Stands.{StandsAt};
@@ -15,8 +14,8 @@ ghost use Rattle.ant_turn.specs.Turn as turn;
 
 use crate::brains::Brains;
 use crate::conditions::meets;
+use crate::kill_log::{KillLog, NoKillLog};
 use crate::kills::kill_around;
-use crate::notes::{Notes, Unnoted};
 use crate::own_cell::{
     ant_after_branch, ant_after_rest, ant_after_turn, cell_after_arrival, cell_after_drop,
     cell_after_mark, cell_after_pick_up, cell_after_unmark, cell_without_ant, in_state, is_blocked,
@@ -84,7 +83,7 @@ fn think<G: Ground>(ground: &mut G, p: Pos, ant: Ant) -> Deed
 
 // The ant steps from its place onto `q`, and surrounded ants are checked around `q`.
 #[inline(always)]
-fn step<G: Ground, N: Notes>(
+fn step<G: Ground, N: KillLog>(
     ground: &mut G,
     sheet: Sheet,
     standing: PlacedAnt,
@@ -118,7 +117,7 @@ fn step<G: Ground, N: Notes>(
 
 // A Move of the ant.
 #[inline(always)]
-fn go<G: Ground, N: Notes>(
+fn go<G: Ground, N: KillLog>(
     ground: &mut G,
     sheet: Sheet,
     standing: PlacedAnt,
@@ -198,7 +197,7 @@ fn execute<G: Ground>(
             stay(ground, p, cell_after_drop(&cell, ant, next))
         }
         Instr::Turn { side, next } => think(ground, p, ant_after_turn(ant, side, next)),
-        Instr::Move { yes, no } => go(ground, sheet, standing, yes, no, &mut Unnoted),
+        Instr::Move { yes, no } => go(ground, sheet, standing, yes, no, &mut NoKillLog),
         Instr::Flip { bound, yes, no } => {
             let number = stream.draw(bound);
             Deed {
@@ -209,10 +208,10 @@ fn execute<G: Ground>(
     }
 }
 
-/// Takes the turn of an ant that stands there and doesn't rest: executes the instruction of its state. What `take_acting_turn` does, for an ant that
-/// was found (the task's kinetics).
+/// Takes the turn of an ant that was found at its place and doesn't rest: executes the instruction of its state (the task's
+/// kinetics). `take_turn` is the same by an id.
 #[inline(always)]
-pub fn take_found_turn<G: Ground>(
+pub fn act<G: Ground>(
     ground: &mut G,
     brains: Brains<'_>,
     stream: &mut Stream,
@@ -231,10 +230,10 @@ pub fn take_found_turn<G: Ground>(
     execute(ground, brains.sheet, stream, standing, instruction)
 }
 
-/// The same, and notes each ant that is killed, in the order of the checks, where and as it stood when it was killed: the one whose turn it is has
-/// stepped ahead (the task's martial arts). There is room for 7.
+/// The same, and notes each killed ant in the order of the checks, where and as it stood when it was killed. The acting ant
+/// has moved to the cell ahead by then (the task's martial arts). `notes` has room for 7.
 #[inline(always)]
-pub fn take_told_turn<G: Ground, N: Notes>(
+pub fn take_turn_noting_kills<G: Ground, N: KillLog>(
     ground: &mut G,
     brains: Brains<'_>,
     stream: &mut Stream,
@@ -255,7 +254,7 @@ pub fn take_told_turn<G: Ground, N: Notes>(
     let instruction = brains.of(ant.colour).instruction(ant.state);
     match *instruction {
         Instr::Move { yes, no } => go(ground, brains.sheet, standing, yes, no, notes),
-        _ => take_found_turn(ground, brains, stream, standing),
+        _ => act(ground, brains, stream, standing),
     }
 }
 
@@ -283,27 +282,5 @@ pub fn take_turn<G: Ground>(
     if standing.ant.resting > 0 {
         return think(ground, standing.place, ant_after_rest(standing.ant));
     }
-    take_found_turn(ground, brains, stream, standing)
-}
-
-/// Takes the turn of the ant of this id, which doesn't rest, if it is alive: what `take_turn` does, without asking whether it rests (the
-/// task's kinetics).
-#[inline(always)]
-pub fn take_acting_turn<G: Ground>(
-    ground: &mut G,
-    brains: Brains<'_>,
-    stream: &mut Stream,
-    id: u32,
-) -> Deed
-    requires fit { Fits (G.world ground.old) (minds_of brains) }
-    requires id { id < (G.world ground.old).ids }
-    requires up { IsUp (G.world ground.old) id }
-    requires place { stream.old.place + 1 < 2 ^ 63 }
-    requires room { 9 ≤ G.room ground.old }
-    ensures { TakesTurn (minds_of brains.entry) id (G.world ground.old) (G.world ground.new) (G.room ground.old) (G.room ground.new) stream.old stream.new result }
-{
-    match ground.ant_of(id) {
-        Some(standing) => take_found_turn(ground, brains, stream, standing),
-        None => idle(),
-    }
+    act(ground, brains, stream, standing)
 }

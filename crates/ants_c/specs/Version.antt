@@ -3,4 +3,4 @@ use Rattle.std.specs.Prelude.{ℕ, List, codes}
 
 -- what `ants_version` writes, and the program's `--version` behind `ants `
 unfoldable pub version : List ℕ
-version = codes "1.1.0"
+version = codes "1.2.0-dev"

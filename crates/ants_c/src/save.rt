@@ -14,7 +14,7 @@ use ant_turn::{Brains, Sheet};
 use cell_world::World;
 use match_run::Game;
 use match_save::{Saved, save_of};
-use round_book::{Field, SoloCrew, recall_validity};
+use round_book::{Field, SoloCrew, lemma_valid};
 use std::alloc::Global;
 
 // How many turns a window has: a whole round, as where the program is told nothing else.
@@ -50,7 +50,7 @@ fn saved_game(
 {
     let field = Field::new(alloc, world, brains, seed, 0)?;
     let game = game_after(alloc, field, rounds)?;
-    recall_validity(game.field().brains(), game.world());
+    lemma_valid(game.field().brains(), game.world());
     save_of(alloc, &game)
 }
 

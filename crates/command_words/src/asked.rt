@@ -7,7 +7,7 @@ ghost use Rattle.command_words.specs.declared.table.Choice.TheVariants.{Dump};
 
 use crate::values::{dumps_said, names_of, said_at, said_for, word_after, word_for};
 use crate::walk::is_among;
-use crate::{Choice, CommandKind, DumpWord, NameList};
+use crate::{Choice, CommandKind, DumpRounds, NameList};
 
 /// What a command line asks for, whichever command it is: which command, and what the words say at each of its places, in its lists of names and by its
 /// options. It borrows the words and takes no memory. Contracts see it by `plain`.
@@ -60,7 +60,7 @@ impl<'w> Asked<'w> {
     }
 
     /// The rounds that are dumped.
-    pub fn dumps(self) -> DumpWord<'w>
+    pub fn dumps(self) -> DumpRounds<'w>
         requires has { HasOption self.kind Dump }
         ensures { plain_dumps result ≡ (plain self.entry).dumps }
     {

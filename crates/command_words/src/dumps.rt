@@ -6,7 +6,7 @@ use crate::Numbers;
 
 /// The rounds after which the world is dumped, as the words choose them, counted from 0 for the start.
 #[derive(Drop)]
-pub enum DumpWord<'w> {
+pub enum DumpRounds<'w> {
     /// no round
     Nothing,
     /// every round
@@ -15,7 +15,7 @@ pub enum DumpWord<'w> {
     Chosen(Numbers<'w>),
 }
 
-impl<'w> DumpWord<'w> {
+impl<'w> DumpRounds<'w> {
     ghost use Rattle.command_words.specs.Words.{plain_dumps};
 
     // `none`, `all`, or numbers from 0 to 1,000,000 with one comma between them.
@@ -24,13 +24,13 @@ impl<'w> DumpWord<'w> {
         ensures { option_map plain_dumps result ≡ dumps_of word.now }
     {
         if word == b"none".as_slice() {
-            return Some(DumpWord::Nothing);
+            return Some(DumpRounds::Nothing);
         }
         if word == b"all".as_slice() {
-            return Some(DumpWord::All);
+            return Some(DumpRounds::All);
         }
         let numbers = Numbers::new(word)?;
-        Some(DumpWord::Chosen(numbers))
+        Some(DumpRounds::Chosen(numbers))
     }
 }
 
@@ -39,5 +39,5 @@ impl<'w> DumpWord<'w> {
 pub(crate) fn is_dumps(word: &[u8]) -> bool
     ensures { result ≡ is_dumps word.now }
 {
-    DumpWord::new(word).is_some()
+    DumpRounds::new(word).is_some()
 }

@@ -14,9 +14,9 @@ use ant_base::{Each, Failed, Layout, Parts, Sink, layout};
 /// What the page of `--help` says of the table: of each command how it is called, a sentence, the limits of its numbers and lists, and its
 /// options; and of each option what it is for, its limits, and what holds without it.
 #[derive(Clone, Copy)]
-pub struct TablePage;
+pub struct HelpPage;
 
-impl Layout for TablePage {
+impl Layout for HelpPage {
     ghost text = { λ _. table_text };
 
     #[tactic(auto, unfolding(crate::specs::Help::table_text))]

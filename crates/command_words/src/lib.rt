@@ -23,9 +23,9 @@ mod values;
 mod walk;
 
 pub use asked::{Asked, Refused};
-pub use dumps::DumpWord;
+pub use dumps::DumpRounds;
 pub use far::{is_far_run, read_words_without_far};
-pub use help::TablePage;
+pub use help::HelpPage;
 pub use laws::{
     any_order, front_begins, never_both, one_command, one_of_both, one_refused_word, refuses_far,
     says_its_words, within_limits,

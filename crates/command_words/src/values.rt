@@ -6,7 +6,7 @@ ghost use Rattle.command_words.specs.Table.{option_of, values_of};
 ghost use Rattle.command_words.specs.Words.{plain_dumps, texts};
 
 use crate::slot::is_file_name;
-use crate::{Choice, CommandKind, DumpWord, NameList, NumberKind, Place, Slot};
+use crate::{Choice, CommandKind, DumpRounds, NameList, NumberKind, Place, Slot};
 
 // The word at a place, counted from 0.
 pub(crate) fn word_at<'w>(words: &'w [String], place: usize) -> Option<&'w str>
@@ -99,13 +99,13 @@ pub(crate) fn said_for(values: &[Place], default: u32, word: Option<&str>) -> u3
 }
 
 // The dumps that a word asks for; without it there is none.
-pub(crate) fn dumps_said<'w>(word: Option<&'w str>) -> DumpWord<'w>
+pub(crate) fn dumps_said<'w>(word: Option<&'w str>) -> DumpRounds<'w>
     ensures { plain_dumps result ≡ dumps_said (option_copied word.entry) }
 {
     match word {
-        None => DumpWord::Nothing,
-        Some(word) => match DumpWord::new(word.as_bytes()) {
-            None => DumpWord::Nothing,
+        None => DumpRounds::Nothing,
+        Some(word) => match DumpRounds::new(word.as_bytes()) {
+            None => DumpRounds::Nothing,
             Some(dumps) => dumps,
         },
     }

@@ -18,10 +18,10 @@ use Rattle.cell_world.specs.Colour.{same_colour}
 use Rattle.cell_world.specs.Valid.{Valid}
 use Rattle.cell_world.specs.World.{place_in}
 use Rattle.game_tellings.specs.declared.executed.Executed.{Executed}
-use Rattle.game_tellings.specs.Events.{ant_in}
+use Rattle.match_run.specs.Seen.{ant_in}
 use Rattle.game_tellings.specs.Laws.{CountsAddUp, acting_turns, sum_below, up_by, up_for}
 use Rattle.game_tellings.specs.Profile.{executed_at, executed_by, executed_from, executed_in, executed_in_rounds, is_of, times_of}
-use Rattle.game_tellings.specs.Told.{Telling, told_in_rounds, told_in_turns}
+use Rattle.match_run.specs.Told.{Telling, told_in_rounds, told_in_turns}
 
 -- tellings of as many things for each turn
 turns-as_many : {A B : Type 0} (f : Telling A) (g : Telling B) (minds : Minds) (seed : ℕ) → ((m : Moment) (t : ℕ) → length (f m t) ≡ length (g m t)) → (m : Moment) (from n : ℕ) → length (told_in_turns f minds seed m from n) ≡ length (told_in_turns g minds seed m from n)

@@ -19,7 +19,7 @@ use Rattle.cell_world.specs.World.{World, place_in}
 use Rattle.match_run.specs.Run.{world_after}
 use Rattle.game_tellings.specs.Events.{deaths_in}
 use Rattle.game_tellings.specs.Laws.{DeathsAreTheDead, all_deaths}
-use Rattle.game_tellings.specs.Told.{told_in_rounds, told_in_turns}
+use Rattle.match_run.specs.Told.{told_in_rounds, told_in_turns}
 
 -- each number is in a list or not
 in_or_not : (xs : List ℕ) (u : ℕ) → Contains xs u ⊎ (Contains xs u → ⊥)

@@ -24,7 +24,8 @@ use Rattle.ant_turn.specs.Sheet.{Sheet}
 use Rattle.ant_turn.specs.Turn.{acts, ant_becomes, arrived, checked, execute, in_state, instruction_at, is_blocked, left_by_ant, stepped, with_ant}
 use Rattle.ant_turn.proofs.Checks.{Struck, dead_at-spared, dead_at-struck, is_surrounded-true, killed_at-spared, killed_at-struck}
 use Rattle.ant_turn.proofs.KeptByChecks.{check_all-ant}
-use Rattle.game_tellings.specs.Events.{ahead_of, ant_in, ant_words, death_place, death_words, place_words}
+use Rattle.match_run.specs.Seen.{ahead_of, ant_in, death_place}
+use Rattle.game_tellings.specs.Events.{ant_words, death_words, place_words}
 use Rattle.game_tellings.specs.Inner.Broken.{told_death}
 
 -- the ant of an id is known by its place

@@ -7,7 +7,7 @@ use Rattle.std.proofs.lemmas.List.Folds.{flat_map-map}
 use Rattle.hex_geometry.specs.declared.position.Pos.{Pos}
 use Rattle.ant_base.specs.Layout.{◌+++◌}
 use Rattle.ant_turn.specs.Minds.{Minds}
-use Rattle.ant_turn.specs.Rounds.{Moment, start_of}
+use Rattle.ant_turn.specs.Rounds.{Moment}
 use Rattle.ant_turn.specs.Turn.{Outcome, turn}
 use Rattle.ant_turn.specs.Deaths.{dead_in}
 use Rattle.ant_turn.proofs.Turns.{dead_in-acts, turn-acts, turn-dead}
@@ -18,10 +18,10 @@ use Rattle.cell_world.specs.Score.{score_of}
 use Rattle.cell_world.specs.Valid.{Valid}
 use Rattle.cell_world.specs.World.{World, place_in, with_cells}
 use Rattle.dump_print.specs.Texts.{seed_text, seed_words}
-use Rattle.game_tellings.specs.Events.{ant_in, ant_words, changed_score, death_words, deaths_in, events_text, score_words, scores_in, turn_lines}
+use Rattle.match_run.specs.Seen.{ant_in}
+use Rattle.game_tellings.specs.Events.{ant_words, changed_score, death_words, deaths_in, score_words, scores_in, turn_lines}
 use Rattle.game_tellings.specs.Inner.Broken.{broken, broken_score, told_death}
-use Rattle.game_tellings.specs.Told.{told_in_rounds}
-use Rattle.game_tellings.proofs.ToldLemmas.{flat_map-same}
+use Rattle.game_tellings.proofs.FlatMaps.{flat_map-same}
 use Rattle.game_tellings.proofs.DeathLines.{acts-told, ant_in-at}
 
 -- lines behind LFs and a last LF are lines before LFs, and a first one
@@ -32,12 +32,10 @@ shift (words ∷ lines) =
     ∙ ap (λ t. (codes "\n" ++ words) ++ t) (shift lines)
     ∙ sym (append_assoc (codes "\n" ++ words) (broken lines) (codes "\n"))
 
--- the text of events in the parts in which it is pushed
-pub events_text-parts : (minds : Minds) (seed : ℕ) (w : World) (rounds : ℕ) → events_text minds seed w rounds ≡ seed_words seed ++ (broken (told_in_rounds (turn_lines minds seed) minds seed (start_of w) rounds) ++ codes "\n")
-unfolding events_text seed_text
-events_text-parts minds seed w rounds =
-    let lines = told_in_rounds (turn_lines minds seed) minds seed (start_of w) rounds in
-    append_assoc (seed_words seed) (codes "\n") (flat_map (λ words. words ++ codes "\n") lines) ∙ ap (λ t. seed_words seed ++ t) (shift lines)
+-- the text of a seed's line and of others, in the parts in which it is pushed
+pub text-parts : (seed : ℕ) (lines : List (List ℕ)) → seed_text seed +++ flat_map (λ words. words +++ codes "\n") lines ≡ seed_words seed ++ (broken lines ++ codes "\n")
+unfolding seed_text
+text-parts seed lines = append_assoc (seed_words seed) (codes "\n") (flat_map (λ words. words ++ codes "\n") lines) ∙ ap (λ t. seed_words seed ++ t) (shift lines)
 
 -- some lines and then more
 pub broken-append : (lines more : List (List ℕ)) → broken (lines ++ more) ≡ broken lines ++ broken more

@@ -1,11 +1,10 @@
 -- The lines of a turn don't tell how long an ant rests, and there are none of an idle turn.
-use Rattle.std.proofs.Common.{◌≡◌, ℕ, ◌+◌, true, slice_get, List, [], ◌++◌, Option, Some, None, map, option_map, if◌then◌else◌, nat_eq, codes, decimal, refl, sym, ap, ap₂, ◌∙◌}
-use Rattle.std.specs.Option.{option_and_then}
+use Rattle.std.proofs.Common.{◌≡◌, ℕ, zero, suc, append-nil, arith, ◌+◌, true, slice_get, List, [], ◌++◌, Option, Some, None, map, option_map, codes, decimal, refl, sym, ap, ap₂, ◌∙◌}
 use Rattle.std.specs.Prelude.{IfSome}
 use Rattle.std.proofs.Math.Path.{fun_ext}
+use Rattle.std.proofs.lemmas.Option.{same_Some}
 use Rattle.ant_base.specs.Layout.{◌+++◌}
 use Rattle.hex_geometry.specs.declared.position.Pos.{Pos}
-use Rattle.hex_geometry.specs.Neighbourhood.{adjacent_pos}
 use Rattle.brain_read.specs.declared.instr.Instr.{Instr}
 use Rattle.brain_read.specs.declared.instr.Instr.TheVariants.{Sense, Mark, Unmark, PickUp, Drop, Turn, Move, Flip}
 use Rattle.cell_world.specs.declared.ant.Ant.{Ant}
@@ -14,24 +13,32 @@ use Rattle.cell_world.specs.declared.ant.Colour.{Colour}
 use Rattle.cell_world.specs.declared.ant.Colour.TheVariants.{Red, Black}
 use Rattle.cell_world.specs.declared.cell.Cell.{Cell}
 use Rattle.cell_world.specs.declared.score.Score.{Score}
-use Rattle.cell_world.specs.Resting.{rests_in, with_rest, with_rests}
 use Rattle.cell_world.specs.Score.{score_of}
-use Rattle.cell_world.specs.World.{Cells, World, place_in, put, with_cells}
-use Rattle.cell_world.proofs.Places.{place_in-inside}
-use Rattle.cell_world.proofs.RestingLemmas.{place_in-with_rests}
+use Rattle.cell_world.specs.Cell.{holds_id}
+use Rattle.cell_world.specs.Valid.{Valid}
+use Rattle.cell_world.specs.World.{World, place_in, put, with_cells}
+use Rattle.cell_world.proofs.Places.{holds_id-own, place_in-inside}
 use Rattle.ant_turn.specs.Minds.{Minds, mind_of}
 use Rattle.ant_turn.specs.Rounds.{Moment}
 use Rattle.ant_turn.specs.Turn.{Outcome, ant_becomes, execute, marked, turn, unmarked, with_ant}
 use Rattle.ant_turn.specs.Listed.{IsUp}
 use Rattle.ant_turn.proofs.FoundAnts.{found-holds}
 use Rattle.ant_turn.proofs.FoundTurns.{found-id}
-use Rattle.ant_turn.proofs.RestingTurns.{turn-with_rests}
 use Rattle.ant_turn.proofs.Turns.{turn-dead, turn-executes, turn-rests}
-use Rattle.game_tellings.specs.Events.{ahead_of, ant_in, ant_words, changed_score, death_place, death_words, deaths_in, place_words, score_words, scores_in, turn_lines, turn_words}
+use Rattle.game_tellings.specs.Events.{ant_words, changed_score, death_words, deaths_in, place_words, score_words, scores_in, turn_lines, death_line, event_lines, events_text, score_line}
 use Rattle.game_tellings.specs.Inner.Chunks.{is_quiet}
-use Rattle.game_tellings.proofs.RestsUntold.{IgnoresRest}
+use Rattle.std.specs.List.{flat_map}
+use Rattle.std.proofs.lemmas.Simd.{map-map}
+use Rattle.cell_world.proofs.Places.{Holder, place_in-ant}
+use Rattle.match_run.specs.Seen.{ant_in, death_place, killed_as, seen, seen_by, seen_here, unrested}
+use Rattle.match_run.proofs.SeenLemmas.{seen-acts, seen-dead, seen-rests, seen-there}
+use Rattle.match_run.specs.Told.{told_in_rounds}
+use Rattle.ant_turn.specs.Rounds.{start_of}
+use Rattle.dump_print.specs.Texts.{seed_text}
+use Rattle.game_tellings.specs.Report.{report_text}
+use Rattle.game_tellings.proofs.DeathLines.{ant_in-at}
 use Rattle.game_tellings.proofs.EventLemmas.{changed_score-same}
-use Rattle.game_tellings.proofs.ScoreLemmas.{score-mind, score-with_rests}
+use Rattle.game_tellings.proofs.ScoreLemmas.{score-mind}
 
 -- the lines of an outcome
 abbrev lines_of : ℕ → World → ℕ → Outcome → List (List ℕ)
@@ -62,6 +69,12 @@ lines-resting minds seed round m t p ant left found is tired =
 pub is_up : (w : World) {t : ℕ} {result : Option PlacedAnt} {it : PlacedAnt} → option_map (λ (s : PlacedAnt). s.place) result ≡ place_in w t → IfSome result (λ s. (w.cells s.place).ant ≡ Some s.ant) → result ≡ Some it
     → IsUp w t → it.ant.resting ≡ 0
 is_up w {t} {result} {it} told holds is up = up it.place it.ant (found-holds w result it holds is) (found-id w t result it told holds is)
+
+-- an ant that stands somewhere and doesn't rest is the only one of its id
+pub found-up : (w : World) (p : Pos) (ant : Ant) → Valid w → (w.cells p).ant ≡ Some ant → ant.resting ≡ 0 → IsUp w ant.id
+found-up w p ant valid here up q other there same =
+    let one : p ≡ q = valid.once ant.id p q (holds_id-own (w.cells p) ant here) (ap (λ t. holds_id t (w.cells q)) (sym same) ∙ holds_id-own (w.cells q) other there) in
+    ap (λ (a : Ant). a.resting) (same_Some other ant (sym there ∙ sym (ap (λ r. (w.cells r).ant) one) ∙ here)) ∙ up
 
 -- a marker is neither food nor hill
 marked-food : (cell : Cell) (colour : Colour) (i : ℕ) → (marked cell colour i).food ≡ cell.food
@@ -101,70 +114,52 @@ lines-quiet minds seed round m t p ant instruction found is ready at quiet =
     go (Move met unmet) calm = absurd (cc)
     go (Flip bound met unmet) calm = kept _ refl refl
 
-module _ (f : ℕ → ℕ → ℕ) (w : World) where
-  -- each ant is the same but for its rest
-  words-with_rest : (o : Option Ant) → ant_words (option_map (with_rest f) o) ≡ ant_words o
-  words-with_rest None = refl
-  words-with_rest (Some ant) = refl
+module _ (round : ℕ) (w : World) (t : ℕ) (ant : Ant) (own : ant_in w t ≡ Some ant) where
+  unrested-words : (o : Option Ant) → ant_words o ≡ ant_words (option_map unrested o)
+  unrested-words None = refl
+  unrested-words (Some ant) = refl
 
-  words_at : (place : Option Pos) → ant_words (option_and_then (λ p. (rests_in f w.cells p).ant) place) ≡ ant_words (option_and_then (λ p. (w.cells p).ant) place)
-  words_at None = refl
-  words_at (Some p) = words-with_rest (w.cells p).ant
-
-  ant_in-words : (t : ℕ) → ant_words (ant_in (with_rests f w) t) ≡ ant_words (ant_in w t)
-  unfolding ant_in
-  ant_in-words t = ap (λ place. ant_words (option_and_then (λ p. (rests_in f w.cells p).ant) place)) (place_in-with_rests f w t) ∙ words_at (place_in w t)
-
-  -- and looks the same way
-  ahead-with_rest : (p : Pos) (o : Option Ant) → option_map (λ (ant : Ant). adjacent_pos p ant.facing) (option_map (with_rest f) o) ≡ option_map (λ (ant : Ant). adjacent_pos p ant.facing) o
-  ahead-with_rest p None = refl
-  ahead-with_rest p (Some ant) = refl
-
-  abbrev ahead_in : Cells → Option Pos → Option Pos
-  ahead_in cells place = option_and_then (λ p. option_map (λ (ant : Ant). adjacent_pos p ant.facing) (cells p).ant) place
-
-  ahead_at : (place : Option Pos) → ahead_in (rests_in f w.cells) place ≡ ahead_in w.cells place
-  ahead_at None = refl
-  ahead_at (Some p) = ahead-with_rest p (w.cells p).ant
-
-  death_place-with_rests : (t u : ℕ) → death_place (with_rests f w) t u ≡ death_place w t u
-  unfolding death_place ahead_of
-  death_place-with_rests t u =
-      ap₂ (λ ahead place. if nat_eq u t then ahead else place)
-      (ap (ahead_in (rests_in f w.cells)) (place_in-with_rests f w t) ∙ ahead_at (place_in w t))
-      (place_in-with_rests f w u)
-
-  turn_words-with_rests : (round t : ℕ) → turn_words round (with_rests f w) t ≡ turn_words round w t
-  turn_words-with_rests round t = ap (λ words. codes "round " +++ decimal round +++ codes ", " +++ words +++ codes ": ") (ant_in-words t)
-
-  death_words-with_rests : (round t u : ℕ) → death_words round (with_rests f w) t u ≡ death_words round w t u
+  death-seen : (u : ℕ) → death_words round w t u ≡ death_line round ant (killed_as w t u)
   unfolding death_words
-  death_words-with_rests round t u =
-      ap₂ (λ front words. front +++ words +++ codes " dies on " +++ place_words (death_place (with_rests f w) t u)) (turn_words-with_rests round t) (ant_in-words u)
-      ∙ ap (λ place. turn_words round w t +++ ant_words (ant_in w u) +++ codes " dies on " +++ place_words place) (death_place-with_rests t u)
+  death-seen u =
+      ap₂ (λ a b. (codes "round " +++ decimal round +++ codes ", " +++ ant_words a +++ codes ": ") +++ b +++ codes " dies on " +++ place_words (death_place w t u)) own (unrested-words (ant_in w u))
 
-  score_words-with_rests : (round t : ℕ) (score : Score) → score_words round (with_rests f w) t score ≡ score_words round w t score
+  score-seen : (score : Score) → score_words round w t score ≡ score_line round ant score
   unfolding score_words
-  score_words-with_rests round t score =
-      ap (λ front. front +++ codes "score: red " +++ decimal score.red +++ codes " black " +++ decimal score.black) (turn_words-with_rests round t)
+  score-seen score = ap (λ a. (codes "round " +++ decimal round +++ codes ", " +++ ant_words a +++ codes ": ") +++ codes "score: red " +++ decimal score.red +++ codes " black " +++ decimal score.black) own
 
--- the lines of a turn are the same however long the others rest
-lines-others : (minds : Minds) (seed round : ℕ) (f : ℕ → ℕ → ℕ) (t : ℕ) → ((n : ℕ) → f t n ≡ n) → (m : Moment) → turn_lines minds seed round (record m { world = with_rests f m.world }) t ≡ turn_lines minds seed round m t
-lines-others minds seed round f t own m =
-    let w : World = m.world in
-    let outcome : Outcome = turn minds seed w m.place t in
-    let after : World = with_cells w outcome.cells in
-    of_turn minds seed round (record m { world = with_rests f w }) t
-    ∙ ap (lines_of round (with_rests f w) t) (turn-with_rests f t own minds seed w m.place)
-    ∙ ap₂ (λ (deaths scores : List (List ℕ)). deaths ++ scores)
-    (ap (λ line. map line outcome.killed) (fun_ext (death_words-with_rests f w round t)))
-    (ap₂ (λ line scores. map line scores) (fun_ext (score_words-with_rests f w round t)) (ap₂ changed_score (score-with_rests f w) (score-with_rests f after)))
-    ∙ sym (of_turn minds seed round m t)
+-- the lines of a turn are those of what is seen of it
+lines-seen : (minds : Minds) (seed round : ℕ) (m : Moment) (t : ℕ) → turn_lines minds seed round m t ≡ flat_map event_lines (seen minds seed round m t)
+lines-seen minds seed round m t = go (place_in m.world t) refl
+  where
+    go : (place : Option Pos) → place_in m.world t ≡ place → turn_lines minds seed round m t ≡ flat_map event_lines (seen minds seed round m t)
+    go None dead = lines-dead minds seed round m t dead ∙ ap (flat_map event_lines) (sym (seen-dead minds seed round m t dead))
+    go (Some p) found = by_rest it.ant.resting refl
+      where
+        it : Holder t (m.world.cells p).ant
+        it = place_in-ant m.world t p found
 
--- so they can be told of acting ants alone
-pub lines-ignore_rest : (minds : Minds) (seed round : ℕ) → IgnoresRest (turn_lines minds seed round)
-lines-ignore_rest minds seed round = record {
-  dead = lines-dead minds seed round;
-  resting = lines-resting minds seed round;
-  others = lines-others minds seed round;
-}
+        by_rest : (n : ℕ) → it.ant.resting ≡ n → turn_lines minds seed round m t ≡ flat_map event_lines (seen minds seed round m t)
+        by_rest (suc left) tired =
+            let more : it.ant.resting ≡ left + 1 = omega (arith, tired) in
+            lines-resting minds seed round m t p it.ant left found it.is more ∙ ap (flat_map event_lines) (sym (seen-rests minds seed round m t p it.ant left found it.is more))
+        by_rest zero up =
+            let outcome : Outcome = turn minds seed m.world m.place t in
+            let own : ant_in m.world t ≡ Some it.ant = ant_in-at m.world t p it.ant found it.is in
+            of_turn minds seed round m t
+            ∙ ap₂ (λ (deaths scores : List (List ℕ)). deaths ++ scores)
+            (ap (λ line. map line outcome.killed) (fun_ext (death-seen round m.world t it.ant own)) ∙ sym (map-map (death_line round it.ant) (killed_as m.world t) outcome.killed))
+            (ap (λ line. map line (changed_score (score_of m.world) (score_of (with_cells m.world outcome.cells)))) (fun_ext (score-seen round m.world t it.ant own)))
+            ∙ sym (append-nil _)
+            ∙ ap (flat_map event_lines) (sym (seen-there minds seed round m t p it.ant found it.is ∙ ap (λ n. seen_by n minds seed round m t p it.ant) up))
+
+-- so the text of events is a report
+pub events-report : (minds : Minds) (seed : ℕ) (w : World) (rounds : ℕ) → report_text event_lines minds seed w rounds ≡ events_text minds seed w rounds
+unfolding report_text events_text
+events-report minds seed w rounds =
+    ap (λ telling. seed_text seed +++ flat_map (λ words. words +++ codes "\n") (told_in_rounds telling minds seed (start_of w) rounds)) (fun_ext λ round. fun_ext λ m. fun_ext λ t. sym (lines-seen minds seed round m t))
+
+-- and of an acting ant they are those of what is seen here
+pub lines-here : (minds : Minds) (seed round : ℕ) (m : Moment) (it : PlacedAnt) → place_in m.world it.ant.id ≡ Some it.place → (m.world.cells it.place).ant ≡ Some it.ant → it.ant.resting ≡ 0
+    → turn_lines minds seed round m it.ant.id ≡ event_lines (seen_here minds seed round m it)
+lines-here minds seed round m it found is up = lines-seen minds seed round m it.ant.id ∙ ap (flat_map event_lines) (seen-acts minds seed round m it found is up) ∙ append-nil _

@@ -32,7 +32,8 @@ use Rattle.cell_world.specs.World.{World, place_in, put, put_cell}
 use Rattle.cell_world.proofs.OpeningWorked.{one_hill}
 use Rattle.dump_print.specs.Texts.{seed_text}
 use Rattle.match_run.proofs.RunWorked.{nobody, stone}
-use Rattle.game_tellings.specs.Events.{ahead_of, ant_in, death_place, death_words, deaths_in, events_text, score_words, scores_in, turn_lines}
+use Rattle.match_run.specs.Seen.{ahead_of, ant_in, death_place}
+use Rattle.game_tellings.specs.Events.{death_words, deaths_in, events_text, score_words, scores_in, turn_lines}
 use Rattle.game_tellings.specs.Laws.{AreTheDead}
 
 -- seven by six cells, without ids the ants are

@@ -1,21 +1,18 @@
 -- What is told of turns, one after another.
-pub mod ToldLemmas
+pub mod FlatMaps
 -- Whom a turn kills.
 pub mod DeathLines
 -- The score after a change of one cell.
 pub mod ScoreLemmas
 -- The lines of events.
 pub mod EventLemmas
--- Texts that are pushed in part.
-pub mod PushesLeft
--- Of idle turns nothing is told.
-pub mod RestsUntold
 pub mod EventRests
+pub mod SeenFair
 -- Counts of states.
 pub mod TallyLemmas
--- What is executed in a turn, and rounds that are played.
+-- What is executed in a turn.
 pub mod ExecutedLemmas
-pub mod PlayedLemmas
+pub mod CountFair
 -- Their text.
 pub mod TallyText
 -- Laws.

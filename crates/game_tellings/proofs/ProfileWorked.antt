@@ -31,7 +31,8 @@ use Rattle.cell_world.proofs.OpeningWorked.{one_hill}
 use Rattle.dump_print.specs.Texts.{seed_text}
 use Rattle.match_run.proofs.RunWorked.{flipping}
 use Rattle.game_tellings.proofs.EventsWorked.{ambush}
-use Rattle.game_tellings.specs.Profile.{brain_lines, executed_in, executed_in_rounds, is_met, met_of, profile_text, tally_line, times_of}
+use Rattle.match_run.specs.Seen.{is_met}
+use Rattle.game_tellings.specs.Profile.{brain_lines, executed_in, executed_in_rounds, met_of, profile_text, tally_line, times_of}
 
 -- one red ant, whose first random number goes to state 1 and whose second to state 2; the black brain, which has no ant, is shorter
 flips_counted : profile_text flipping 12345 (world_of (opening 3 3 one_hill)) 3 ≡

@@ -20,7 +20,7 @@ use Rattle.cell_world.specs.World.{World, area, sum_over, with_cells}
 use Rattle.match_run.specs.Run.{world_after}
 use Rattle.game_tellings.specs.Events.{same_score, scores_in}
 use Rattle.game_tellings.specs.Laws.{LastScoreIsTheEnds, all_scores, last_or, nothing}
-use Rattle.game_tellings.specs.Told.{told_in_rounds, told_in_turns}
+use Rattle.match_run.specs.Told.{told_in_rounds, told_in_turns}
 
 -- the last of some scores and then more
 last_or-append : (score : Score) (xs ys : List Score) → last_or score (xs ++ ys) ≡ last_or (last_or score xs) ys

@@ -1,5 +1,5 @@
 -- How often each state was executed, counted turn by turn.
-use Rattle.std.proofs.Common.{◌≡◌, ◌≢◌, inl, inr, ℕ, ◌+◌, ◌<◌, ◌≤◌, ◌^◌, ◌&&◌, Bool, true, false, cond, List, [], ◌∷◌, ◌++◌, length, filter, slice_index_or, refl, sym, ◌∙◌, ap, ap₂, subst, append-nil, append_assoc, arith}
+use Rattle.std.proofs.Common.{◌≡◌, ◌≢◌, inl, inr, ℕ, ◌+◌, ◌<◌, ◌≤◌, ◌^◌, ◌&&◌, Bool, true, false, cond, List, [], ◌∷◌, ◌++◌, length, filter, slice_index_or, refl, sym, ◌∙◌, ap, ap₂, subst, arith}
 use Rattle.std.specs.Prelude.{◌==◌}
 use Rattle.std.proofs.lemmas.Bool.{cases_eq, cases_lt, eq-eqb, eqb-true, false_from_ne_true}
 use Rattle.std.proofs.lemmas.List.{get_or-set_other, get_or-set_same, get_or_append_left, get_or_push, length-append, length-set}
@@ -20,22 +20,6 @@ pub AreFew-less : (tallies : Tallies) (left less : ℕ) → AreFew tallies left 
 AreFew-less tallies left less few within = record {
   times = λ colour state. omega (arith, few.times colour state, within);
   met = λ colour state. omega (arith, few.met colour state, within);
-}
-
--- nothing more is counted
-pub CountsOn-none : (minds : Minds) (tallies : Tallies) → CountsOn minds [] 0 tallies tallies
-CountsOn-none minds tallies = record {
-  on = λ list counted. subst (λ all. AreTallied minds all tallies) (sym (append-nil list)) counted;
-  few = λ left few. subst (AreFew tallies) (let e : left + 0 ≡ left = omega arith in e) few;
-  states = λ have. have;
-}
-
--- some, and then some more
-pub CountsOn-then : {minds : Minds} {first : List Executed} {turns : ℕ} {old mid : Tallies} → CountsOn minds first turns old mid → (more : List Executed) (later : ℕ) (new : Tallies) → CountsOn minds more later mid new → CountsOn minds (first ++ more) (turns + later) old new
-CountsOn-then {minds} {first} {turns} {old} {mid} counted more later new then = record {
-  on = λ list before. subst (λ all. AreTallied minds all new) (append_assoc list first more) (then.on (list ++ first) (counted.on list before));
-  few = λ left few. then.few left (counted.few (left + later) (subst (AreFew old) (let e : left + (turns + later) ≡ left + later + turns = omega arith in e) few));
-  states = λ have. then.states (counted.states have);
 }
 
 -- a test that one more element passes, or doesn't
@@ -165,14 +149,6 @@ module _ (minds : Minds) (old new : Tallies) (e : Executed) (counted : tallies_o
     few = λ left few. record { times = few_times left few; met = few_met left few };
     states = λ have colour. as_long colour ∙ have colour;
   }
-
--- what was counted in some turns was counted in no more than so many
-pub CountsOn-within : {minds : Minds} {more : List Executed} {turns : ℕ} {old new : Tallies} → CountsOn minds more turns old new → (most : ℕ) → turns ≤ most → CountsOn minds more most old new
-CountsOn-within {minds} {more} {turns} {old} {new} counted most within = record {
-  on = counted.on;
-  few = λ left few. counted.few left (AreFew-less old (left + most) (left + turns) few (omega (arith, within)));
-  states = counted.states;
-}
 
 -- tallies of nothing, one more
 pub none-more : (colour : Colour) (states : ℕ) (tallies : List Tally) → IsTallied colour states [] tallies → IsTallied colour (states + 1) [] (tallies ++ no_tally ∷ [])

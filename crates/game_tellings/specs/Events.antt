@@ -1,8 +1,6 @@
 -- Who dies in a game, and how the score goes (this project's own; deaths are the task's martial arts, the score its game play).
-use Rattle.std.specs.Prelude.{ℕ, ◌==◌, ◌&&◌, Bool, if◌then◌else◌, nat_eq, List, [], ◌∷◌, ◌++◌, map, flat_map, Option, Some, None, codes, decimal, option_map}
-use Rattle.std.specs.Option.{option_and_then}
+use Rattle.std.specs.Prelude.{ℕ, ◌==◌, ◌&&◌, Bool, if◌then◌else◌, List, [], ◌∷◌, ◌++◌, map, flat_map, Option, Some, None, codes, decimal}
 use Rattle.hex_geometry.specs.declared.position.Pos.{Pos}
-use Rattle.hex_geometry.specs.Neighbourhood.{adjacent_pos}
 use Rattle.ant_base.specs.Layout.{◌+++◌}
 use Rattle.ant_turn.specs.Minds.{Minds}
 use Rattle.ant_turn.specs.Rounds.{Moment, start_of}
@@ -10,22 +8,11 @@ use Rattle.ant_turn.specs.Turn.{turn}
 use Rattle.cell_world.specs.declared.ant.Ant.{Ant}
 use Rattle.cell_world.specs.declared.score.Score.{Score}
 use Rattle.cell_world.specs.Score.{score_of}
-use Rattle.cell_world.specs.World.{World, place_in, with_cells}
+use Rattle.cell_world.specs.World.{World, with_cells}
 use Rattle.dump_print.specs.Content.{colour_text}
 use Rattle.dump_print.specs.Texts.{seed_text}
-use Rattle.game_tellings.specs.Told.{told_in_rounds}
-
--- the ant of an id, while it is alive
-unfoldable pub ant_in : World → ℕ → Option Ant
-ant_in w t = option_and_then (λ p. (w.cells p).ant) (place_in w t)
-
--- the cell ahead of the ant of an id
-unfoldable pub ahead_of : World → ℕ → Option Pos
-ahead_of w t = option_and_then (λ p. option_map (λ (ant : Ant). adjacent_pos p ant.facing) (w.cells p).ant) (place_in w t)
-
--- where an ant dies that is killed in the turn of t in this world: that of t on the cell ahead, onto which it has moved, and each other where it stands
-unfoldable pub death_place : World → ℕ → ℕ → Option Pos
-death_place w t killed = if nat_eq killed t then ahead_of w t else place_in w killed
+use Rattle.match_run.specs.Seen.{Killed, Seen, ant_in, death_place}
+use Rattle.match_run.specs.Told.{told_in_rounds}
 
 -- an ant's colour and id
 abbrev pub ant_words : Option Ant → List ℕ
@@ -56,6 +43,18 @@ same_score one other = (one.red == other.red) && (one.black == other.black)
 -- the scores that are told of a turn: the one after it, where it is another than before
 abbrev pub changed_score : Score → Score → List Score
 changed_score before after = if same_score before after then [] else after ∷ []
+
+-- the line of an ant that is killed in the turn of another
+abbrev pub death_line : ℕ → Ant → Killed → List ℕ
+death_line round actor killed = (codes "round " +++ decimal round +++ codes ", " +++ ant_words (Some actor) +++ codes ": ") +++ ant_words killed.ant +++ codes " dies on " +++ place_words killed.place
+
+-- the line of the score after it
+abbrev pub score_line : ℕ → Ant → Score → List ℕ
+score_line round actor score = (codes "round " +++ decimal round +++ codes ", " +++ ant_words (Some actor) +++ codes ": ") +++ codes "score: red " +++ decimal score.red +++ codes " black " +++ decimal score.black
+
+-- the lines of what is seen of a turn
+abbrev pub event_lines : Seen → List (List ℕ)
+event_lines seen = map (death_line seen.round seen.ant) seen.killed ++ map (score_line seen.round seen.ant) (changed_score seen.before seen.after)
 
 -- the ants that are killed in a turn, in the order of the checks
 unfoldable pub deaths_in : Minds → ℕ → Moment → ℕ → List ℕ

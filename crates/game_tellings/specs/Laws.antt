@@ -13,9 +13,10 @@ use Rattle.cell_world.specs.Score.{score_of}
 use Rattle.cell_world.specs.Valid.{Valid}
 use Rattle.cell_world.specs.World.{World, place_in}
 use Rattle.match_run.specs.Run.{world_after}
-use Rattle.game_tellings.specs.Events.{ant_in, deaths_in, scores_in}
+use Rattle.match_run.specs.Seen.{ant_in}
+use Rattle.game_tellings.specs.Events.{deaths_in, scores_in}
 use Rattle.game_tellings.specs.Profile.{executed_in_rounds, times_of}
-use Rattle.game_tellings.specs.Told.{told_in_rounds}
+use Rattle.match_run.specs.Told.{told_in_rounds}
 
 -- all ants that are killed in the rounds of a game, turn after turn: those of the lines
 unfoldable pub all_deaths : Minds → ℕ → World → ℕ → List ℕ

@@ -3,7 +3,7 @@ pub mod Inner
 pub mod Laws
 pub mod Profile
 pub mod Pushes
-pub mod Told
+pub mod Report
 pub use Rattle.ant_base.specs.Layout
 pub use Rattle.ant_base.specs.Sink
 pub use Rattle.ant_turn.specs.Minds

@@ -1,13 +1,10 @@
 -- How often each state is executed (this project's own; states are the task's neurology, turns its kinetics).
-use Rattle.std.specs.Prelude.{ℕ, zero, suc, ◌==◌, ◌&&◌, ◌||◌, Bool, true, not, List, [], ◌∷◌, length, filter, Option, Some, None, codes, decimal}
+use Rattle.std.specs.Prelude.{ℕ, zero, suc, ◌==◌, ◌&&◌, Bool, List, [], ◌∷◌, length, filter, Option, Some, None, codes, decimal}
 use Rattle.hex_geometry.specs.declared.position.Pos.{Pos}
-use Rattle.hex_geometry.specs.Neighbourhood.{adjacent_pos, sensed_pos}
 use Rattle.ant_base.specs.Layout.{numbered, ◌+++◌}
-use Rattle.ant_random.specs.Stream.{drawn}
-use Rattle.ant_turn.specs.Conditions.{meets}
 use Rattle.ant_turn.specs.Minds.{Minds, mind_of}
 use Rattle.ant_turn.specs.Rounds.{Moment, start_of}
-use Rattle.ant_turn.specs.Turn.{instruction_at, is_blocked}
+use Rattle.ant_turn.specs.Turn.{instruction_at}
 use Rattle.brain_read.specs.Canonical.{instruction_text}
 use Rattle.brain_read.specs.declared.instr.Instr.{Instr}
 use Rattle.brain_read.specs.declared.instr.Instr.TheVariants.{Sense, Mark, Unmark, PickUp, Drop, Turn, Move, Flip}
@@ -19,19 +16,8 @@ use Rattle.cell_world.specs.World.{Cells, World, place_in}
 use Rattle.dump_print.specs.Content.{colour_text}
 use Rattle.dump_print.specs.Texts.{seed_text}
 use Rattle.game_tellings.specs.declared.executed.Executed.{Executed}
-use Rattle.game_tellings.specs.Told.{told_in_rounds}
-
--- whether an instruction's answer is the first: the condition holds, a particle is taken, the ant moves, the number drawn is 0; an instruction
--- with one answer has that
-abbrev pub is_met : ℕ → Cells → ℕ → Pos → Ant → Instr → Bool
-is_met seed cells place p ant (Sense sight met unmet condition) = meets (cells (sensed_pos p ant.facing sight)) condition ant.colour
-is_met seed cells place p ant (Mark i next) = true
-is_met seed cells place p ant (Unmark i next) = true
-is_met seed cells place p ant (PickUp met unmet) = not (ant.laden || ((cells p).food == 0))
-is_met seed cells place p ant (Drop next) = true
-is_met seed cells place p ant (Turn side next) = true
-is_met seed cells place p ant (Move met unmet) = not (is_blocked (cells (adjacent_pos p ant.facing)))
-is_met seed cells place p ant (Flip bound met unmet) = drawn seed place bound == 0
+use Rattle.match_run.specs.Seen.{is_met}
+use Rattle.match_run.specs.Told.{told_in_rounds}
 
 -- what the ant of p executes, which rests for so many more turns: its state, if it doesn't rest
 abbrev pub executed_by : ℕ → Minds → ℕ → Cells → ℕ → Pos → Ant → List Executed

@@ -1,12 +1,15 @@
 // What an ant executes in its turn, and whether its answer is the first.
-ghost use Rattle.std.specs.Prelude.{◌≡◌, ◌+◌, ◌<◌, ◌≤◌, ◌^◌, ◌==◌, ℕ, length, option_to_list, IfSome};
+ghost use Rattle.std.specs.Prelude.{◌≡◌, ◌+◌, ◌<◌, ◌≤◌, ◌^◌, ◌==◌, ℕ, [], ◌∷◌, length, Some};
 ghost use Rattle.ant_random.specs.Stream.{drawn};
 ghost use Rattle.ant_turn.specs.Inner.Stands.{StandsAt};
 ghost use Rattle.ant_turn.specs.Minds.{Fits, mind_of, minds_of};
 ghost use Rattle.brain_read.specs.Soundness.{IsSound};
 ghost use Rattle.cell_world.specs.Grid.{world_of};
 ghost use Rattle.game_tellings.specs.Profile as profile;
-ghost use Rattle.match_run.specs.Inner.Sequential.{moment_from};
+ghost use Rattle.match_run.specs.Seen as seen;
+ghost use Rattle.cell_world.specs.Valid.{Valid};
+ghost use Rattle.cell_world.specs.World.{place_in};
+ghost use Rattle.match_run.specs.Watch.{moment_of};
 
 use ant_random::Stream;
 use ant_turn::{Brains, is_blocked, matches};
@@ -22,40 +25,37 @@ pub(crate) struct Executed {
     pub met: bool,
 }
 
-// What the ant of this id executes in its turn, if it is alive and doesn't rest. `ahead` may be any stream: it only spares looking numbers up.
-#[inline]
-pub(crate) fn executed_in(
+// What this ant executes in its turn, which doesn't rest. `ahead` may be any stream: it only spares looking numbers up.
+#[inline(always)]
+pub(crate) fn executed_by(
     world: &mut World,
-    brains: Brains<'_>,
+    brains: &Brains<'_>,
     stream: &Stream,
     ahead: &mut Stream,
-    id: u32,
-) -> Option<Executed>
-    requires fit { Fits (world_of world.old) (minds_of brains) }
-    requires id { id < world.old.ids }
+    standing: PlacedAnt,
+) -> Executed
+    requires valid { Valid (world_of world.old) }
+    requires fit { Fits (world_of world.old) (minds_of brains.now) }
+    requires found { place_in (world_of world.old) standing.ant.id ≡ Some standing.place }
+    requires here { ((world_of world.old).cells standing.place).ant ≡ Some standing.ant }
+    requires up { standing.ant.resting ≡ 0 }
     requires place { stream.now.place + 1 < 2 ^ 63 }
-    ensures executed { option_to_list result ≡ profile.executed_in (minds_of brains.entry) stream.now.seed (moment_from world.old stream.now) id }
-    ensures state { IfSome result (λ e. e.state < length (mind_of (minds_of brains.entry) e.colour)) }
+    ensures executed { profile.executed_in (minds_of brains.now) stream.now.seed (moment_of (world_of world.old) stream.now) standing.ant.id ≡ result ∷ [] }
+    ensures state { result.state < length (mind_of (minds_of brains.now) result.colour) }
     ensures world { world_of world.new ≡ world_of world.old }
 {
-    let Some(standing) = world.ant_of(id) else {
-        return None;
-    };
     let ant = standing.ant;
-    if ant.resting > 0 {
-        return None;
-    }
     let instruction = brains.of(ant.colour).at(ant.state);
-    Some(Executed {
+    Executed {
         colour: ant.colour,
         state: ant.state,
         met: is_met(world, stream, ahead, standing, instruction),
-    })
+    }
 }
 
 // Whether the answer of the ant's instruction is the first.
-#[inline]
-fn is_met(
+#[inline(always)]
+pub(crate) fn is_met(
     world: &mut World,
     stream: &Stream,
     ahead: &mut Stream,
@@ -65,7 +65,7 @@ fn is_met(
     requires stands { StandsAt (world_of world.old) standing.place ((world_of world.old).cells standing.place) standing.ant }
     requires sound { (states : ℕ) × IsSound states instruction }
     requires place { stream.now.place + 1 < 2 ^ 63 }
-    ensures met { result ≡ profile.is_met stream.now.seed (world_of world.old).cells stream.now.place standing.place standing.ant instruction }
+    ensures met { result ≡ seen.is_met stream.now.seed (world_of world.old).cells stream.now.place standing.place standing.ant instruction }
     ensures world { world_of world.new ≡ world_of world.old }
 {
     let (p, ant) = (standing.place, standing.ant);
@@ -81,7 +81,7 @@ fn is_met(
 }
 
 // Whether the next number below this bound is 0. The stream stays; the other one draws, and so it stands at the next Flip where the stream does.
-#[inline]
+#[inline(always)]
 fn is_zero_next(stream: &Stream, ahead: &mut Stream, bound: u32) -> bool
     requires some { 1 ≤ bound }
     requires place { stream.now.place + 1 < 2 ^ 63 }
@@ -92,7 +92,7 @@ fn is_zero_next(stream: &Stream, ahead: &mut Stream, bound: u32) -> bool
 }
 
 // Takes a stream to where the other one is, if it isn't there.
-#[inline]
+#[inline(always)]
 fn catch_up(ahead: &mut Stream, stream: &Stream)
     requires place { stream.now.place < 2 ^ 63 }
     ensures seed { ahead.new.seed ≡ stream.now.seed }

@@ -10,6 +10,7 @@ mod death;
 mod event_lines;
 mod executed;
 mod laws;
+mod report;
 mod scored;
 mod state_lines;
 mod tally;

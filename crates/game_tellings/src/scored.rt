@@ -1,13 +1,13 @@
 // A world whose score is known at each time.
-ghost use Rattle.std.specs.Prelude.{◌≡◌, ◌+◌, ◌-◌, ◌≤◌, take};
+ghost use Rattle.std.specs.Prelude.{◌≡◌, ◌+◌, ◌-◌, ◌≤◌};
 ghost use Rattle.cell_world.specs.declared.ant.Colour.TheVariants.{Red, Black};
 ghost use Rattle.cell_world.specs.Grid.{world_of};
 ghost use Rattle.cell_world.specs.Limits.{most_weight};
-ghost use Rattle.cell_world.specs.Resting.{ActsListed, rested};
 ghost use Rattle.cell_world.specs.Score.{hill_food_in, score_of};
 
 use cell_world::{Ant, Cell, Colour, Ground, PlacedAnt, Score, World};
 use hex_geometry::Pos;
+use match_run::Board;
 use std::marker::Model;
 
 // A world and its score, which goes on with each cell that is set. A contract sees the world alone.
@@ -45,26 +45,17 @@ impl ScoredWorld {
     {
         self.score
     }
+}
 
-    // The world as it is.
-    #[inline]
-    pub(crate) fn world(&self) -> &World
-        ensures { result.now ≡ self.now }
-    {
-        &self.world
+impl Board for ScoredWorld {
+    #[inline(always)]
+    fn ids(&self) -> u32 {
+        self.world.ant_count()
     }
 
-    // Lets those of at most 64 ids that rest rest one turn less, and lists the others, as a world does.
-    #[inline]
-    pub(crate) fn rest_some(&mut self, from: u32, to: u32, acting: &mut [u16; 64]) -> usize
-        requires order { from ≤ to }
-        requires made { to ≤ self.old.ids }
-        requires few { to ≤ from + 64 }
-        ensures world { world_of self.new ≡ rested from to (world_of self.old) }
-        ensures listed { ActsListed (world_of self.old) from (to - from) (take result acting.new) }
-        ensures count { result ≤ to - from }
-    {
-        self.world.rest_some(from, to, acting)
+    #[inline(always)]
+    fn count_down_rests(&mut self, from: u32, to: u32, acting: &mut [u16; 64]) -> usize {
+        self.world.count_down_rests(from, to, acting)
     }
 }
 

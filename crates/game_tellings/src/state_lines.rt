@@ -1,30 +1,26 @@
 // The text of a game's profile.
-ghost use Rattle.std.specs.Prelude.{◌≡◌, ◌+◌, ◌*◌, ◌<◌, ◌≤◌, ◌^◌, [], length, option_to_list, IfSome};
+ghost use Rattle.std.specs.Prelude.{◌≡◌, ◌*◌, ◌≤◌, [], length};
 ghost use Rattle.ant_base.specs.Layout.{◌+++◌};
 ghost use Rattle.ant_base.specs.Sink.{Pushed};
-ghost use Rattle.ant_turn.specs.Minds.{Fits, Minds, minds_of};
-ghost use Rattle.ant_turn.specs.Turn.{turn};
-ghost use Rattle.cell_world.specs.Cell.{one_if};
+ghost use Rattle.ant_turn.specs.Minds.{Fits, minds_of};
 ghost use Rattle.cell_world.specs.declared.ant.Colour.TheVariants.{Red, Black};
 ghost use Rattle.cell_world.specs.Grid.{world_of};
 ghost use Rattle.cell_world.specs.Limits.{most_ants};
-ghost use Rattle.cell_world.specs.World.{with_cells};
 ghost use Rattle.dump_print.specs.Texts.{seed_text};
-ghost use Rattle.game_tellings.specs.Inner.Tallies.{AreFew, AreTallied, CountsOn, HaveStates, counted_line, tallies_of, tally_lines};
-ghost use Rattle.game_tellings.specs.Profile.{executed_in, executed_in_rounds, met_text, profile_text, tally_line};
+ghost use Rattle.game_tellings.specs.Inner.Tallies.{AreFew, AreTallied, HaveStates, counted_line, tally_lines};
+ghost use Rattle.game_tellings.specs.Profile.{executed_in_rounds, met_text, profile_text, tally_line};
 ghost use Rattle.game_tellings.specs.Pushes.{PushedBefore};
-ghost use Rattle.game_tellings.specs.Told.{told_in_round};
-ghost use Rattle.match_run.specs.Inner.Sequential.{LastsARound, RoundTaken, moment_from};
 ghost use Rattle.match_run.specs.Run.{most_rounds};
 
-use crate::executed::{Executed, executed_in};
+use crate::executed::executed_by;
 use crate::tally::{Tallies, Tally};
 use ant_base::{Each, Failed, Layout, Parts, PushFault, Sink, layout};
 use ant_random::Stream;
-use ant_turn::{Brains, take_turn};
+use ant_turn::{Brains, act};
 use brain_read::{Brain, Instr};
-use cell_world::{Colour, World};
+use cell_world::{Colour, PlacedAnt, World};
 use dump_print::{ColourWord, push_seed};
+use match_run::{Watch, watch_rounds};
 use std::alloc::Global;
 
 /// Plays a game and then pushes how often each state was executed: the line of the seed, a line for each state of the red brain, from 0, and after
@@ -48,86 +44,91 @@ pub fn profile<K: Sink>(
     requires few_rounds { rounds ≤ most_rounds }
     ensures { PushedBefore (K.state sink.old) (K.state sink.new) (profile_text (minds_of brains.entry) seed (world_of world) rounds) result }
 {
-    let mut tallies = Tallies::new(alloc, brains)?;
-    count_rounds(world, brains, seed, rounds, &mut tallies);
+    let none = Tallies::new(alloc, brains)?;
+    let tallies = count_rounds(world, brains, seed, rounds, none);
     Ok(push_profile(brains, seed, &tallies, sink)?)
 }
 
 // Plays so many rounds, and counts what is executed in them.
-fn count_rounds(world: World, brains: Brains<'_>, seed: u32, rounds: u32, tallies: &mut Tallies)
+fn count_rounds(
+    world: World,
+    brains: Brains<'_>,
+    seed: u32,
+    rounds: u32,
+    tallies: Tallies,
+) -> Tallies
     requires fit { Fits (world_of world) (minds_of brains) }
     requires few_rounds { rounds ≤ most_rounds }
-    requires none { AreTallied (minds_of brains) [] tallies.old }
-    requires few { AreFew tallies.old (rounds * most_ants) }
-    ensures { AreTallied (minds_of brains.entry) (executed_in_rounds (minds_of brains.entry) seed (world_of world) rounds) tallies.new }
+    requires none { AreTallied (minds_of brains) [] tallies }
+    requires few { AreFew tallies (rounds * most_ants) }
+    ensures { AreTallied (minds_of brains.entry) (executed_in_rounds (minds_of brains.entry) seed (world_of world) rounds) result }
 {
     let mut world = world;
     let mut stream = Stream::from_seed(seed);
-    let mut ahead = Stream::from_seed(seed);
-    for _ in 0..rounds {
-        count_round(&mut world, brains, &mut stream, &mut ahead, tallies);
-    }
+    let mut counting = Counting {
+        tallies,
+        ahead: Stream::from_seed(seed),
+    };
+    let _watched = watch_rounds(
+        &StateWatch,
+        &mut world,
+        &brains,
+        &mut stream,
+        rounds,
+        &mut counting,
+    );
+    let Counting {
+        tallies,
+        ahead: _ahead,
+    } = counting;
+    tallies
 }
 
-// Plays a round, and counts what is executed in it.
-fn count_round(
-    world: &mut World,
-    brains: Brains<'_>,
-    stream: &mut Stream,
-    ahead: &mut Stream,
-    tallies: &mut Tallies,
-)
-    requires fit { Fits (world_of world.old) (minds_of brains) }
-    requires place { LastsARound stream.old }
-    requires states { HaveStates (minds_of brains) tallies.old }
-    requires few { AreFew tallies.old most_ants }
-    ensures taken { RoundTaken (minds_of brains.entry) world.old stream.old world.new stream.new }
-    ensures counted { CountsOn (minds_of brains.entry)
-        (told_in_round (executed_in (minds_of brains.entry) stream.old.seed) (minds_of brains.entry) stream.old.seed (moment_from world.old stream.old)) most_ants tallies.old tallies.new }
-{
-    for id in 0..world.ant_count() {
-        count_turn(world, brains, stream, ahead, id, tallies);
-    }
+// What was counted, and a stream that may be any: it only spares looking numbers up.
+#[derive(Drop)]
+struct Counting {
+    tallies: Tallies,
+    ahead: Stream,
 }
 
-// Takes a turn, and counts what is executed in it.
-#[inline(always)]
-fn count_turn(
-    world: &mut World,
-    brains: Brains<'_>,
-    stream: &mut Stream,
-    ahead: &mut Stream,
-    id: u32,
-    tallies: &mut Tallies,
-)
-    requires fit { Fits (world_of world.old) (minds_of brains) }
-    requires id { id < world.old.ids }
-    requires place { stream.old.place + 1 < 2 ^ 63 }
-    requires states { HaveStates (minds_of brains) tallies.old }
-    requires few { AreFew tallies.old 1 }
-    ensures world { world_of world.new ≡ with_cells (world_of world.old)
-        (turn (minds_of brains.entry) stream.old.seed (world_of world.old) stream.old.place id).cells }
-    ensures stream { stream.new ≡ record stream.old {
-      place = stream.old.place + one_if (turn (minds_of brains.entry) stream.old.seed (world_of world.old) stream.old.place id).drew;
-    } }
-    ensures fit { Fits (world_of world.new) (minds_of brains.entry) }
-    ensures counted { CountsOn (minds_of brains.entry)
-        (executed_in (minds_of brains.entry) stream.old.seed (moment_from world.old stream.old) id) 1 tallies.old tallies.new }
-{
-    let executed = executed_in(world, brains, stream, ahead, id);
-    let _deed = take_turn(world, brains, stream, id);
-    count_if_any(tallies, executed);
-}
+// It counts what is executed in each turn.
+struct StateWatch;
 
-// Counts what is executed, if anything.
-#[inline]
-fn count_if_any(tallies: &mut Tallies, executed: Option<Executed>)
-    requires state { IfSome executed (λ e. e.state < length (tallies_of tallies.old e.colour)) }
-    requires few { AreFew tallies.old 1 }
-    ensures { (minds : Minds) → CountsOn minds (option_to_list executed) 1 tallies.old tallies.new }
-{
-    if let Some(executed) = executed {
-        tallies.count(executed);
+impl Watch for StateWatch {
+    ghost use Rattle.std.specs.Prelude.{IsTrue, []};
+    ghost use Rattle.std.specs.Result.{is_ok};
+    ghost use Rattle.game_tellings.specs.declared.executed.Executed.{Executed};
+    ghost use Rattle.game_tellings.specs.Inner.Tallies.{AreFew, CountsMore, HaveStates};
+    ghost use Rattle.game_tellings.specs.Profile.{executed_in};
+
+    type On = World;
+
+    type Log = Counting;
+
+    type Stop = ();
+
+    ghost Told = { Executed };
+
+    ghost telling = { λ _ minds seed _. executed_in minds seed };
+
+    ghost logs = { λ _ old new told result. IsTrue (is_ok result) × CountsMore told old.tallies new.tallies };
+
+    ghost ready = { λ _ minds counting turns. HaveStates minds counting.tallies × AreFew counting.tallies turns };
+
+    #[inline(always)]
+    fn turn(
+        &self,
+        world: &mut World,
+        brains: &Brains<'_>,
+        stream: &mut Stream,
+        standing: PlacedAnt,
+        _round: u32,
+        counting: &mut Counting,
+    ) -> Result<(), ()> {
+        let executed = executed_by(world, brains, stream, &mut counting.ahead, standing);
+        let _deed = act(world, *brains, stream, standing);
+        counting.tallies.count(executed);
+        Ok(())
     }
 }
 

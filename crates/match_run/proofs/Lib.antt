@@ -1,6 +1,12 @@
 -- Rounds that are played one after another.
 pub mod SequentialLemmas
 pub mod RisingRounds
+-- What is told of turns, and who watches them.
+pub mod ToldLemmas
+pub mod RestsUntold
+pub mod WatchLemmas
+-- What is seen of a turn.
+pub mod SeenLemmas
 -- Windows and their counts.
 pub mod CountLemmas
 pub mod WindowLemmas

@@ -1,15 +1,13 @@
 -- Turns and rounds, one after another.
-use Rattle.std.proofs.Common.{◌≡◌, ℕ, ◌+◌, ◌-◌, ◌≤◌, List, ◌∷◌, refl, sym, ◌∙◌, ap, ap₂, arith, subst}
+use Rattle.std.proofs.Common.{◌≡◌, ℕ, ◌+◌, ◌≤◌, refl, sym, ◌∙◌, ap, ap₂, arith}
 use Rattle.ant_random.specs.Stream.{SeedAndPlace}
 use Rattle.cell_world.specs.Cell.{one_if}
 use Rattle.cell_world.specs.Grid.{Grid, world_of}
 use Rattle.cell_world.specs.World.{with_cells}
-use Rattle.ant_turn.specs.Listed.{AreUp, after_listed}
 use Rattle.ant_turn.specs.Minds.{Minds, Fits}
 use Rattle.ant_turn.specs.Rounds.{Moment, after_turn, after_turns, after_round, after_rounds}
 use Rattle.ant_turn.specs.Turn.{turn}
-use Rattle.ant_turn.proofs.KeptByRounds.{IsWithin, after_turn-place, after_turns-ids, after_turns-more, after_turns-place, after_turns-then, after_rounds-then}
-use Rattle.ant_turn.proofs.RestingChunks.{AreUp-next}
+use Rattle.ant_turn.proofs.KeptByRounds.{after_turns-ids, after_turns-more, after_turns-place, after_rounds-then}
 use Rattle.round_book.proofs.BookLemmas.{moment_at}
 use Rattle.match_run.specs.Sequential.{IsPlayedOn, SequentialValue, standing}
 use Rattle.match_run.specs.Inner.Sequential.{moment_from}
@@ -60,55 +58,6 @@ IsTaken-more {minds} {first} {start} {turns} {grid} {stream} taken next later wo
           ∙ sym (after_turns-more minds start.seed (moment_from first start) 0 turns);
       seed = ap (λ (s : SeedAndPlace). s.seed) place ∙ taken.seed;
       fits = fits;
-    }
-
--- the turns of some more ids are taken
-pub IsTaken-chunk : {minds : Minds} {first : Grid} {start : SeedAndPlace} {turns : ℕ} {grid : Grid} {stream : SeedAndPlace} → IsTaken minds first start turns grid stream → (next : Grid) (later : SeedAndPlace) (to : ℕ) → turns ≤ to
-    → moment_from next later ≡ after_turns minds stream.seed (moment_from grid stream) turns (to - turns)
-    → later.seed ≡ stream.seed → Fits (world_of next) minds → IsTaken minds first start to next later
-IsTaken-chunk {minds} {first} {start} {turns} {grid} {stream} taken next later to onward played same fits =
-    let from_zero : turns ≡ 0 + turns = omega arith in
-    let all : turns + (to - turns) ≡ to = omega arith in
-    let earlier : Moment = after_turns minds start.seed (moment_from first start) 0 turns in
-    record {
-      moment =
-          played
-          ∙ ap (λ (seed : ℕ). after_turns minds seed (moment_from grid stream) turns (to - turns)) taken.seed
-          ∙ ap (λ (m : Moment). after_turns minds start.seed m turns (to - turns)) taken.moment
-          ∙ ap (λ t. after_turns minds start.seed earlier t (to - turns)) from_zero
-          ∙ after_turns-then minds start.seed (moment_from first start) 0 turns (to - turns)
-          ∙ ap (after_turns minds start.seed (moment_from first start) 0) all;
-      seed = same ∙ taken.seed;
-      fits = fits;
-    }
-
--- of listed ids some had their turns, and some are left
-pub record IsListed (minds : Minds) (first : Grid) (start : SeedAndPlace) (ids left : List ℕ) (turns : ℕ) (grid : Grid) (stream : SeedAndPlace) : Type 0 where
-  pub moment : after_listed minds start.seed (moment_from grid stream) left ≡ after_listed minds start.seed (moment_from first start) ids
-  pub seed : stream.seed ≡ start.seed
-  pub fits : Fits (world_of grid) minds
-  pub up : AreUp (world_of grid) left
-  pub place : stream.place ≤ start.place + turns
-
--- all are left
-pub IsListed-none : (minds : Minds) (first : Grid) (start : SeedAndPlace) (ids : List ℕ) → Fits (world_of first) minds → AreUp (world_of first) ids → IsListed minds first start ids ids 0 first start
-IsListed-none minds first start ids fits up = record { moment = refl; seed = refl; fits = fits; up = up; place = omega arith }
-
--- the next one had its turn
-pub IsListed-more : {minds : Minds} {first : Grid} {start : SeedAndPlace} {ids : List ℕ} {t : ℕ} {left : List ℕ} {turns : ℕ} {grid : Grid} {stream : SeedAndPlace} → IsListed minds first start ids (t ∷ left) turns grid stream → (next : Grid) (later : SeedAndPlace)
-    → world_of next ≡ with_cells (world_of grid) (turn minds stream.seed (world_of grid) stream.place t).cells
-    → later ≡ record stream { place = stream.place + one_if (turn minds stream.seed (world_of grid) stream.place t).drew }
-    → Fits (world_of next) minds → IsListed minds first start ids left (turns + 1) next later
-IsListed-more {minds} {first} {start} {ids} {t} {left} {turns} {grid} {stream} listed next later world place fits =
-    let now : moment_from next later ≡ after_turn minds start.seed (moment_from grid stream) t =
-    moment-turn minds grid next stream later t world place ∙ ap (λ (seed : ℕ). after_turn minds seed (moment_from grid stream) t) listed.seed in
-    let within : IsWithin stream.place 1 (after_turn minds start.seed (moment_from grid stream) t).place = after_turn-place minds start.seed (moment_from grid stream) t in
-    record {
-      moment = ap (λ (m : Moment). after_listed minds start.seed m left) now ∙ listed.moment;
-      seed = ap (λ (s : SeedAndPlace). s.seed) place ∙ listed.seed;
-      fits = fits;
-      up = subst (λ (m : Moment). AreUp m.world left) (sym now) (AreUp-next minds start.seed (moment_from grid stream) t left listed.up);
-      place = omega (arith, ap (λ (m : Moment). m.place) now, within.to, listed.place);
     }
 
 -- the round is over where each id had its turn

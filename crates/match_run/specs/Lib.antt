@@ -8,8 +8,11 @@ pub mod Play
 pub mod Later
 pub mod Run
 pub mod RunLaws
+pub mod Seen
 pub mod Sequential
 pub mod Stopped
+pub mod Told
+pub mod Watch
 pub use Rattle.ant_base.specs.Layout
 pub use Rattle.ant_base.specs.NumberList
 pub use Rattle.ant_base.specs.Sink

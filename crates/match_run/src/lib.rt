@@ -10,17 +10,20 @@
 #![tactic(auto)]
 
 mod alone;
+mod board;
 mod dumps;
 mod game;
 mod laws;
 mod plan;
-mod sequential;
 mod sequential_game;
+mod watch;
+mod watched;
 mod whole_run;
 mod windows;
 
 pub use alone::{play_alone, play_on_alone, play_score};
 pub use ant_base::PushFault as PlayFault;
+pub use board::Board;
 pub use dump_print::Totals;
 pub use dumps::{Dumps, Rounds};
 pub use game::Game;
@@ -33,4 +36,6 @@ pub use laws::{
 };
 pub use plan::{MOST_ROUNDS, Plan};
 pub use sequential_game::SequentialGame;
+pub use watch::Watch;
+pub use watched::{watch_round, watch_rounds};
 pub use whole_run::{play, play_on};

@@ -6,7 +6,8 @@ ghost use Rattle.cell_world.specs.Limits.{most_ants};
 ghost use Rattle.match_run.specs.Run.{most_rounds};
 ghost use Rattle.match_run.specs.Sequential.{IsPlayedOn, IsSequential};
 
-use crate::sequential::play_round;
+use crate::watch::Nobody;
+use crate::watched::watch_round;
 use ant_random::Stream;
 use ant_turn::Brains;
 use cell_world::World;
@@ -87,7 +88,14 @@ impl<'b> SequentialGame<'b> {
     {
         // the stream stands in a place of its own meanwhile, which no write to the world can reach: so a turn keeps it in registers
         let mut stream = mem::replace(&mut self.stream, Stream::from_seed(0));
-        play_round(&mut self.world, self.brains, &mut stream);
+        let _watched = watch_round(
+            &Nobody,
+            &mut self.world,
+            &self.brains,
+            &mut stream,
+            self.done + 1,
+            &mut (),
+        );
         self.stream = stream;
         self.done += 1;
     }

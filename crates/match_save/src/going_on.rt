@@ -15,7 +15,7 @@ use ant_base::Sink;
 use cell_world::Score;
 use hex_geometry::OutOfMemory;
 use match_run::{Dumps, Game, PlayFault, SequentialGame, play_on, play_on_alone};
-use round_book::{Crew, Field, recall_validity};
+use round_book::{Crew, Field, lemma_valid};
 use std::alloc::Global;
 
 /// Goes on with a saved game by any crew until so many rounds are done in all, and pushes the rest of its text: the dump after each later round
@@ -85,7 +85,7 @@ pub fn advance<C: Crew>(
 {
     let mut game = game_of(alloc, saved)?;
     play_rounds(alloc, crew, &mut game, rounds - saved.round())?;
-    recall_validity(game.field().brains(), game.world());
+    lemma_valid(game.field().brains(), game.world());
     save_of(alloc, &game)
 }
 

@@ -198,7 +198,7 @@ impl Book {
         ensures redone { IsRedone (minds_of brains.entry) cause self.old self.new }
         ensures same { IsSameWindow self.old self.new }
     {
-        recall_validity(brains, &self.work.world);
+        lemma_valid(brains, &self.work.world);
         // the look at a turn in the very world in which it is taken says what the turn does
         let look = look(&self.work.world, brains, self.seed, self.place, self.next);
         self.end_turn(&look, Verdict::Redone(cause));
@@ -223,7 +223,7 @@ impl Book {
 /// Gives nothing, and does nothing that can be seen: it is called for its clauses, that brains and a world are what their types promise.
 /// The program's own, for a caller whose proof needs it before a turn.
 #[inline]
-pub fn recall_validity(brains: Brains<'_>, world: &World)
+pub fn lemma_valid(brains: Brains<'_>, world: &World)
     ensures sound { AreSound (minds_of brains.entry) }
     ensures world { IsWorld world.now }
 {

@@ -7,7 +7,7 @@ ghost use Rattle.ant_turn.specs.Minds.{AreSound, Fits, minds_of};
 ghost use Rattle.round_book.specs.Book.{CanBegin, FieldValue, StandsOn, begun, lent_for};
 ghost use Rattle.round_book.specs.Inner.Workspace.{AreMarked};
 
-use crate::book::{Book, recall_validity};
+use crate::book::{Book, lemma_valid};
 use crate::workspace::Workspace;
 use ant_random::Stream;
 use ant_turn::Brains;
@@ -68,7 +68,7 @@ impl<'b> Field<'b> {
         requires place { place < 2 ^ 62 }
         ensures { IfOk result (λ field. field ≡ record { world = world; minds = minds_of brains.entry; seed = seed; place = place; whole = true; lent = None }) }
     {
-        recall_validity(brains, &world);
+        lemma_valid(brains, &world);
         let workspace = Workspace::over(alloc, &world)?;
         Ok(Field {
             world,

@@ -20,7 +20,7 @@ mod verdict;
 mod workspace;
 
 pub use alone::play_window;
-pub use book::{Book, recall_validity};
+pub use book::{Book, lemma_valid};
 pub use counts::Counts;
 pub use crew::Crew;
 pub use field::Field;

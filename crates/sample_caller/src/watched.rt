@@ -11,7 +11,7 @@ use crate::played::SEED;
 use ant_turn::Brains;
 use cell_world::World;
 use match_run::{Game, OutOfMemory};
-use round_book::{Field, SoloCrew, recall_validity};
+use round_book::{Field, SoloCrew, lemma_valid};
 use std::alloc::Global;
 
 // How many turns are looked at ahead; nothing of what comes of them depends on it.
@@ -45,7 +45,7 @@ pub fn first_laden(
     ensures { IfOk result (λ found.
         IsFirstRound (λ round. is_laden id (world_after (minds_of brains.entry) sample_seed (world_of world) round)) rounds found) }
 {
-    recall_validity(brains, &world);
+    lemma_valid(brains, &world);
     let field = Field::new(alloc, world, brains, SEED, 0)?;
     let mut game = Game::begin(field, WINDOW);
     let mut crew = SoloCrew::new();

@@ -7,7 +7,7 @@
 //! What makes a game's score is a [`Referee`], so that this crate knows no brain and no world. A cup is handed the function that plays its
 //! games: over [`play_games`], which cuts the list of games into contiguous pieces and plays each piece in a thread of its own, or over
 //! [`play_games_alone`], which needs no threads; the standing is that of the referee's scores. [`play_all`] plays all games at once, and
-//! [`tell_cup`] world by world, and pushes the games' lines after each. [`push_standing`] prints the standing with the players' [`Names`].
+//! [`play_and_print`] world by world, and pushes the games' lines after each. [`push_standing`] prints the standing with the players' [`Names`].
 //! Pieces, texts and names are this project's own. It stands on `cell_world` for the score, on `ant_base` for texts, and on no rule of the
 //! game.
 #![tactic(auto)]
@@ -15,6 +15,7 @@
 mod existence;
 mod fork;
 mod games;
+mod games_printed;
 mod laws;
 mod names;
 mod pieces;
@@ -23,11 +24,11 @@ mod referee;
 mod standing;
 mod tally;
 mod text;
-mod told;
 
 pub use ant_base::PushFault;
 pub use existence::has_standing;
 pub use games::{Pairing, Played};
+pub use games_printed::{play_and_print, push_games};
 pub use hex_geometry::OutOfMemory;
 pub use laws::{games_add_up, one_standing, points_add_up, wins_are_losses};
 pub use names::{Added, Names};
@@ -36,4 +37,3 @@ pub use referee::Referee;
 pub use standing::{Line, Standing};
 pub use tally::standing_of;
 pub use text::push_standing;
-pub use told::{push_games, tell_cup};

@@ -4,7 +4,7 @@
 #![allow(clippy::too_many_arguments)]
 
 /// The version of this source, which is the program's: three numbers, and `-dev` behind them where it is of no release (this project's own).
-pub const VERSION: &str = "1.1.0";
+pub const VERSION: &str = "1.2.0-dev";
 
 /// Done.
 pub const DONE: u32 = 0;

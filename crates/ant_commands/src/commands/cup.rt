@@ -23,7 +23,7 @@ use cell_world::{Score, World};
 use match_run::{OutOfMemory, play_score};
 use std::alloc::Global;
 use tournament::{
-    Names, Pairing, Played, PushFault, Referee, Standing, play_all, push_standing, tell_cup,
+    Names, Pairing, Played, PushFault, Referee, Standing, play_all, play_and_print, push_standing,
 };
 
 // What the files of a cup were read as.
@@ -127,7 +127,7 @@ fn tell_games<K: Sink, P: Fn(&Games<'_>, &[Pairing], u32) -> Result<Vec<Played>,
         seed: entry.seed,
         rounds: entry.rounds,
     };
-    tell_cup(alloc, &games, entry.worlds, names, entry.workers, play, out)
+    play_and_print(alloc, &games, entry.worlds, names, entry.workers, play, out)
 }
 
 // The names of the players, which are different.

@@ -6,7 +6,7 @@ ghost use Rattle.ant_commands.specs.Inner.Reading.{CarriesOut, ending_of};
 
 use crate::stop::{CommandStop, after_push};
 use ant_base::{Failed, Layout, Shelf, Sink, layout};
-use command_words::TablePage;
+use command_words::HelpPage;
 
 // The first lines: what the program is, and how it is called.
 #[derive(Clone, Copy)]
@@ -18,7 +18,7 @@ impl Layout for HeadLines {
     #[tactic(auto, unfolding(crate::specs::Help::head_lines))]
     fn push_to<K: Sink>(&self, sink: &mut K) -> Result<(), Failed> {
         concat!(
-            "ants 1.1.0 plays the ant world of the ICFP Programming Contest 2004.\n",
+            "ants 1.2.0-dev plays the ant world of the ICFP Programming Contest 2004.\n",
             "\n",
             "usage: ants COMMAND WORD.. [OPTION]..\n",
             "\n",
@@ -64,7 +64,7 @@ impl Layout for TailLines {
 fn push_help<K: Sink>(out: &mut K) -> Result<(), Failed>
     ensures { Pushed (K.state out.old) (K.state out.new) help_text result }
 {
-    layout!(HeadLines, TablePage, TailLines).push_to(out)
+    layout!(HeadLines, HelpPage, TailLines).push_to(out)
 }
 
 // Pushes the line of the version.
@@ -72,7 +72,7 @@ fn push_help<K: Sink>(out: &mut K) -> Result<(), Failed>
 fn push_version<K: Sink>(out: &mut K) -> Result<(), Failed>
     ensures { Pushed (K.state out.old) (K.state out.new) version_text result }
 {
-    "ants 1.1.0\n".push_to(out)
+    "ants 1.2.0-dev\n".push_to(out)
 }
 
 /// Writes the page that tells of all commands.

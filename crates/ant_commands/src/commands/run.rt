@@ -18,7 +18,7 @@ use ant_base::{Shelf, Sink};
 use ant_turn::{Brains, Sheet};
 use brain_read::Brain;
 use cell_world::World;
-use command_words::{DumpWord, Numbers};
+use command_words::{DumpRounds, Numbers};
 use match_run::{Dumps, OutOfMemory, Plan, PlayFault, Rounds, play, play_alone};
 use round_book::Crew;
 use std::alloc::Global;
@@ -52,13 +52,13 @@ fn rounds_of(alloc: Global, numbers: Numbers<'_>) -> Result<Rounds, OutOfMemory>
 }
 
 /// The choice of dumps that the words make.
-pub fn dumps_of(alloc: Global, word: DumpWord<'_>) -> Result<Dumps, OutOfMemory>
+pub fn dumps_of(alloc: Global, word: DumpRounds<'_>) -> Result<Dumps, OutOfMemory>
     ensures { IfOk result (λ dumps. chooses dumps ≡ chosen_rounds (plain_dumps word.entry)) }
 {
     match word {
-        DumpWord::Nothing => Ok(Dumps::Nothing),
-        DumpWord::All => Ok(Dumps::All),
-        DumpWord::Chosen(numbers) => {
+        DumpRounds::Nothing => Ok(Dumps::Nothing),
+        DumpRounds::All => Ok(Dumps::All),
+        DumpRounds::Chosen(numbers) => {
             let mut rounds = rounds_of(alloc, numbers)?;
             rounds.sort();
             Ok(Dumps::Chosen(rounds))

@@ -18,7 +18,7 @@ use ant_turn::Brains;
 use cell_world::World;
 use match_run::{OutOfMemory, Plan};
 use match_save::{Saved, save_of, write_saved};
-use round_book::{Crew, Field, recall_validity};
+use round_book::{Crew, Field, lemma_valid};
 use std::alloc::Global;
 
 // The save of a game between these brains after the rounds of its plan.
@@ -38,7 +38,7 @@ fn saved_game<C: Crew>(
 {
     let field = Field::new(alloc, world, brains, plan.seed, 0)?;
     let game = play_game(alloc, crew, field, plan.window, plan.rounds)?;
-    recall_validity(game.field().brains(), game.world());
+    lemma_valid(game.field().brains(), game.world());
     save_of(alloc, &game)
 }
 

@@ -8,7 +8,7 @@ ghost use Rattle.command_words.specs.declared.table.Choice.TheVariants.{Seed, Ro
 ghost use Rattle.command_words.specs.declared.table.NameList.TheVariants.{Worlds, Brains};
 ghost use Rattle.ant_commands.specs.Setups.{CupWithin, SetupWithin, TellsGame, plain_resume, plain_setup, plain_told, plain_trace, resume_of, save_setup_of, setup_of, shape_of, told_of, trace_of};
 
-use command_words::{Asked, Choice, DumpWord, NameList};
+use command_words::{Asked, Choice, DumpRounds, NameList};
 
 /// The names of the files of a game.
 #[derive(Clone, Copy)]
@@ -96,7 +96,7 @@ pub struct RunOptions<'w> {
     /// how many rounds are played, from 0 to 1,000,000
     pub rounds: u32,
     /// the rounds after which the world is dumped; the last of them may be above `rounds`
-    pub dumps: DumpWord<'w>,
+    pub dumps: DumpRounds<'w>,
     /// how many workers play, from 1 to 16
     pub workers: u32,
     /// how many turns a window has, from 1 to 16,384
@@ -119,7 +119,7 @@ pub struct ResumeOptions<'w> {
     /// how many rounds are played in all, with those that are done, from 0 to 1,000,000
     pub rounds: u32,
     /// the rounds after which the world is dumped; those that are done are passed over
-    pub dumps: DumpWord<'w>,
+    pub dumps: DumpRounds<'w>,
     /// how many workers play, from 1 to 16
     pub workers: u32,
     /// whether the counts of turns are wanted
@@ -185,7 +185,7 @@ impl<'w> RunOptions<'w> {
         RunOptions {
             seed: asked.option(Choice::Seed),
             rounds: asked.option(Choice::Rounds),
-            dumps: DumpWord::Nothing,
+            dumps: DumpRounds::Nothing,
             workers: asked.option(Choice::Workers),
             window: asked.option(Choice::Window),
             surround: asked.option(Choice::Surround) as u8,

@@ -13,7 +13,7 @@ impl World {
     /// task's kinetics): they are the first of `acting`, as many as are answered; what stands behind them is anything. Of the dead any may be among them. The ids
     /// were made, and there are at most 64.
     #[inline(never)]
-    pub fn rest_some(&mut self, from: u32, to: u32, acting: &mut [u16; 64]) -> usize
+    pub fn count_down_rests(&mut self, from: u32, to: u32, acting: &mut [u16; 64]) -> usize
         requires order { from ≤ to }
         requires made { to ≤ self.old.ids }
         requires few { to ≤ from + 64 }

@@ -55,6 +55,10 @@ pub record CountsOn (minds : Minds) (more : List Executed) (turns : ℕ) (old ne
   pub few : (left : ℕ) → AreFew old (left + turns) → AreFew new left
   pub states : HaveStates minds old → HaveStates minds new
 
+-- these were counted besides what was counted before
+abbrev pub CountsMore : List Executed → Tallies → Tallies → Type 0
+CountsMore more old new = (minds : Minds) (list : List Executed) → AreTallied minds list old → AreTallied minds (list ++ more) new
+
 -- the line of a state of a colour's brain, from its tally
 abbrev pub counted_line : Colour → List Instr → List Tally → ℕ → List ℕ
 counted_line colour brain tallies state =

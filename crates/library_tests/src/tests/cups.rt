@@ -13,7 +13,7 @@ use std::test::Fail;
 use std::thread::Threads;
 use tournament::{
     Added, Names, Pairing, Played, PushFault, Referee, play_all, play_games, play_games_alone,
-    push_standing, tell_cup,
+    push_standing, play_and_print,
 };
 
 // More bytes than any text of these tests has.
@@ -177,7 +177,7 @@ fn check_told<R: Threads + Sync + Abort, F: Referee>(
     { played(rt, alloc, referee, games, workers) };
     for workers in [1, 2, 16] {
         let mut out = MemSink::with_room(alloc, ROOM, Calls::new(alloc))?;
-        let told = tell_cup(alloc, referee, &places, &names, workers, &play, &mut out);
+        let told = play_and_print(alloc, referee, &places, &names, workers, &play, &mut out);
         assert_eq!(rt; told, end, "with {workers} workers");
         assert_eq!(rt; str::from_utf8(out.held())?, text, "with {workers} workers");
     }

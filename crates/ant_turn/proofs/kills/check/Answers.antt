@@ -75,7 +75,7 @@ pub returns-in_default-clause-noted : goal.returns-in_default-clause-noted
 returns-in_default-clause-noted g c =
     let w = g.G.Ground.world c.args.ground.now in
     let nobody : (w.cells c.args.p).ant ≡ None = rw (← c.cell_at-cell.ensures.content) c.in_default.is in
-    rw (dead_at-spared (sheet_of c.args.sheet) w.cells c.args.p (is_surrounded-none (sheet_of c.args.sheet) w.cells c.args.p nobody)) (sym (noted-none (g.N.Notes.noted c.args.notes.now)))
+    rw (dead_at-spared (sheet_of c.args.sheet) w.cells c.args.p (is_surrounded-none (sheet_of c.args.sheet) w.cells c.args.p nobody)) (sym (noted-none (g.N.KillLog.noted c.args.notes.now)))
 
 pub returns-then-has_foes-clause-noted : goal.returns-then-has_foes-clause-noted
 returns-then-has_foes-clause-noted g c =
@@ -83,7 +83,7 @@ returns-then-has_foes-clause-noted g c =
     let is : (w.cells c.args.p).ant ≡ Some c.in-Some.ant = rw (← c.cell_at-cell.ensures.content) c.in-Some.is in
     let struck : is_surrounded (sheet_of c.args.sheet) w.cells c.args.p ≡ true =
     is_surrounded-some (sheet_of c.args.sheet) w.cells c.args.p c.in-Some.ant is ∙ rw (← c.cell_at-cell.ensures.world, ← c.surround.ensures, ← c.has_foes.ensures.foes) c.if-has_foes.true in
-    c.note.ensures.noted ∙ ap (λ dead. with_noted dead (g.N.Notes.noted c.args.notes.now)) (sym (dead_at-struck (sheet_of c.args.sheet) w.cells c.args.p c.in-Some.ant is struck))
+    c.note.ensures.noted ∙ ap (λ dead. with_noted dead (g.N.KillLog.noted c.args.notes.now)) (sym (dead_at-struck (sheet_of c.args.sheet) w.cells c.args.p c.in-Some.ant is struck))
 
 pub returns-else-has_foes-clause-noted : goal.returns-else-has_foes-clause-noted
 returns-else-has_foes-clause-noted g c =
@@ -91,4 +91,4 @@ returns-else-has_foes-clause-noted g c =
     let is : (w.cells c.args.p).ant ≡ Some c.in-Some.ant = rw (← c.cell_at-cell.ensures.content) c.in-Some.is in
     let spared : is_surrounded (sheet_of c.args.sheet) w.cells c.args.p ≡ false =
     is_surrounded-some (sheet_of c.args.sheet) w.cells c.args.p c.in-Some.ant is ∙ rw (← c.cell_at-cell.ensures.world, ← c.surround.ensures, ← c.has_foes.ensures.foes) c.if-has_foes.false in
-    rw (dead_at-spared (sheet_of c.args.sheet) w.cells c.args.p spared) (sym (noted-none (g.N.Notes.noted c.args.notes.now)))
+    rw (dead_at-spared (sheet_of c.args.sheet) w.cells c.args.p spared) (sym (noted-none (g.N.KillLog.noted c.args.notes.now)))

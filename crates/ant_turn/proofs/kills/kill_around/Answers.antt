@@ -16,7 +16,7 @@ loop-q-init g c =
       same = rw c.check.ensures.world (refl {a = with_cells w (check_at (sheet_of c.args.sheet) w.cells c.args.p)});
       cells = rw c.check.ensures.world (sym (check_around_at-first (sheet_of c.args.sheet) w.cells c.args.p));
       killed = rw (mine, c.check.ensures.world) (sym (killed_around-first (sheet_of c.args.sheet) w.cells c.args.p));
-      noted = rw (c.check.ensures.world, c.check.ensures.noted) (noted-more (g.N.Notes.noted c.args.notes.now) (dead_at (sheet_of c.args.sheet) w.cells c.args.p) _ ∙ ap (λ dead. with_noted dead (g.N.Notes.noted c.args.notes.now)) (sym (dead_around-first (sheet_of c.args.sheet) w.cells c.args.p)));
+      noted = rw (c.check.ensures.world, c.check.ensures.noted) (noted-more (g.N.KillLog.noted c.args.notes.now) (dead_at (sheet_of c.args.sheet) w.cells c.args.p) _ ∙ ap (λ dead. with_noted dead (g.N.KillLog.noted c.args.notes.now)) (sym (dead_around-first (sheet_of c.args.sheet) w.cells c.args.p)));
       count = omega (arith, c.check.ensures.count, ap length c.new-killed.ensures);
       noted_room = c.check.ensures.noted_room;
       room = c.check.ensures.room;

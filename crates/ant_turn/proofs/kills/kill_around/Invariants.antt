@@ -17,9 +17,9 @@ invariant-loop-q g l =
       same : now ≡ with_cells before now.cells;
       cells : check_all (sheet_of l.fn.sheet) now.cells left ≡ check_around_at (sheet_of l.fn.sheet) before.cells l.fn.p;
       killed : l.killed.items ++ killed_all (sheet_of l.fn.sheet) now.cells left ≡ killed_around (sheet_of l.fn.sheet) before.cells l.fn.p;
-      noted : with_noted (dead_all (sheet_of l.fn.sheet) now.cells left) (g.N.Notes.noted l.notes) ≡ with_noted (dead_around (sheet_of l.fn.sheet) before.cells l.fn.p) (g.N.Notes.noted l.fn.notes);
+      noted : with_noted (dead_all (sheet_of l.fn.sheet) now.cells left) (g.N.KillLog.noted l.notes) ≡ with_noted (dead_around (sheet_of l.fn.sheet) before.cells l.fn.p) (g.N.KillLog.noted l.fn.notes);
       count : array_vec_len l.killed ≤ l.q-index + 1;
-      noted_room : g.N.Notes.room l.fn.notes ≤ g.N.Notes.room l.notes + (l.q-index + 1);
+      noted_room : g.N.KillLog.room l.fn.notes ≤ g.N.KillLog.room l.notes + (l.q-index + 1);
       room : g.G.Ground.room l.fn.ground ≤ g.G.Ground.room l.ground + (l.q-index + 1);
       valid : Valid now;
     }

@@ -48,17 +48,17 @@ returns-then-standing-gt0 g c =
       fit = rw now kept.fits;
     }
 
-pub take_found_turn-requires-clause-fit : goal.take_found_turn-requires-clause-fit
-take_found_turn-requires-clause-fit g c = rw c.ant_of.ensures.world c.requires.fit
+pub act-requires-clause-fit : goal.act-requires-clause-fit
+act-requires-clause-fit g c = rw c.ant_of.ensures.world c.requires.fit
 
-pub take_found_turn-requires-clause-here : goal.take_found_turn-requires-clause-here
-take_found_turn-requires-clause-here g c =
+pub act-requires-clause-here : goal.act-requires-clause-here
+act-requires-clause-here g c =
     rw c.ant_of.ensures.world (found-holds (g.G.Ground.world c.args.ground.now) c.ant_of.result c.in-Some.standing c.ant_of.ensures.ant c.in-Some.is)
 
-pub take_found_turn-requires-clause-up : goal.take_found_turn-requires-clause-up
-take_found_turn-requires-clause-up g c = omega (arith, c.if-standing-gt0.false)
+pub act-requires-clause-up : goal.act-requires-clause-up
+act-requires-clause-up g c = omega (arith, c.if-standing-gt0.false)
 
 pub returns : goal.returns
 returns g c =
     takes-found c.ant_of.ensures.world c.ant_of.ensures.room
-    (found-id (g.G.Ground.world c.args.ground.now) c.args.id c.ant_of.result c.in-Some.standing c.ant_of.ensures.place c.ant_of.ensures.ant c.in-Some.is) c.take_found_turn.ensures
+    (found-id (g.G.Ground.world c.args.ground.now) c.args.id c.ant_of.result c.in-Some.standing c.ant_of.ensures.place c.ant_of.ensures.ant c.in-Some.is) c.act.ensures

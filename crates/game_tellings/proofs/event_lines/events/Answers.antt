@@ -1,21 +1,15 @@
-use Rattle.std.proofs.lemmas.Result.{err_from_is_err_and}
-use Rattle.ant_base.proofs.Pushes.{front_more, front_then, pushed_then}
+use Rattle.std.proofs.Common.{◌∙◌, ℕ, List, ap, subst}
+use Rattle.ant_base.specs.Sink.{Pushed}
 use Rattle.ant_turn.specs.Minds.{minds_of}
-use Rattle.cell_world.specs.Grid.{world_of}
-use Rattle.game_tellings.proofs.EventLemmas.{events_text-parts}
+use Rattle.cell_world.specs.Grid.{Grid, world_of}
+use Rattle.game_tellings.specs.Events.{event_lines}
+use Rattle.game_tellings.specs.Report.{report_text}
+use Rattle.game_tellings.proofs.EventRests.{events-report}
 use Rattle.game_tellings.proofs.event_lines.events.Goals as goal
-
-pub returns-in_err-push_to : goal.returns-in_err-push_to
-returns-in_err-push_to g c =
-    let p = err_from_is_err_and c.from_residual.result c.from_residual.ensures.1 in
-    rw (p.1, events_text-parts (minds_of c.args.brains) c.args.seed (world_of c.args.world) c.args.rounds) (front_more _ _ _ _ c.in_err-push_to.ensures)
-
-pub returns-in_err-push_rounds : goal.returns-in_err-push_rounds
-returns-in_err-push_rounds g c =
-    let p = err_from_is_err_and c.from_residual-in_err-push_rounds.result c.from_residual-in_err-push_rounds.ensures.1 in
-    rw (p.1, events_text-parts (minds_of c.args.brains) c.args.seed (world_of c.args.world) c.args.rounds) (front_then _ _ _ _ _ c.in_ok-push_to.ensures (front_more _ _ _ _ c.in_err-push_rounds.ensures))
 
 pub returns : goal.returns
 returns g c =
-    rw (events_text-parts (minds_of c.args.brains) c.args.seed (world_of c.args.world) c.args.rounds)
-    (pushed_then _ _ _ _ _ c.push_to-2.result c.in_ok-push_to.ensures (pushed_then _ _ _ _ _ c.push_to-2.result c.in_ok-push_rounds.ensures c.push_to-2.ensures))
+    let minds = minds_of c.args.brains in
+    subst (λ (text : List ℕ). Pushed (g.K.Sink.state c.args.sink.now) (g.K.Sink.state c.push_report.new.sink) text c.push_report.result)
+    (ap (λ (grid : Grid). report_text event_lines minds c.args.seed (world_of grid) c.args.rounds) c.of-ground.ensures ∙ events-report minds c.args.seed (world_of c.args.world) c.args.rounds)
+    c.push_report.ensures

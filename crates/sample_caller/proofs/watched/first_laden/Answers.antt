@@ -12,7 +12,7 @@ use Rattle.sample_caller.proofs.watched.first_laden.Goals as goal
 
 pub new-requires-clause-fit : goal.new-requires-clause-fit
 new-requires-clause-fit c =
-    Fits-opened c.args.world (minds_of c.args.brains) c.requires.opening c.recall_validity.ensures.sound.red.some c.recall_validity.ensures.sound.black.some
+    Fits-opened c.args.world (minds_of c.args.brains) c.requires.opening c.lemma_valid.ensures.sound.red.some c.lemma_valid.ensures.sound.black.some
 
 pub returns-then-is_laden : goal.returns-then-is_laden
 returns-then-is_laden c =

@@ -6,8 +6,8 @@ use Rattle.match_run.specs.Run.{most_rounds}
 use Rattle.ant_commands.proofs.Cups.{all_playable}
 use Rattle.ant_commands.proofs.commands.cup.tell_games.Goals as goal
 
-pub tell_cup-requires-clause-known : goal.tell_cup-requires-clause-known
-tell_cup-requires-clause-known g c κs within =
+pub play_and_print-requires-clause-known : goal.play_and_print-requires-clause-known
+play_and_print-requires-clause-known g c κs within =
     let few = c.requires.within.rounds_within.1 in
     let enough : c.args.entry.rounds ≤ most_rounds = omega (arith, few) in
     λ now world red black told.
