@@ -3,7 +3,6 @@
 The children of the best brain play games of the same seeds, and the one that brings home the most food is the best from then on. In the end it is
 printed, below comments with what was seen in its games. No text of a game is read for that, and no process is begun.
 """
-import pathlib
 import random
 import sys
 from typing import List
@@ -11,6 +10,7 @@ from typing import List
 import icfp_ants
 
 CHILDREN, SEEDS, ROUNDS, WORKERS = 50, range(8), 1000, 4
+MOST_BYTES = 4194304  # of a text
 
 
 def instruction(r: random.Random, states: int) -> str:
@@ -41,11 +41,17 @@ def evolved(world: bytes, red: bytes, black: bytes, games: int) -> str:
     return "\n".join(best)
 
 
+def read(name: str) -> bytes:
+    """The bytes of a file, one more at most than a text may have, so that a longer one is refused."""
+    with open(name, "rb") as file:
+        return file.read(MOST_BYTES + 1)
+
+
 def main() -> None:
     if len(sys.argv) != 5 or not sys.argv[4].isdigit():
         sys.exit("usage: evolve.py WORLD RED BLACK GAMES")
     try:
-        world, red, black = (pathlib.Path(name).read_bytes() for name in sys.argv[1:4])
+        world, red, black = map(read, sys.argv[1:4])
         brain = evolved(world, red, black, int(sys.argv[4]))
     except (OSError, ValueError) as fault:
         sys.exit("evolve: %s" % fault)

@@ -25,8 +25,7 @@ _ants() {
         done
         COMPREPLY=($(compgen -W "$options" -- "$word")) ;;
     *)
-        local IFS=$'\n'
-        COMPREPLY=($(compgen -f -- "$word")) ;;
+        while IFS= read -r before; do COMPREPLY+=("$before"); done < <(compgen -f -- "$word") ;;
     esac
 }
 complete -o filenames -F _ants ants
