@@ -44,6 +44,16 @@ class Faults(Folder):
         status, output, faults = self.called("season", "--check", "12", before=signalled)
         self.assertEqual((status, "differ" in output, faults), (130, False, "league: stopped\n"))
 
+    def test_no_thread_begins(self):
+        def alone():
+            def refuse(_):
+                raise RuntimeError("can't start new thread")
+            threading.Thread.start = refuse
+        self.assertEqual(self.called(*self.words("--calls"), before=alone)[::2], (0, ""))
+        self.play()
+        status, output, faults = self.called("season", "--check", "12", before=alone)
+        self.assertEqual((status, "check: 0 differ" in output, faults), (0, True, ""))
+
     def test_no_program(self):
         for self.program in ("no/such", os.path.join(self.folder, "step.brain"), "/bin/true"):
             self.one(*self.words())

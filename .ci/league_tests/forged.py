@@ -136,7 +136,8 @@ class Forged(Folder):
         self.addCleanup(shutil.rmtree, away)
         shutil.move("season", away)
         os.symlink(away + "/season", "season")
-        for name in ("season", "season/"):
+        os.symlink(away, "link")
+        for name in ("season", "season/", "season/.", "link/season", os.path.abspath("season")):
             for words in (*self.READS, ["--show", "1"], ["--check", "1"]):
                 told = "league: %s leads out of %s/, and isn't read; --under names another directory\n" % (name, os.path.realpath("."))
                 self.assertEqual(self.bad(name, *words), told)
