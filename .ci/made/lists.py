@@ -1,4 +1,4 @@
-"""docs/CRATES.md and the layers of docs/ARCHITECTURE.md, docs/GLOSSARY.md, and docs/GATE.md: what the gate costs, and what `rt plant` found."""
+"""docs/CRATES.md and the layers of docs/ARCHITECTURE.md, and docs/GATE.md: what the gate costs, and what `rt plant` found."""
 import glob
 
 from tree import Unknown, crates, rows_of, table
@@ -23,17 +23,6 @@ def layer_table():
     for crate in crates():
         layers.setdefault(crate.layer, []).append("`%s`" % crate.name)
     return table(("layer", "crates"), [[layer, " ".join(names)] for layer, names in layers.items()])
-
-
-def glossary_page():
-    """The words of docs/glossary.txt."""
-    found = []
-    for number, line in rows_of("docs/glossary.txt"):
-        word, colon, sense = line.partition(": ")
-        if not colon:
-            raise Unknown("docs/glossary.txt:%d: not a word, a colon and a sense" % number)
-        found.append([word, sense.replace("|", "\\|").replace("<", "&lt;")])
-    return "# Glossary\n\nWords that are coined here, or used in a sense of their own. Made by `.ci/make-documents` from `docs/glossary.txt`.\n\n" + table(("word", "sense"), found)
 
 
 def wrong_bodies(name, folder="must-fail"):
@@ -71,7 +60,7 @@ def planted_table():
 def gate_page():
     return (
         "# The gate\n\nMade by `.ci/make-documents` from `docs/gate_costs.txt`, `docs/planted.txt` and the wrong bodies on disk.\n\n## What it costs\n\nProcessor seconds of `rt ci`; `docs/gate_costs.txt` says how they were measured.\n"
-        "`.ci/timed-ci > LOG` is `rt ci` with its times, and `.ci/gate-costs LOG` writes that file from them.\n\n"
+        "`.ci/gate-costs [CRATE..]` measures them, and prints lines of that file.\n\n"
         "A crate with tests is proved twice. A wrong body costs another proof of its crate; two or more begin with one, share it, and cost 10 to 40 seconds each beside it. So write the answer of a goal whose\n"
         "search takes seconds, and split a function that owns many values: what it costs grows faster than their number. A test that hands a table to a helper costs 1 to 5 seconds, one with assertions of its own\n"
         "10 to 30, an example of `examples/` nothing here. A table of structs is a `static`. Texts cost by their number times their length. The wrong bodies beside the gate stand in `planted/`, and `.ci/planted` tries them.\n\n" + cost_table()

@@ -1,7 +1,14 @@
-"""The manual pages of the scripts that are installed beside the program, made of what heads each script; their date and version are those of docs/ants.1."""
+"""Writes the manual pages of the scripts that are installed beside the program: .ci/made/manual.py FOLDER
+
+Each is made of what heads its script; their date and version are those of docs/ants.1.
+"""
 import ast
+import os
 import re
+import sys
 import textwrap
+
+sys.dont_write_bytecode = True
 
 from tree import Unknown, read
 
@@ -30,7 +37,7 @@ def manual(name):
         raise Unknown("examples/%s: no head to make a manual page of" % name)
     told = [(kept, [re.sub(r"^(examples/)?%s\b" % name, "ants-" + name, it) for it in lines]) for kept, lines in paragraphs(docs[first.end():])]
     usage = [first[2]] if first[2] else told.pop(next(at for at, (kept, _) in enumerate(told) if kept))[1]
-    out = [r'.\" Made of examples/%s by `make documents`.' % name, ".TH ANTS\\-%s %s" % (name.upper(), title[1])]
+    out = [r'.\" Made of examples/%s.' % name, ".TH ANTS\\-%s %s" % (name.upper(), title[1])]
     out += [".SH NAME", "ants\\-%s \\- %s" % (name, roff(first[1][0].lower() + first[1][1:].partition(",")[0])), ".SH SYNOPSIS", ".nf"]
     out += [roff(re.sub(r"^%s\b" % name, "ants-" + name, it)) for it in usage] + [".fi", ".SH DESCRIPTION"]
     for at, (kept, lines) in enumerate(told):
@@ -38,6 +45,13 @@ def manual(name):
     return "\n".join(out + [".SH SEE ALSO", ".BR ants (1)"]) + "\n"
 
 
-def pages():
+def main():
+    if len(sys.argv) != 2:
+        sys.exit(__doc__)
     for name in SCRIPTS:
-        yield "docs/ants-%s.1" % name, manual(name)
+        with open(os.path.join(sys.argv[1], "ants-%s.1" % name), "w", encoding="utf-8") as file:
+            file.write(manual(name))
+
+
+if __name__ == "__main__":
+    main()
