@@ -69,6 +69,11 @@ def build_words(crate, archive):
     return words + ["--jobs", "1", "--links", crate + "=", "--crate-type", "staticlib", "--backend", "llvm", "-o", archive]
 
 
+def with_jobs(number):
+    """The environment in which `rt must-fail` and `rt ci` make this number of checks at a time; its own, if there is none."""
+    return {**os.environ, "RT_JOBS": str(number)} if number else dict(os.environ)
+
+
 def check_of(words, folder):
     """The crate that a running command checks, and whether it is `proof`, `tests` or `edits`, by its words and the folder in which it runs; None if it
     is no check."""
