@@ -51,7 +51,7 @@ def rows():
 
 
 def lemma_files(crate):
-    """The files of a crate's proofs in which each name is said."""
+    """The files of a crate's proofs that have a lemma of each name."""
     found = {}
     for file in source_files("crates/%s/proofs" % crate, ".antt"):
         for name in set(re.findall(r"^(?:pub |abbrev |unfoldable )*([^\s:]+) :", read(file), re.M)):
@@ -60,11 +60,16 @@ def lemma_files(crate):
 
 
 def lemmas_of(row, files):
-    """The lemmas that a row names; Unknown if one isn't there once."""
+    """The lemmas that a row names, those of worked values if others have their names; Unknown if one isn't there once."""
+    found = []
     for name in row.names:
-        if len(files.get(name, ())) != 1:
-            raise Unknown("%s: the proofs of %s have %d files with a lemma %s, not one" % (row.where, row.crate, len(files.get(name, ())), name))
-    return [Lemma(row.crate, name, files[name][0]) for name in row.names]
+        there = files.get(name, [])
+        worked = [it for it in there if "Worked" in it]
+        one = there if len(there) == 1 else worked
+        if len(one) != 1:
+            raise Unknown("%s: %d files of the proofs of %s have a lemma %s, not one" % (row.where, len(there), row.crate, name))
+        found.append(Lemma(row.crate, name, one[0]))
+    return found
 
 
 def edited(where, lines, within):
