@@ -1,6 +1,8 @@
-"""docs/CRATES.md and the layers of docs/ARCHITECTURE.md, and docs/GATE.md: what the gate costs, and what `rt plant` found."""
+"""docs/CRATES.md and the layers of docs/ARCHITECTURE.md, and docs/GATE.md: what the gate costs, the planted bugs, and what `rt plant` found."""
 import glob
 
+import changed_definitions
+import mutants_run
 from tree import Unknown, crates, rows_of, table
 
 COSTS = "docs/gate_costs.txt"
@@ -43,7 +45,19 @@ def cost_table():
     for name in set(measured) - set(names):
         raise Unknown("%s: there is no crate %s" % (COSTS, name))
     figures = [["`%s`" % name] + [it.strip("-") for it in measured.get(name, ["not measured", "-", "-"])] + [str(len(wrong_bodies(name, it)) or "") for it in ("must-fail", "planted")] for name in names]
-    return table(("crate", "proved", "with its tests", "its wrong bodies", "how many", "beside the gate"), figures)
+    return table(("crate", "proved", "with its tests", "its planted bugs", "how many", "beside the gate"), figures)
+
+
+def mutants_text():
+    """What `.ci/mutants` tries, and where it last refused all."""
+    of_gate, others = (sum(len(wrong_bodies(it.name, folder)) for it in crates()) for folder in ("must-fail", "planted"))
+    run = mutants_run.last()
+    told = "No complete run is recorded." if run is None else (
+        "The last complete run in which all were refused was of commit `%s`, on %s: %s planted bugs and %s changed definitions, in %s minutes." % (run.commit, run.date, run.bugs, run.changes, run.minutes))
+    return (
+        "A *planted bug* is a body with one bug, which the check must refuse. The gate tries the %d of `must-fail/`; `.ci/mutants` tries these and the %d of `planted/`. A *changed definition*\n"
+        "is a wrong rule, which would be proved if the code were wrong in the same way. `.ci/mutants` tries the %d of `docs/changed_definitions.txt`: a worked value has to refuse each.\n%s\n"
+        % (of_gate, others, len(changed_definitions.changes()), told))
 
 
 def planted_table():
@@ -59,11 +73,12 @@ def planted_table():
 
 def gate_page():
     return (
-        "# The gate\n\nMade by `.ci/make-documents` from `docs/gate_costs.txt`, `docs/planted.txt` and the wrong bodies on disk.\n\n## What it costs\n\nProcessor seconds of `rt ci`; `docs/gate_costs.txt` says how they were measured.\n"
+        "# The gate\n\nMade by `.ci/make-documents` from `docs/gate_costs.txt`, `docs/planted.txt`, `docs/mutants.txt` and the planted bugs on disk.\n\n## What it costs\n\nProcessor seconds of `rt ci`; `docs/gate_costs.txt` says how they were measured.\n"
         "`.ci/gate-costs [CRATE..]` measures them, and prints lines of that file.\n\n"
-        "A crate with tests is proved twice. A wrong body costs another proof of its crate; two or more begin with one, share it, and cost 10 to 40 seconds each beside it. So write the answer of a goal whose\n"
+        "A crate with tests is proved twice. A planted bug costs another proof of its crate; two or more begin with one, share it, and cost 10 to 40 seconds each beside it. So write the answer of a goal whose\n"
         "search takes seconds, and split a function that owns many values: what it costs grows faster than their number. A test that hands a table to a helper costs 1 to 5 seconds, one with assertions of its own\n"
-        "10 to 30, an example of `examples/` nothing here. A table of structs is a `static`. Texts cost by their number times their length. The wrong bodies beside the gate stand in `planted/`, and `.ci/planted` tries them.\n\n" + cost_table()
-        + "\n## Bugs that were tried\n\n`rt plant` tries wrong bodies of a function against its clauses: in how many functions, how many bodies were refused, how many were not run for want of time. By hand: bugs in the real\n"
+        "10 to 30, an example of `examples/` nothing here. A table of structs is a `static`. Texts cost by their number times their length.\n\n" + cost_table()
+        + "\n## Planted bugs and changed definitions\n\n" + mutants_text()
+        + "\n## Bugs that were tried\n\n`rt plant` tries wrong bodies of its own making against the clauses of a function: in how many functions, how many bodies were refused, how many were not run for want of time. By hand: bugs in the real\n"
         "code, one at a time. A body that answers out of memory in place of its work passes every clause, since that may be answered at any time; tests call each such function once where there is memory.\n\n" + planted_table()
     )
