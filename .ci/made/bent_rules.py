@@ -20,7 +20,7 @@ import re
 from tree import Unknown, below, crates, exists, read, source_files, table
 
 FILE = "docs/bent_rules.txt"
-EXAMPLES = {"RULES": "docs/RULES.md", "README": "README.md"}
+EXAMPLES = {"RULES": "docs/RULES.md", "COMMANDS": "docs/COMMANDS.md", "README": "README.md"}
 LIBRARY_TESTS = "library/test_ants.py"
 HOW = {"again": "again", "place": "in place", "copy": "in a copy", "code": "with its code", "read": "by eye"}
 
@@ -99,7 +99,7 @@ class Evidence:
             (r"tests in ([\w/]+\.rt)(?:, (\w+))?", "test", self.table),
             (r"tests of (\w+)", "test", lambda crate: any(file.startswith("crates/%s/" % crate) and "test" in file for file in self.texts)),
             (r"examples in (\w+\.txt)", "example", lambda name: exists("examples/" + name)),
-            (r"(RULES|README), (.+)", "example", self.example),
+            (r"(RULES|COMMANDS|README), (.+)", "example", self.example),
         )
         said = text.partition(": ")[0]
         for form, sort, holds in forms:

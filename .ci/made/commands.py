@@ -1,7 +1,7 @@
-"""The tables of commands in README, RULES and PROMISES, and the commands of docs/ants.1.
+"""The tables of commands in README, COMMANDS and PROMISES, and the commands of docs/ants.1.
 
 How a command is called, its options and its one sentence are those of the table of words; what its text is, the definition that its job names, with
-the comment above it. docs/commands.txt has in which section of RULES a command stands.
+the comment above it. docs/commands.txt has in which section of COMMANDS a command stands.
 """
 import re
 import textwrap
@@ -37,7 +37,7 @@ class Commands:
     def in_readme(self):
         return table(("command", "what it does"), [["`%s`" % self.usage(it, False), self.words.says[it]] for it in self.words.commands])
 
-    def in_rules(self):
+    def on_their_page(self):
         rows = [["`ants %s`" % self.usage(it, True), "[%s](#%s)" % (self.words.says[it], self.sections[it])] for it in self.words.commands]
         return table(("words", "what it does"), rows)
 
