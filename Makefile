@@ -1,6 +1,7 @@
 # The doors of the repository; each is a line or two over `rt`.
 #   make try ARGS="show examples/one_ant.world 12345"      a quick look, without a proof
 #   make run ARGS="show examples/one_ant.world 12345"
+#   make second                                           without the toolchain: the second program, unproved
 #   make test · make documents · make library · make install PREFIX=DIR · make uninstall PREFIX=DIR · make dist · make deb · make bench
 PREFIX ?= /usr/local
 SHELL = bash
@@ -8,7 +9,7 @@ PROGRAM = crates/ants/out/ants
 ARCHIVE = crates/ants_c/out/libants_c.a
 SOURCES = crates.txt $(shell find crates -name out -prune -o \( -name '*.rt' -o -name '*.antt' \) -print)
 
-.PHONY: build run try test documents library install uninstall dist deb bench
+.PHONY: build run try second test documents library install uninstall dist deb bench
 
 build: $(PROGRAM)
 
@@ -22,6 +23,12 @@ run: build
 
 try:
 	@.ci/try $(ARGS)
+
+# The second program, written from docs/RULES.md alone: it needs only a C++17 compiler, and is not proved.
+second: ants2
+
+ants2: $(wildcard bench/second/*.cpp bench/second/*.hpp bench/second/commands/*.cpp)
+	$(CXX) -std=c++17 -O2 -iquote bench/second -o $@ bench/second/*.cpp bench/second/commands/*.cpp
 
 test:
 	rt ci

@@ -25,7 +25,7 @@ OTHERWISE = re.compile(r" - - |--far|/dev/full|ulimit")
 
 
 class EveryExample(unittest.TestCase):
-    """Each command line of docs/RULES.md that calls `ants`, by the program and by `call`."""
+    """Each command line of docs/RULES.md and docs/COMMANDS.md that calls `ants`, by the program and by `call`."""
 
     def setUp(self):
         folder = tempfile.TemporaryDirectory(prefix="ants-")
@@ -42,8 +42,10 @@ class EveryExample(unittest.TestCase):
         return ran.returncode, ran.stdout.decode(), ran.stderr.decode()
 
     def test_is_the_same_by_call(self):
-        with open(os.path.join(TOP, "docs", "RULES.md"), encoding="utf-8") as file:
-            lines = re.findall(r"^\$ (.*\bants\b.*)$", file.read(), re.M)
+        lines = []
+        for page in ("RULES.md", "COMMANDS.md"):
+            with open(os.path.join(TOP, "docs", page), encoding="utf-8") as file:
+                lines += re.findall(r"^\$ (.*\bants\b.*)$", file.read(), re.M)
         lines = [line for line in lines if not OTHERWISE.search(line)]
         self.assertGreater(len(lines), 70)
         for line in lines:

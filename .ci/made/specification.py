@@ -1,12 +1,12 @@
 """docs/SPECIFICATION.md: an index of exactly the definitions that the clauses of the top calls reach, a line a file, in an order to read them, and how
-many lines each command rests on; and the lines to believe in README.
+many lines each command rests on; and the lines to believe, for PROMISES.
 
 A chapter begins at the definitions that it is about, and has what they reach and no chapter above has. A command begins at its own equation of `job_by`.
 """
 import re
 
 from definitions import Call, CodeType, Definition
-from run_page import CRATE, PACE, lines_of
+from run_page import CRATE, LINES, PROSE, lines_of, minutes_of
 from tree import Unknown, table
 from words import number
 
@@ -149,15 +149,15 @@ def says_of(parts):
     return "types of the code: " + ", ".join("`%s`" % it.name for it in parts)
 
 
-def in_readme(spec, page):
-    """How many lines are to be believed, and how long it takes at a pace."""
+def to_believe(spec, page):
+    """How many lines are to be believed, and how long it takes."""
     contest, game, run, whole = spec.counts()
     rows = [
-        ["one `run` without `--stats`, at every status: [one page](docs/RUN.md)", lines_of(page.reached)],
-        ["the contest's rules", contest],
-        ["a game: rules, texts of worlds and brains, text of a game", game],
-        ["the promise of every command, the law `%s`" % LAW, lines_of(spec.page)],
-        ["all that a `run` rests on, with its counts and the fault of each text", run],
-        ["all commands: [the index](docs/SPECIFICATION.md)", whole],
+        ["one `run` without `--stats`, except which word status 2 names: [one page](RUN.md)", lines_of(page.reached), minutes_of(page.text)],
+        ["the contest's rules: [the chapter](SPECIFICATION.md#the-rules-of-the-contest)", contest, None],
+        ["a game: rules, texts of worlds and brains, text of a game", game, None],
+        ["all that a `run` rests on, with its counts and the fault of each text", run, None],
+        ["all commands: [the index](SPECIFICATION.md); the law `%s` itself has %d lines" % (LAW, lines_of(spec.page)), whole, None],
     ]
-    return table(["to believe", "lines", "minutes at %d a minute" % PACE], [[says, number(lines), number(round(lines / PACE))] for says, lines in rows])
+    rows = [[says, number(lines), number(minutes or round(lines / LINES))] for says, lines, minutes in rows]
+    return table(["to believe", "lines", "minutes"], rows) + "\nMinutes are at %d lines a minute; those of the page include its prose and comments, at %d words a minute.\n" % (LINES, PROSE)

@@ -30,8 +30,10 @@ class Words:
         for kind in kinds:
             word, choices = rows[kind]
             self.commands[word] = [word_of[it] for it in choices.strip("()").split(" ∷ ") if it != "[]"]
-        helps = dict(only(texts, r'^help_row (\w+) = command_help \(codes "([^"]*)"\)'))
-        self.names = {rows[kind][0]: helps[kind] for kind in kinds}
+        helps = {kind: (names, says) for kind, names, says in only(texts, r'^help_row (\w+) = command_help \(codes "([^"]*)"\) \(codes "([^"]*)"\)$')}
+        self.kinds = {kind: rows[kind][0] for kind in kinds}
+        self.names = {rows[kind][0]: helps[kind][0] for kind in kinds}
+        self.says = {rows[kind][0]: helps[kind][1] for kind in kinds}
         self.keywords = list(dict(only(texts, r'^keyword_of (\w+) = codes "([^"]+)"')).values())
         self.options = {}
         self.forms = {word: form for _, form, word, _, _ in options}

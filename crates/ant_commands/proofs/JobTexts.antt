@@ -35,7 +35,7 @@ use Rattle.world_gen.specs.Placing.{HasNoRoom}
 use Rattle.world_gen.specs.declared.shape.Shape.{Shape}
 use Rattle.world_read.specs.Canonical.{canonical_text}
 use Rattle.world_read.specs.Opened.{kinds_of}
-use Rattle.ant_commands.specs.Files.{AreAccepted, FileContent}
+use Rattle.ant_commands.specs.Files.{AreAccepted, File, FileContent}
 use Rattle.ant_commands.specs.Help.{help_text, version_text}
 use Rattle.ant_commands.specs.Outputs.{IsAsmOutput, IsCupOutput, IsViewOutput, ReadCup, ReadGame, ReadPair, ReadProgram, ReadView, Tells, TellsGenerated, TellsMinimised, TellsSame, TellsWorkload, advance_output, brain_contents, brain_file, pair_contents, contest_shape, roster_contents, cup_files, events_output, game_contents, game_files, is_text_of, labelled_file, match_output, minimise_output, profile_output, program_contents, resume_output, save_output, score_between, shape_named, show_output, source_contents, source_text, summary_of, trace_output, workload_text}
 use Rattle.ant_commands.specs.Job.{Job, plain_job}
@@ -47,7 +47,7 @@ use Rattle.command_words.specs.declared.table.NameList.TheVariants.{Worlds, Brai
 use Rattle.ant_commands.proofs.SetupLemmas.{cup-within, shape-within}
 use Rattle.ant_commands.specs.Laws.{HasOutput, OneText, TellsNoLabel, TextsEndInLf, WindowsChangeCountsAlone}
 use Rattle.ant_commands.proofs.Cups.{players_counted}
-use Rattle.ant_commands.proofs.ReadContents.{has_text_of, has_told, one_text_of, one_told, read_brain, read_cup, read_game, read_none, read_pair, read_program, read_save, read_source, read_view, read_world}
+use Rattle.ant_commands.proofs.ReadContents.{IsReading, has_text_of, has_told, one_text_of, one_told, read_brain, read_cup, read_game, read_none, read_pair, read_program, read_save, read_source, read_view, read_world}
 use Rattle.ant_commands.proofs.TextEnds.{EndsInLf, lf_advance, lf_brain, lf_canonical, lf_comparison, lf_difference, lf_events, lf_last, lf_help, lf_match, lf_minimised, lf_profile, lf_rest, lf_save, lf_show, lf_standing, lf_state_lines, lf_states, lf_told, lf_trace, lf_version, lf_view, lf_workload, lines_labels}
 use Rattle.ant_commands.proofs.Viewed.{view_of-view}
 
@@ -225,11 +225,14 @@ pub record JobLaws (a : PlainAsked) (job : Job) : Type 0 where
   -- where an element has no room, there is no file, and no output
   pub crowded : (element : ℕ) → job.Lacks element → (job.files ≡ []) × ((contents : List FileContent) (text : List ℕ) → job.IsText contents text → ⊥)
 
-show-laws : (a : PlainAsked) (world : List ℕ) (seed : ℕ) → JobLaws a (show_job world seed)
-show-laws a world seed = record {
-  ends = λ within fetches contents text are is. inl (ends is.told (lf_show seed is.value));
-  one = λ contents text other x y. one_text_of (read_world world) (show_output seed) contents text other x y;
-  has = λ within fetches contents are room. has_text_of (read_world world) (show_output seed) fetches contents are;
+-- the laws of a job whose text is a function of what was read; it may write while it plays, and name workers
+text_laws : {A : Type 0} {files : List File} {contents_of : A → List FileContent} (a : PlainAsked) (InPlay : List FileContent → List ℕ → Type 0) (workers : ℕ)
+    → IsReading files contents_of → (text_of : A → List ℕ) → ((value : A) → EndsInLf (text_of value))
+    → JobLaws a (record (plain_job files (Tells contents_of (is_text_of text_of))) { InPlay = InPlay; workers = workers })
+text_laws a InPlay workers reading text_of lf = record {
+  ends = λ within fetches contents text are is. inl (ends is.told (lf is.value));
+  one = λ contents text other x y. one_text_of reading text_of contents text other x y;
+  has = λ within fetches contents are room. has_text_of reading text_of fetches contents are;
   crowded = λ element lacks. absurd lacks;
 }
 
@@ -246,14 +249,6 @@ minimise-laws a file states = record {
   ends = λ within fetches contents text are is. inl (minimise-ends states file fetches is.value text (subst (AreAccepted (brain_file file ∷ []) fetches) is.read are) is.told);
   one = λ contents text other x y. one_told (read_brain file) contents text other (λ list. one-minimised states list text other) x y;
   has = λ within fetches contents are room. has_told (read_brain file) fetches contents are (λ list accepted. has-minimised states file fetches list accepted);
-  crowded = λ element lacks. absurd lacks;
-}
-
-run-laws : (a : PlainAsked) (world red black : List ℕ) (setup : RunSetup) → JobLaws a (run_job world red black setup)
-run-laws a world red black setup = record {
-  ends = λ within fetches contents text are is. inl (ends is.told (lf_match setup is.value));
-  one = λ contents text other x y. one_text_of (read_game world red black) (match_output setup) contents text other x y;
-  has = λ within fetches contents are room. has_text_of (read_game world red black) (match_output setup) fetches contents are;
   crowded = λ element lacks. absurd lacks;
 }
 
@@ -313,40 +308,6 @@ asm-laws a kind file = record {
   crowded = λ element lacks. absurd lacks;
 }
 
-save-laws : (a : PlainAsked) (world red black : List ℕ) (setup : RunSetup) → JobLaws a (save_job world red black setup)
-save-laws a world red black setup = record {
-  ends = λ within fetches contents text are is. inl (ends is.told (lf_save setup is.value));
-  one = λ contents text other x y. one_text_of (read_game world red black) (save_output setup) contents text other x y;
-  has = λ within fetches contents are room. has_text_of (read_game world red black) (save_output setup) fetches contents are;
-  crowded = λ element lacks. absurd lacks;
-}
-
-resume-laws : (a : PlainAsked) (save : List ℕ) (setup : ResumeSetup) → JobLaws a (resume_job save setup)
-resume-laws a save setup = record {
-  ends = λ within fetches contents text are is. inl (ends is.told (lf_rest setup is.value));
-  one = λ contents text other x y. one_text_of (read_save save setup.rounds) (resume_output setup) contents text other x y;
-  has = λ within fetches contents are room. has_text_of (read_save save setup.rounds) (resume_output setup) fetches contents are;
-  crowded = λ element lacks. absurd lacks;
-}
-
-advance-laws : (a : PlainAsked) (save : List ℕ) (rounds workers : ℕ) → JobLaws a (advance_job save rounds workers)
-advance-laws a save rounds workers = record {
-  ends = λ within fetches contents text are is. inl (ends is.told (lf_advance rounds is.value));
-  one = λ contents text other x y. one_text_of (read_save save rounds) (advance_output rounds) contents text other x y;
-  has = λ within fetches contents are room. has_text_of (read_save save rounds) (advance_output rounds) fetches contents are;
-  crowded = λ element lacks. absurd lacks;
-}
-
--- a text of a game that is just played
-told-laws : (a : PlainAsked) (world red black : List ℕ) (text_of : ReadGame → List ℕ) → ((game : ReadGame) → EndsInLf (text_of game))
-    → JobLaws a (plain_job (game_files world red black) (Tells game_contents (is_text_of text_of)))
-told-laws a world red black text_of lf = record {
-  ends = λ within fetches contents text are is. inl (ends is.told (lf is.value));
-  one = λ contents text other x y. one_text_of (read_game world red black) text_of contents text other x y;
-  has = λ within fetches contents are room. has_text_of (read_game world red black) text_of fetches contents are;
-  crowded = λ element lacks. absurd lacks;
-}
-
 same-laws : (a : PlainAsked) (first second : List ℕ) (way : Bool) → JobLaws a (same_job first second way)
 same-laws a first second way = record {
   ends = λ within fetches contents text are is. inl (same-ends way is.value text is.told);
@@ -355,12 +316,16 @@ same-laws a first second way = record {
   crowded = λ element lacks. absurd lacks;
 }
 
+-- the files of a game
+read_of : (a : PlainAsked) → IsReading (game_files (a.file 0) (a.file 1) (a.file 2)) game_contents
+read_of a = read_game (a.file 0) (a.file 1) (a.file 2)
+
 -- the laws of each command, a row a command
 laws_by : (kind : CommandKind) (a : PlainAsked) → a.kind ≡ kind → JobLaws a (job_by kind a)
-laws_by Show a is = show-laws a (a.file 0) (a.number 1)
+laws_by Show a is = text_laws a _ _ (read_world (a.file 0)) (show_output (a.number 1)) (lf_show (a.number 1))
 laws_by Brain a is = brain-laws a (a.file 0)
 laws_by Minimise a is = minimise-laws a (a.file 0) (a.has States)
-laws_by Run a is = run-laws a (a.file 0) (a.file 1) (a.file 2) (setup_of a)
+laws_by Run a is = text_laws a _ _ (read_of a) (match_output (setup_of a)) (lf_match (setup_of a))
 laws_by Gen a is = gen-laws a (a.number 0)
 laws_by Cup a is = cup-laws a is
 laws_by View a is = view-laws a (a.file 0) (a.file 1) (a.file 2) (a.file 3) (a.option Seed) (a.option Rounds)
@@ -369,13 +334,13 @@ laws_by Help a is = help-laws a
 laws_by HelpWord a is = help-laws a
 laws_by Version a is = version-laws a
 laws_by Asm a is = asm-laws a is (a.file 0)
-laws_by Save a is = save-laws a (a.file 0) (a.file 1) (a.file 2) (save_setup_of a)
-laws_by Resume a is = resume-laws a (a.file 0) (resume_of a)
-laws_by Trace a is = told-laws a (a.file 0) (a.file 1) (a.file 2) (trace_output (a.number 3) (trace_of a)) (lf_trace (a.number 3) (trace_of a))
+laws_by Save a is = text_laws a _ _ (read_of a) (save_output (save_setup_of a)) (lf_save (save_setup_of a))
+laws_by Resume a is = text_laws a _ _ (read_save (a.file 0) (a.option Rounds)) (resume_output (resume_of a)) (lf_rest (resume_of a))
+laws_by Trace a is = text_laws a _ _ (read_of a) (trace_output (a.number 3) (trace_of a)) (lf_trace (a.number 3) (trace_of a))
 laws_by Same a is = same-laws a (a.file 0) (a.file 1) (a.has Way)
-laws_by Events a is = told-laws a (a.file 0) (a.file 1) (a.file 2) (events_output (told_of a)) (lf_events (told_of a))
-laws_by Profile a is = told-laws a (a.file 0) (a.file 1) (a.file 2) (profile_output (told_of a)) (lf_profile (told_of a))
-laws_by Advance a is = advance-laws a (a.file 0) (a.option Rounds) (a.option Workers)
+laws_by Events a is = text_laws a _ _ (read_of a) (events_output (told_of a)) (lf_events (told_of a))
+laws_by Profile a is = text_laws a _ _ (read_of a) (profile_output (told_of a)) (lf_profile (told_of a))
+laws_by Advance a is = text_laws a _ _ (read_save (a.file 0) (a.option Rounds)) (advance_output (a.option Rounds)) (lf_advance (a.option Rounds))
 
 pub laws_of : (a : PlainAsked) → JobLaws a (job_of a)
 laws_of a = laws_by a.kind a refl

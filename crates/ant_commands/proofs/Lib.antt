@@ -1,5 +1,6 @@
 -- Texts: what each command writes, that it is one, is there, and ends in LF.
 pub mod SetupLemmas
+pub mod CupGames
 pub mod Cups
 pub mod Viewed
 pub mod TextEnds

@@ -15,7 +15,7 @@ use Rattle.match_run.specs.Play.{StoppedBy}
 use Rattle.match_save.specs.Saved.{save_text}
 use Rattle.match_save.specs.Saves.{saved_after}
 use Rattle.ant_commands.specs.declared.commands.run.PlannedGame.{PlannedGame}
-use Rattle.ant_commands.specs.declared.commands.run.Setting.{Setting}
+use Rattle.ant_commands.specs.declared.commands.game.Setting.{Setting}
 use Rattle.ant_commands.specs.declared.stop.CommandStop.{CommandStop}
 use Rattle.ant_commands.specs.Inner.Plans.{Plans, game_read, minds_in, setting_contents, stop_of, text_in}
 use Rattle.ant_commands.specs.Inner.Reading.{CarriesOut, ReadsFiles, ending_of}

@@ -33,7 +33,7 @@ tail_lines =
     +++ codes "\n"
     +++ codes "README.md and docs/RULES.md have the rules, the form of each file and examples.\n"
 
--- the output of `--help`
+-- the output of `--help`: a page that is made of the table of words
 unfoldable pub help_text : List ℕ
 help_text = head_lines +++ table_text +++ tail_lines
 

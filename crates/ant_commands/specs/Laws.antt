@@ -1,5 +1,5 @@
 -- Laws on the texts of the commands.
-use Rattle.std.specs.Prelude.{◌≡◌, ◌≢◌, ◌⊎◌, ℕ, ◌+◌, ◌≤◌, true, false, List, [], ◌∷◌, ◌++◌, Option, Some, slice_get}
+use Rattle.std.specs.Prelude.{◌≡◌, ◌≢◌, ◌⊎◌, ℕ, ◌+◌, ◌≤◌, true, false, List, [], ◌∷◌, ◌++◌, Option, Some, slice_get, slice_index_or}
 use Rattle.ant_asm.specs.Assembled.{IsAssembled}
 use Rattle.ant_asm.specs.Match.{label_game, numbered_moment}
 use Rattle.ant_asm.specs.Places.{Address}
@@ -9,10 +9,11 @@ use Rattle.ant_base.specs.Layout.{◌+++◌}
 use Rattle.ant_base.specs.Lines.{ends_in_lf}
 use Rattle.ant_turn.specs.Minds.{AreSound, Minds}
 use Rattle.ant_turn.specs.Renumber.{renumbered_moment, with_mind}
+use Rattle.ant_turn.specs.Sheet.{contest}
 use Rattle.brain_minimise.specs.Match.{game}
 use Rattle.brain_minimise.specs.Minimised.{IsMinimised, new_number}
 use Rattle.brain_read.specs.declared.instr.Instr.{Instr}
-use Rattle.cell_world.specs.Grid.{world_of}
+use Rattle.cell_world.specs.Grid.{Grid, world_of}
 use Rattle.cell_world.specs.Opening.{opening}
 use Rattle.cell_world.specs.Score.{score_of}
 use Rattle.cell_world.specs.Valid.{Valid}
@@ -28,14 +29,14 @@ use Rattle.command_words.specs.declared.table.Choice.TheVariants.{Far, Labels, L
 use Rattle.ant_commands.specs.Setups.{ResumeSetup, RunSetup, SetupWithin}
 use Rattle.ant_commands.specs.Jobs.{advance_job, job_of, resume_job, run_job, save_job}
 use Rattle.command_words.specs.Slots.DumpChoice.{NoDump}
-use Rattle.dump_print.specs.Texts.{seed_text}
+use Rattle.dump_print.specs.Texts.{score_text, seed_text}
 use Rattle.match_run.specs.Run.{dumps_text}
 use Rattle.match_save.specs.Saved.{SavedValue}
 use Rattle.ant_commands.specs.Files.{AreAccepted, FileContent, Reads}
 use Rattle.ant_commands.specs.Files.FileContent.{SaveContent}
 use Rattle.ant_commands.specs.Files.FileKind.{SaveFile}
 use Rattle.ant_commands.specs.Job.{HasRoom, IsJobText, files_of}
-use Rattle.ant_commands.specs.Outputs.{ReadGame, chosen_rounds, game_contents, game_files, minds_named, save_contents}
+use Rattle.ant_commands.specs.Outputs.{ReadGame, chosen_rounds, game_contents, game_files, match_output, minds_named, nowhere, save_contents, score_between, sheet_named}
 use Rattle.ant_commands.specs.Verdict.{IsJudged}
 use Rattle.ant_commands.specs.Verdict.FilesVerdict.{AllAccepted}
 
@@ -77,6 +78,14 @@ abbrev pub WindowsChangeCountsAlone : Type 0
 WindowsChangeCountsAlone =
     (world red black : List ℕ) (setup : RunSetup) (window : ℕ) (contents : List FileContent) (text : List ℕ) → setup.stats ≡ false
     → IsJobText (run_job world red black setup) contents text → IsJobText (run_job world red black (record setup { window = window })) contents text
+
+-- the score of a game of a cup, between two players of a list on a world of a list, is the one that `run` prints of the same world, brains, seed
+-- and rounds by the contest's rules
+abbrev pub CupGamesAreRuns : Type 0
+CupGamesAreRuns =
+    (worlds : List Grid) (players : List (List Instr)) (setup : RunSetup) (world red black : ℕ) → sheet_named setup ≡ contest → setup.dumps ≡ NoDump → setup.stats ≡ false
+    → match_output setup (record { world = slice_index_or worlds world nowhere; red = slice_index_or players red []; black = slice_index_or players black [] })
+    ≡ seed_text setup.seed +++ score_text (score_between worlds players setup.seed setup.rounds world red black)
 
 -- a command within the limits whose files were accepted, and whose elements have room, has an output
 abbrev pub HasOutput : Type 0

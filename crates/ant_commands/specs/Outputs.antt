@@ -182,11 +182,11 @@ match_output setup game =
 unfoldable pub save_output : RunSetup → ReadGame → List ℕ
 save_output setup game = save_text (saved_after (minds_named setup game.red game.black) setup.seed setup.window (world_of game.world) setup.rounds)
 
--- the output of `advance`: the save of a saved game once so many rounds are done in all
+-- the output of `advance`: the save of the game that it is a save of, once the given number of rounds is done in all
 unfoldable pub advance_output : ℕ → SavedValue → List ℕ
 advance_output rounds saved = save_text (advanced saved rounds)
 
--- the output of `resume`: the rest of a saved game's text
+-- the output of `resume`: what `run` prints of the rounds after the saved one
 unfoldable pub resume_output : ResumeSetup → SavedValue → List ℕ
 resume_output setup saved = resumed_text saved setup.rounds (chosen_rounds setup.dumps) setup.stats
 
@@ -194,11 +194,12 @@ resume_output setup saved = resumed_text saved setup.rounds (chosen_rounds setup
 abbrev pub told_minds : ToldSetup → ReadGame → Minds
 told_minds setup game = record { red = game.red; black = game.black; sheet = told_sheet setup }
 
--- the output of `trace`: the line of the seed, and the lines of one ant in the rounds from the first that is told to the last
+-- the output of `trace`: the line of the seed, and a line for one ant after each round from `--from` on, up to its death
 unfoldable pub trace_output : ℕ → TraceSetup → ReadGame → List ℕ
 trace_output id setup game = trace_text (told_minds setup.told game) setup.told.seed (world_of game.world) setup.told.rounds id setup.from
 
--- the output of `events`: the line of the seed, and the lines of the dead and of the score, turn after turn
+-- the output of `events`: the line of the seed, and for each turn in order a line for each ant that is killed in it and one for the score if it
+-- changed
 unfoldable pub events_output : ToldSetup → ReadGame → List ℕ
 events_output setup game = events_text (told_minds setup game) setup.seed (world_of game.world) setup.rounds
 
@@ -219,7 +220,7 @@ pub record TellsWay (pair : ReadPair) (text : List ℕ) : Type 0 where
   pub is : IsWayComparison pair.first pair.second comparison steps
   pub told : text ≡ way_text comparison steps
 
--- the output of `same`: the one or the other
+-- the output of `same`: whether the brains are the same, or where they first differ; with `--way` the answers that lead there too
 abbrev pub TellsSame : Bool → ReadPair → List ℕ → Type 0
 TellsSame false = TellsComparison
 TellsSame true = TellsWay
@@ -229,14 +230,14 @@ abbrev pub minimise_output : Bool → List Instr → List Instr → List (Option
 minimise_output false old new numbers = minimised_text old new
 minimise_output true old new numbers = states_text numbers
 
--- the output of `minimise`: what is told of this brain, minimised
+-- the output of `minimise`: the canonical text of the minimised brain after a line of counts; with `--states` the new number of each old state
 pub record TellsMinimised (states : Bool) (old : List Instr) (text : List ℕ) : Type 0 where
   pub new : List Instr
   pub numbers : List (Option ℕ)
   pub minimised : IsMinimised old new numbers
   pub told : text ≡ minimise_output states old new numbers
 
--- the output of `view`: the view of the game, by the contest's rules, with these breaks
+-- the output of `view`: the first stop of the game, by the contest's rules, and its cells
 abbrev pub IsViewOutput : ℕ → ℕ → ReadView → List ℕ → Type 0
 IsViewOutput seed rounds view text = IsViewText (contest_minds view.game.red view.game.black) seed rounds (world_of view.game.world) view.breaks text
 
@@ -253,8 +254,7 @@ unfoldable pub score_between : List Grid → List (List Instr) → ℕ → ℕ �
 score_between worlds players seed rounds world red black =
     score_of (world_after (minds_between players red black) seed (world_of (slice_index_or worlds world nowhere)) rounds)
 
--- the output of `cup`: that of all games between the players, on all worlds, with this seed and so many rounds each; the standing alone, or
--- the lines of the games before it
+-- the output of `cup`: the standing of all games between the players on all worlds; with `--games` the line of each game before it
 abbrev pub IsCupOutput : Bool → List (List ℕ) → List (List ℕ) → ℕ → ℕ → ReadCup → List ℕ → Type 0
 IsCupOutput false worlds names seed rounds cup text = IsCupText names (length cup.players) (length cup.worlds) (score_between cup.worlds cup.players seed rounds) text
 IsCupOutput true worlds names seed rounds cup text = IsToldCupText worlds names (score_between cup.worlds cup.players seed rounds) text
@@ -307,7 +307,7 @@ summary_lines seed rounds summary =
 unfoldable pub workload_text : ℕ → ℕ → Summary → List ℕ
 workload_text seed rounds summary = summary_lines seed rounds summary +++ score_text summary.score +++ stats_text summary.totals
 
--- the output of `workload`: what is told of a game on the world of this seed and the contest's shape; no number of workers stands in it
+-- the output of `workload`: a summary of a game on the world of this seed and the contest's shape; it doesn't have the number of workers
 pub record TellsWorkload (seed rounds : ℕ) (text : List ℕ) : Type 0 where
   pub world : Grid
   pub generated : IsGenerated seed contest_shape world
@@ -318,7 +318,7 @@ abbrev pub source_text : Bool → Bool → ReadSource → List ℕ
 source_text labels lines source =
     (if labels then labels_text source.labels else []) +++ (if lines then state_lines_text source.lines else [])
 
--- the output of `asm`: the brain, or the labels, the lines of the states, or both
+-- the output of `asm`: the canonical text of the brain; with `--labels` the state of each label, and with `--lines` the line of each state
 abbrev pub IsAsmOutput : Bool → Bool → List FileContent → List ℕ → Type 0
 IsAsmOutput false false = Tells program_contents (is_text_of (λ program. brain_text program.brain))
 IsAsmOutput labels lines = Tells source_contents (is_text_of (source_text labels lines))

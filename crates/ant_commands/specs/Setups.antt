@@ -1,5 +1,6 @@
 -- What the options of a command say, as its own record, and the limits of its numbers.
 use Rattle.std.specs.Prelude.{ℕ, Bool, false, List}
+use Rattle.ant_turn.specs.Sheet.{sheet_of}
 use Rattle.command_words.specs.Command.{AreWithin, PlainAsked}
 use Rattle.command_words.specs.Limits.{IsWithin}
 use Rattle.command_words.specs.Slots.{AreNames, DumpChoice}
@@ -10,11 +11,10 @@ use Rattle.command_words.specs.declared.limits.NumberKind.TheVariants.{SeedNumbe
 use Rattle.command_words.specs.declared.table.CommandKind.{CommandKind}
 use Rattle.command_words.specs.declared.table.Choice.TheVariants.{Seed, Rounds, Workers, Window, Surround, Corpse, Rest, Stats, Far, Width, Height, Rocks, Blobs, From}
 use Rattle.command_words.specs.declared.table.NameList.TheVariants.{Worlds, Brains}
+use Rattle.ant_commands.specs.declared.commands.game.GameWords.{GameWords}
 use Rattle.ant_commands.specs.declared.commands.setups.GenShape.{GenShape}
 use Rattle.ant_commands.specs.declared.commands.setups.ResumeOptions.{ResumeOptions}
-use Rattle.ant_commands.specs.declared.commands.setups.RunOptions.{RunOptions}
-use Rattle.ant_commands.specs.declared.commands.setups.ToldGame.{ToldGame}
-use Rattle.ant_commands.specs.declared.commands.setups.TracedGame.{TracedGame}
+use Rattle.ant_commands.specs.declared.commands.setups.RunWords.{RunWords}
 
 -- what the options of `run` say
 pub record RunSetup : Type 0 where
@@ -119,53 +119,36 @@ pub record CupWithin (worlds brains : List (List ℕ)) (seed rounds workers : �
   pub rounds_within : IsWithin RoundCount rounds
   pub workers_within : IsWithin WorkerCount workers
 
--- the numbers of a game of which events or a profile are told are within the limits
-pub record ToldWithin (setup : ToldSetup) : Type 0 where
-  pub seed : IsWithin SeedNumber setup.seed
-  pub rounds : IsWithin RoundCount setup.rounds
-  pub surround : IsWithin FoeCount setup.surround
-  pub corpse : IsWithin CorpseFood setup.corpse
-  pub rest : IsWithin RestRounds setup.rest
-
--- and the first round that is told of one whose ant is followed
-pub record TraceWithin (setup : TraceSetup) : Type 0 where
-  pub told : ToldWithin setup.told
-  pub from : IsWithin RoundCount setup.from
-
 -- a command has the files of a game, its seed, its rounds and the numbers of its rules
-abbrev pub TellsGame : CommandKind → Type 0
-TellsGame kind = HasFile kind 0 × HasFile kind 1 × HasFile kind 2 × HasNumberOption kind Seed × HasNumberOption kind Rounds
+abbrev pub PlaysGame : CommandKind → Type 0
+PlaysGame kind = HasFile kind 0 × HasFile kind 1 × HasFile kind 2 × HasNumberOption kind Seed × HasNumberOption kind Rounds
     × HasNumberOption kind Surround × HasNumberOption kind Corpse × HasNumberOption kind Rest
 
--- the options of `run` that were read
-abbrev pub plain_setup : RunOptions → RunSetup
-plain_setup options = record {
-  seed = options.seed;
-  rounds = options.rounds;
-  dumps = plain_dumps options.dumps;
-  workers = options.workers;
-  window = options.window;
-  surround = options.surround;
-  corpse = options.corpse;
-  rest = options.rest;
-  stats = options.stats;
-  far = options.far;
+-- the words of a game that were read
+abbrev pub plain_told : GameWords → ToldSetup
+plain_told game = record {
+  seed = game.seed;
+  rounds = game.rounds;
+  surround = (sheet_of game.sheet).surround;
+  corpse = (sheet_of game.sheet).corpse;
+  rest = (sheet_of game.sheet).rest;
+}
+
+-- the words of `run` that were read
+abbrev pub plain_setup : RunWords → RunSetup
+plain_setup words = record {
+  seed = words.game.seed;
+  rounds = words.game.rounds;
+  dumps = plain_dumps words.dumps;
+  workers = words.workers;
+  window = words.window;
+  surround = (sheet_of words.game.sheet).surround;
+  corpse = (sheet_of words.game.sheet).corpse;
+  rest = (sheet_of words.game.sheet).rest;
+  stats = words.stats;
+  far = words.far;
 }
 
 -- the options of `resume` that were read
 abbrev pub plain_resume : ResumeOptions → ResumeSetup
 plain_resume options = record { rounds = options.rounds; dumps = plain_dumps options.dumps; workers = options.workers; stats = options.stats }
-
--- the options of `events` or `profile` that were read
-abbrev pub plain_told : ToldGame → ToldSetup
-plain_told game = record {
-  seed = game.seed;
-  rounds = game.rounds;
-  surround = game.surround;
-  corpse = game.corpse;
-  rest = game.rest;
-}
-
--- the options of `trace` that were read
-abbrev pub plain_trace : TracedGame → TraceSetup
-plain_trace game = record { told = plain_told game.told; from = game.from }

@@ -14,6 +14,7 @@ mod brain;
 pub mod cup;
 mod events;
 pub mod far;
+pub mod game;
 mod generate;
 mod help;
 mod minimise;
@@ -35,6 +36,7 @@ use crate::commands::asm::asm;
 use crate::commands::brain::brain;
 use crate::commands::cup::{Games, cup};
 use crate::commands::events::events;
+use crate::commands::game::GameWords;
 use crate::commands::generate::gen_world;
 use crate::commands::help::{help, version};
 use crate::commands::minimise::minimise;
@@ -43,9 +45,7 @@ use crate::commands::resume::resume;
 use crate::commands::run::run;
 use crate::commands::same::same;
 use crate::commands::save::save;
-use crate::commands::setups::{
-    AskedGame, CupEntry, GenShape, ResumeOptions, ToldGame, TracedGame, ViewedGame,
-};
+use crate::commands::setups::{CupEntry, GenShape, ResumeOptions, RunWords};
 use crate::commands::show::show;
 use crate::commands::trace::trace;
 use crate::commands::view::view;
@@ -89,10 +89,10 @@ pub fn dispatch<
             shelf,
             out,
         ),
-        CommandKind::Run => run(alloc, crew, AskedGame::of_run(asked), shelf, out),
+        CommandKind::Run => run(alloc, crew, RunWords::of(asked), shelf, out),
         CommandKind::Gen => gen_world(alloc, asked.number(0), GenShape::of(asked), shelf, out),
         CommandKind::Cup => cup(alloc, CupEntry::of(asked), play, shelf, out),
-        CommandKind::View => view(alloc, ViewedGame::of(asked), shelf, out),
+        CommandKind::View => view(alloc, GameWords::of_view(asked), asked.file(3), shelf, out),
         CommandKind::Workload => workload(
             alloc,
             crew,
@@ -111,7 +111,7 @@ pub fn dispatch<
             shelf,
             out,
         ),
-        CommandKind::Save => save(alloc, crew, AskedGame::of_save(asked), shelf, out),
+        CommandKind::Save => save(alloc, crew, RunWords::of_save(asked), shelf, out),
         CommandKind::Resume => resume(
             alloc,
             crew,
@@ -120,7 +120,14 @@ pub fn dispatch<
             shelf,
             out,
         ),
-        CommandKind::Trace => trace(alloc, TracedGame::of(asked), shelf, out),
+        CommandKind::Trace => trace(
+            alloc,
+            GameWords::of(asked),
+            asked.number(3),
+            asked.option(Choice::From),
+            shelf,
+            out,
+        ),
         CommandKind::Same => same(
             alloc,
             asked.file(0),
@@ -129,8 +136,8 @@ pub fn dispatch<
             shelf,
             out,
         ),
-        CommandKind::Events => events(alloc, ToldGame::of(asked), shelf, out),
-        CommandKind::Profile => profile(alloc, ToldGame::of(asked), shelf, out),
+        CommandKind::Events => events(alloc, GameWords::of(asked), shelf, out),
+        CommandKind::Profile => profile(alloc, GameWords::of(asked), shelf, out),
         CommandKind::Advance => advance(
             alloc,
             crew,

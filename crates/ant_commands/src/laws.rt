@@ -2,7 +2,7 @@
 ghost use Rattle.ant_commands.specs.Headline.{Headline};
 ghost use Rattle.ant_commands.specs.RunPromise.{RefusedWords, RunPromise, RunShelf};
 ghost use Rattle.ant_commands.specs.Verdict.{JudgesOnce};
-ghost use Rattle.ant_commands.specs.Laws.{AssembledAndMinimised, HasOutput, OneText, SavesAreResumed, TextsEndInLf, WindowsChangeCountsAlone, WorkersChangeNothing};
+ghost use Rattle.ant_commands.specs.Laws.{AssembledAndMinimised, CupGamesAreRuns, HasOutput, OneText, SavesAreResumed, TextsEndInLf, WindowsChangeCountsAlone, WorkersChangeNothing};
 
 /// The promise on one page: each run of the program ends with the status 0, 2, 3, 4, 5 or 6, and each of them says what was fetched, accepted
 /// and written. It follows from the one clause of `run_to_exit`.
@@ -59,6 +59,13 @@ pub fn workers_change_nothing()
 #[tactic(auto, using(crate::proofs::JobTexts::windows_change_counts_alone))]
 pub fn windows_change_counts_alone()
     ensures { WindowsChangeCountsAlone }
+{}
+
+/// The score of each game of a cup is the one that `run` prints of the same world, brains, seed and rounds by the contest's rules. So whoever
+/// believes a `run` believes a game of a cup.
+#[tactic(auto, using(crate::proofs::CupGames::cup_games_are_runs))]
+pub fn cup_games_are_runs()
+    ensures { CupGamesAreRuns }
 {}
 
 /// A command within the limits whose files were accepted, and whose elements have room, has an output.

@@ -15,9 +15,9 @@ mod status;
 mod stop;
 
 pub use laws::{
-    assembled_and_minimised, contents_judge_once, has_output, headline, one_text, refused_words,
-    run_promise, run_shelf, saves_are_resumed, texts_end_in_lf, windows_change_counts_alone,
-    workers_change_nothing,
+    assembled_and_minimised, contents_judge_once, cup_games_are_runs, has_output, headline,
+    one_text, refused_words, run_promise, run_shelf, saves_are_resumed, texts_end_in_lf,
+    windows_change_counts_alone, workers_change_nothing,
 };
 pub use program::{exit_without_memory, run_alone, run_ants, run_here, run_to_exit};
 pub use status::Status;

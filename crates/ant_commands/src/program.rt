@@ -17,7 +17,7 @@ ghost use Rattle.std.specs.Process.{exit_status};
 
 use crate::commands::cup::Games;
 use crate::commands::far::run_far;
-use crate::commands::setups::AskedGame;
+use crate::commands::setups::RunWords;
 use crate::commands::{dispatch, workers_in};
 use crate::status::Status;
 use crate::stop::{CommandStop, Ended};
@@ -127,7 +127,7 @@ fn carry_out_far<'w, R: Threads + Wait + Sync, S: Shelf, K: Sink, G: Gate>(
     ensures { CarriesOut (job_of (plain asked.entry)) (S.state shelf.old) (S.state shelf.new) (K.state out.old) (K.state out.new) (ending_of result) }
 {
     match asked.kind {
-        CommandKind::Run => run_far(rt, alloc, AskedGame::of_run(asked), shelf, out, gate),
+        CommandKind::Run => run_far(rt, alloc, RunWords::of(asked), shelf, out, gate),
         _ => carry_out(rt, alloc, asked, shelf, out, gate),
     }
 }

@@ -15,7 +15,7 @@ use Rattle.world_gen.specs.declared.shape.Shape.{Shape}
 use Rattle.world_gen.specs.Generated.{IsGenerated}
 use Rattle.world_gen.specs.Placing.{HasNoRoom}
 use Rattle.ant_commands.specs.declared.commands.run.PlannedGame.{PlannedGame}
-use Rattle.ant_commands.specs.declared.commands.run.Setting.{Setting}
+use Rattle.ant_commands.specs.declared.commands.game.Setting.{Setting}
 use Rattle.ant_commands.specs.declared.commands.same.Pair.{Pair}
 use Rattle.ant_commands.specs.declared.stop.CommandStop.{CommandStop}
 use Rattle.ant_commands.specs.declared.stop.CommandStop.TheVariants as stop

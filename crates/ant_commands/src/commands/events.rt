@@ -4,14 +4,13 @@ ghost use Rattle.ant_base.specs.Sink.{Pushed};
 ghost use Rattle.ant_turn.specs.Minds.{Fits};
 ghost use Rattle.cell_world.specs.Grid.{world_of};
 ghost use Rattle.ant_commands.specs.Jobs.{events_job};
-ghost use Rattle.ant_commands.specs.Setups.{ToldWithin, plain_told};
+ghost use Rattle.ant_commands.specs.Setups.{plain_told};
 ghost use Rattle.game_tellings.specs.Events.{events_text};
 ghost use Rattle.match_run.specs.Run.{most_rounds};
 ghost use Rattle.ant_commands.specs.Inner.Plans.{minds_by};
 ghost use Rattle.ant_commands.specs.Inner.Reading.{CarriesOut, ending_of};
 
-use crate::commands::run::{Setting, setting_of};
-use crate::commands::setups::ToldGame;
+use crate::commands::game::{GameWords, Setting, setting_of};
 use crate::stop::{CommandStop, after_push};
 use ant_base::{Failed, Shelf, Sink};
 use ant_turn::{Brains, Sheet};
@@ -41,15 +40,14 @@ fn push_events<K: Sink>(
 /// Plays a game turn by turn, and writes who died in it and how the score went.
 pub fn events<'w, S: Shelf, K: Sink>(
     alloc: Global,
-    game: ToldGame<'w>,
+    game: GameWords<'w>,
     shelf: &mut S,
     out: &mut K,
 ) -> Result<(), CommandStop<'w>>
-    requires { ToldWithin (plain_told game) }
+    requires { game.rounds ≤ most_rounds }
     ensures { CarriesOut (events_job game.entry.names.world.now game.entry.names.red.now game.entry.names.black.now (plain_told game.entry))
         (S.state shelf.old) (S.state shelf.new) (K.state out.old) (K.state out.new) (ending_of result) }
 {
-    let sheet = Sheet::new(game.surround, game.corpse, game.rest);
     let setting = setting_of(alloc, game.names, shelf)?;
-    after_push(push_events(setting, sheet, game.seed, game.rounds, out))
+    after_push(push_events(setting, game.sheet, game.seed, game.rounds, out))
 }

@@ -5,8 +5,9 @@ ghost use Rattle.ant_commands.specs.Setups.{SetupWithin, plain_setup};
 ghost use Rattle.ant_commands.specs.Inner.Plans.{CanPlay};
 ghost use Rattle.ant_commands.specs.Inner.Reading.{CarriesOut, ending_of};
 
+use crate::commands::game::FileNames;
 use crate::commands::run::{PlannedGame, planned_game, run_by};
-use crate::commands::setups::{AskedGame, FileNames};
+use crate::commands::setups::RunWords;
 use crate::stop::CommandStop;
 use ant_base::{Gate, Shelf, Sink};
 use far_crew::{Errand, with_far};
@@ -70,18 +71,18 @@ fn take_back<T>(x: &mut T)
 pub fn run_far<'w, R: Threads + Wait + Sync, S: Shelf, K: Sink, G: Gate>(
     rt: &R,
     alloc: Global,
-    asked: AskedGame<'w>,
+    words: RunWords<'w>,
     shelf: &mut S,
     out: &mut K,
     gate: &G,
 ) -> Result<(), CommandStop<'w>>
-    requires within { SetupWithin (plain_setup asked.options) }
-    ensures { CarriesOut (run_job asked.entry.names.world.now asked.entry.names.red.now asked.entry.names.black.now (plain_setup asked.entry.options))
+    requires within { SetupWithin (plain_setup words) }
+    ensures { CarriesOut (run_job words.entry.game.names.world.now words.entry.game.names.red.now words.entry.game.names.black.now (plain_setup words.entry))
         (S.state shelf.old) (S.state shelf.new) (K.state out.old) (K.state out.new) (ending_of result) }
 {
-    let AskedGame { names, options } = asked;
-    let workers = options.workers;
-    let game = planned_game(alloc, options)?;
+    let names = words.game.names;
+    let workers = words.workers;
+    let game = planned_game(alloc, words)?;
     let errand = RunErrand {
         alloc,
         names,

@@ -3,15 +3,14 @@ ghost use Rattle.std.specs.Prelude.{◌≤◌};
 ghost use Rattle.ant_turn.specs.Minds.{Fits};
 ghost use Rattle.cell_world.specs.Grid.{world_of};
 ghost use Rattle.ant_commands.specs.Jobs.{profile_job};
-ghost use Rattle.ant_commands.specs.Setups.{ToldWithin, plain_told};
+ghost use Rattle.ant_commands.specs.Setups.{plain_told};
 ghost use Rattle.game_tellings.specs.Profile.{profile_text};
 ghost use Rattle.game_tellings.specs.Pushes.{PushedBefore};
 ghost use Rattle.match_run.specs.Run.{most_rounds};
 ghost use Rattle.ant_commands.specs.Inner.Plans.{minds_by};
 ghost use Rattle.ant_commands.specs.Inner.Reading.{CarriesOut, ending_of};
 
-use crate::commands::run::{Setting, setting_of};
-use crate::commands::setups::ToldGame;
+use crate::commands::game::{GameWords, Setting, setting_of};
 use crate::stop::CommandStop;
 use ant_base::{PushFault, Shelf, Sink};
 use ant_turn::{Brains, Sheet};
@@ -42,16 +41,15 @@ fn push_profile<K: Sink>(
 /// Plays a game turn by turn, and writes how often each state was executed in it. Nothing is written before the last round is played.
 pub fn profile<'w, S: Shelf, K: Sink>(
     alloc: Global,
-    game: ToldGame<'w>,
+    game: GameWords<'w>,
     shelf: &mut S,
     out: &mut K,
 ) -> Result<(), CommandStop<'w>>
-    requires { ToldWithin (plain_told game) }
+    requires { game.rounds ≤ most_rounds }
     ensures { CarriesOut (profile_job game.entry.names.world.now game.entry.names.red.now game.entry.names.black.now (plain_told game.entry))
         (S.state shelf.old) (S.state shelf.new) (K.state out.old) (K.state out.new) (ending_of result) }
 {
-    let sheet = Sheet::new(game.surround, game.corpse, game.rest);
     let setting = setting_of(alloc, game.names, shelf)?;
-    push_profile(alloc, setting, sheet, game.seed, game.rounds, out)?;
+    push_profile(alloc, setting, game.sheet, game.seed, game.rounds, out)?;
     Ok(())
 }

@@ -62,10 +62,10 @@ pub fn resume<'w, C: Crew, S: Shelf, K: Sink>(
 {
     let rounds = options.rounds;
     let stats = options.stats;
-    let lone = options.workers == 1;
+    let single = options.workers == 1;
     let dumps = dumps_of(alloc, options.dumps)?;
     let saved = saved_in(alloc, shelf, name, rounds)?;
-    if lone && !stats {
+    if single && !stats {
         return after_play(resume_alone(alloc, &saved, rounds, &dumps, out));
     }
     after_play(go_on(alloc, crew, &saved, rounds, &dumps, stats, out))

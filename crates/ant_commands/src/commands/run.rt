@@ -7,37 +7,27 @@ ghost use Rattle.ant_commands.specs.Setups.{RunSetup, SetupWithin, plain_setup};
 ghost use Rattle.command_words.specs.Words.{plain_dumps};
 ghost use Rattle.match_run.specs.Dumps.{chooses};
 ghost use Rattle.match_run.specs.Play.{PushedBy};
-ghost use Rattle.ant_commands.specs.Inner.Plans.{CanPlay, IsPlanned, Plans, minds_in, setting_contents, text_in};
-ghost use Rattle.ant_commands.specs.Inner.Reading.{CarriesOut, ReadsFiles, ending_of, outcome_of};
-ghost use Rattle.ant_commands.specs.Outputs.{chosen_rounds, game_files};
+ghost use Rattle.ant_commands.specs.Inner.Plans.{CanPlay, IsPlanned, Plans, minds_in, text_in};
+ghost use Rattle.ant_commands.specs.Inner.Reading.{CarriesOut, ending_of};
+ghost use Rattle.ant_commands.specs.Outputs.{chosen_rounds};
 
-use crate::commands::setups::{AskedGame, FileNames, RunOptions};
-use crate::files::read_file;
+use crate::commands::game::{FileNames, Setting, setting_of};
+use crate::commands::setups::RunWords;
 use crate::stop::CommandStop;
 use ant_base::{Shelf, Sink};
 use ant_turn::{Brains, Sheet};
-use brain_read::Brain;
-use cell_world::World;
 use command_words::{DumpRounds, Numbers};
 use match_run::{Dumps, OutOfMemory, Plan, PlayFault, Rounds, play, play_alone};
 use round_book::Crew;
 use std::alloc::Global;
-
-// What the files of a game were read as.
-#[derive(Drop)]
-pub struct Setting {
-    pub world: World,
-    pub red: Brain,
-    pub black: Brain,
-}
 
 // What a game is asked to do, by the words.
 #[derive(Drop)]
 pub struct PlannedGame {
     pub sheet: Sheet,
     pub plan: Plan,
-    // whether one worker is to play, who doesn't stand by
-    pub lone: bool,
+    // whether it is played on one thread, by no standing worker
+    pub single: bool,
 }
 
 // The rounds of a list.
@@ -68,40 +58,24 @@ pub fn dumps_of(alloc: Global, word: DumpRounds<'_>) -> Result<Dumps, OutOfMemor
 
 /// What a game is asked to do, and by which sheet. The chosen rounds become a list, which takes memory, before any file is fetched: its lack
 /// leaves all untouched then.
-pub fn planned_game<'w>(
-    alloc: Global,
-    options: RunOptions<'_>,
-) -> Result<PlannedGame, CommandStop<'w>>
-    requires { SetupWithin (plain_setup options) }
-    ensures { IsPlanned (plain_setup options.entry) result }
+pub fn planned_game<'w>(alloc: Global, words: RunWords<'_>) -> Result<PlannedGame, CommandStop<'w>>
+    ensures { IsPlanned (plain_setup words.entry) result }
 {
-    let sheet = Sheet::new(options.surround, options.corpse, options.rest);
-    let lone = options.workers == 1 && !options.far;
-    let dumps = dumps_of(alloc, options.dumps)?;
+    let game = words.game;
+    let single = words.workers == 1 && !words.far;
+    let dumps = dumps_of(alloc, words.dumps)?;
     let plan = Plan {
-        seed: options.seed,
-        rounds: options.rounds,
+        seed: game.seed,
+        rounds: game.rounds,
         dumps,
-        window: options.window,
-        stats: options.stats,
+        window: words.window,
+        stats: words.stats,
     };
-    Ok(PlannedGame { sheet, plan, lone })
-}
-
-// The files of a game, in the order in which its words name them: each is read before the next one is fetched, and both brains are fetched
-// where they have one name.
-pub fn setting_of<'w, S: Shelf>(
-    alloc: Global,
-    names: FileNames<'w>,
-    shelf: &mut S,
-) -> Result<Setting, CommandStop<'w>>
-    ensures { ReadsFiles (S.state shelf.old) (S.state shelf.new) (game_files names.entry.world.now names.entry.red.now names.entry.black.now)
-        (outcome_of setting_contents result) }
-{
-    let world = read_file(alloc, shelf, names.world)?;
-    let red = read_file(alloc, shelf, names.red)?;
-    let black = read_file(alloc, shelf, names.black)?;
-    Ok(Setting { world, red, black })
+    Ok(PlannedGame {
+        sheet: game.sheet,
+        plan,
+        single,
+    })
 }
 
 // Plays a game, and pushes its text: turn by turn where one worker is to play and no counts are asked for, else by a crew.
@@ -117,7 +91,7 @@ fn play_setting<C: Crew, K: Sink>(
     requires planned { CanPlay game.now.plan }
     ensures { PushedBy (K.state out.old) (K.state out.new) (text_in setting game.now) result }
 {
-    if game.lone && !game.plan.stats {
+    if game.single && !game.plan.stats {
         return play_setting_alone(setting, game, out);
     }
     let Setting { world, red, black } = setting;
@@ -179,16 +153,16 @@ pub fn run_by<'w, C: Crew, S: Shelf, K: Sink>(
 pub fn run<'w, C: Crew, S: Shelf, K: Sink>(
     alloc: Global,
     crew: &mut C,
-    asked: AskedGame<'w>,
+    words: RunWords<'w>,
     shelf: &mut S,
     out: &mut K,
 ) -> Result<(), CommandStop<'w>>
     requires ready { C.ready crew.old }
-    requires within { SetupWithin (plain_setup asked.options) }
-    ensures { CarriesOut (run_job asked.entry.names.world.now asked.entry.names.red.now asked.entry.names.black.now (plain_setup asked.entry.options))
+    requires within { SetupWithin (plain_setup words) }
+    ensures { CarriesOut (run_job words.entry.game.names.world.now words.entry.game.names.red.now words.entry.game.names.black.now (plain_setup words.entry))
         (S.state shelf.old) (S.state shelf.new) (K.state out.old) (K.state out.new) (ending_of result) }
 {
-    let AskedGame { names, options } = asked;
-    let game = planned_game(alloc, options)?;
+    let names = words.game.names;
+    let game = planned_game(alloc, words)?;
     run_by(alloc, crew, names, &game, shelf, out)
 }

@@ -9,9 +9,10 @@ ghost use Rattle.world_read.specs.Opened.{IsOpeningWorld};
 ghost use Rattle.ant_commands.specs.Inner.Plans.{CanPlay, Plans, minds_in};
 ghost use Rattle.ant_commands.specs.Inner.Reading.{CarriesOut, ending_of};
 
+use crate::commands::game::{FileNames, Setting, setting_of};
 use crate::commands::played::play_game;
-use crate::commands::run::{PlannedGame, Setting, planned_game, setting_of};
-use crate::commands::setups::{AskedGame, FileNames};
+use crate::commands::run::{PlannedGame, planned_game};
+use crate::commands::setups::RunWords;
 use crate::stop::{CommandStop, after_push};
 use ant_base::{Shelf, Sink};
 use ant_turn::Brains;
@@ -92,16 +93,16 @@ fn save_by<'w, C: Crew, S: Shelf, K: Sink>(
 pub fn save<'w, C: Crew, S: Shelf, K: Sink>(
     alloc: Global,
     crew: &mut C,
-    asked: AskedGame<'w>,
+    words: RunWords<'w>,
     shelf: &mut S,
     out: &mut K,
 ) -> Result<(), CommandStop<'w>>
     requires ready { C.ready crew.old }
-    requires within { SetupWithin (plain_setup asked.options) }
-    ensures { CarriesOut (save_job asked.entry.names.world.now asked.entry.names.red.now asked.entry.names.black.now (plain_setup asked.entry.options))
+    requires within { SetupWithin (plain_setup words) }
+    ensures { CarriesOut (save_job words.entry.game.names.world.now words.entry.game.names.red.now words.entry.game.names.black.now (plain_setup words.entry))
         (S.state shelf.old) (S.state shelf.new) (K.state out.old) (K.state out.new) (ending_of result) }
 {
-    let AskedGame { names, options } = asked;
-    let game = planned_game(alloc, options)?;
+    let names = words.game.names;
+    let game = planned_game(alloc, words)?;
     save_by(alloc, crew, names, &game, shelf, out)
 }

@@ -5,13 +5,12 @@ ghost use Rattle.ant_trace.specs.Trace.{trace_text};
 ghost use Rattle.ant_turn.specs.Minds.{Fits};
 ghost use Rattle.cell_world.specs.Grid.{world_of};
 ghost use Rattle.ant_commands.specs.Jobs.{trace_job};
-ghost use Rattle.ant_commands.specs.Setups.{TraceWithin, plain_trace};
+ghost use Rattle.ant_commands.specs.Setups.{plain_told};
 ghost use Rattle.match_run.specs.Run.{most_rounds};
 ghost use Rattle.ant_commands.specs.Inner.Plans.{minds_by};
 ghost use Rattle.ant_commands.specs.Inner.Reading.{CarriesOut, ending_of};
 
-use crate::commands::run::{Setting, setting_of};
-use crate::commands::setups::TracedGame;
+use crate::commands::game::{GameWords, Setting, setting_of};
 use crate::stop::{CommandStop, after_push};
 use ant_base::{Failed, Shelf, Sink};
 use ant_trace::TracePlan;
@@ -42,22 +41,23 @@ fn push_way<K: Sink>(
 /// Plays a game turn by turn, and writes one ant's way through it.
 pub fn trace<'w, S: Shelf, K: Sink>(
     alloc: Global,
-    game: TracedGame<'w>,
+    game: GameWords<'w>,
+    id: u32,
+    from: u32,
     shelf: &mut S,
     out: &mut K,
 ) -> Result<(), CommandStop<'w>>
-    requires { TraceWithin (plain_trace game) }
-    ensures { CarriesOut (trace_job game.entry.told.names.world.now game.entry.told.names.red.now game.entry.told.names.black.now game.entry.id (plain_trace game.entry))
+    requires { game.rounds ≤ most_rounds }
+    ensures { CarriesOut (trace_job game.entry.names.world.now game.entry.names.red.now game.entry.names.black.now id
+        (record { told = plain_told game.entry; from = from }))
         (S.state shelf.old) (S.state shelf.new) (K.state out.old) (K.state out.new) (ending_of result) }
 {
-    let told = game.told;
-    let sheet = Sheet::new(told.surround, told.corpse, told.rest);
     let plan = TracePlan {
-        id: game.id,
-        seed: told.seed,
-        rounds: told.rounds,
-        from: game.from,
+        id,
+        seed: game.seed,
+        rounds: game.rounds,
+        from,
     };
-    let setting = setting_of(alloc, told.names, shelf)?;
-    after_push(push_way(setting, sheet, &plan, out))
+    let setting = setting_of(alloc, game.names, shelf)?;
+    after_push(push_way(setting, game.sheet, &plan, out))
 }

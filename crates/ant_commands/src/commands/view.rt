@@ -1,15 +1,15 @@
 // The command `view`.
-ghost use Rattle.std.specs.Prelude.{◌≤◌};
+ghost use Rattle.std.specs.Prelude.{◌≡◌, ◌≤◌};
 ghost use Rattle.ant_base.specs.Sink.{Pushed};
 ghost use Rattle.ant_turn.specs.Minds.{Fits, contest_minds};
+ghost use Rattle.ant_turn.specs.Sheet.{contest, sheet_of};
 ghost use Rattle.break_view.specs.Texts.{view_of};
 ghost use Rattle.cell_world.specs.Grid.{world_of};
 ghost use Rattle.ant_commands.specs.Jobs.{view_job};
 ghost use Rattle.match_run.specs.Run.{most_rounds};
 ghost use Rattle.ant_commands.specs.Inner.Reading.{CarriesOut, ending_of};
 
-use crate::commands::run::{Setting, setting_of};
-use crate::commands::setups::ViewedGame;
+use crate::commands::game::{GameWords, Setting, setting_of};
 use crate::files::read_file;
 use crate::stop::{CommandStop, after_push};
 use ant_base::{Failed, Shelf, Sink};
@@ -21,12 +21,14 @@ use std::alloc::Global;
 #[tactic(auto, using(crate::proofs::Viewed::view_text_end))]
 fn push_stop<K: Sink>(
     setting: Setting,
+    sheet: Sheet,
     breaks: &Breaks,
     seed: u32,
     rounds: u32,
     out: &mut K,
 ) -> Result<(), Failed>
     requires fit { Fits (world_of setting.world) (contest_minds setting.red setting.black) }
+    requires sheet { sheet_of sheet ≡ contest }
     requires few_rounds { rounds ≤ most_rounds }
     ensures { Pushed (K.state out.old) (K.state out.new) (view_of (contest_minds setting.red setting.black) seed rounds (world_of setting.world) breaks.now) result }
 {
@@ -38,7 +40,7 @@ fn push_stop<K: Sink>(
     let brains = Brains {
         red: &red,
         black: &black,
-        sheet: Sheet::contest(),
+        sheet,
     };
     let stop = find_stop(&mut world, brains, seed, rounds, breaks);
     push_view(&world, seed, rounds, stop, out)
@@ -47,15 +49,17 @@ fn push_stop<K: Sink>(
 /// Plays a game, by the contest's rules, up to its first stop, and writes its view.
 pub fn view<'w, S: Shelf, K: Sink>(
     alloc: Global,
-    game: ViewedGame<'w>,
+    game: GameWords<'w>,
+    breaks: &'w str,
     shelf: &mut S,
     out: &mut K,
 ) -> Result<(), CommandStop<'w>>
-    requires { game.rounds ≤ most_rounds }
-    ensures { CarriesOut (view_job game.entry.names.world.now game.entry.names.red.now game.entry.names.black.now game.entry.breaks.now game.entry.seed game.entry.rounds)
+    requires few_rounds { game.rounds ≤ most_rounds }
+    requires sheet { sheet_of game.sheet ≡ contest }
+    ensures { CarriesOut (view_job game.entry.names.world.now game.entry.names.red.now game.entry.names.black.now breaks.now game.entry.seed game.entry.rounds)
         (S.state shelf.old) (S.state shelf.new) (K.state out.old) (K.state out.new) (ending_of result) }
 {
     let setting = setting_of(alloc, game.names, shelf)?;
-    let breaks: Breaks = read_file(alloc, shelf, game.breaks)?;
-    after_push(push_stop(setting, &breaks, game.seed, game.rounds, out))
+    let breaks: Breaks = read_file(alloc, shelf, breaks)?;
+    after_push(push_stop(setting, game.sheet, &breaks, game.seed, game.rounds, out))
 }

@@ -20,7 +20,7 @@ returns-in_err-setting g c =
 
 pub push_events-requires-clause-fit : goal.push_events-requires-clause-fit
 push_events-requires-clause-fit g c =
-    fits_accepted c.args.game.names.world.now c.args.game.names.red.now c.args.game.names.black.now c.in_ok-setting.ensures.fetches c.in_ok-setting.setting.world c.in_ok-setting.setting.red c.in_ok-setting.setting.black (sheet_of c.new-sheet.result) c.in_ok-setting.ensures.comes
+    fits_accepted c.args.game.names.world.now c.args.game.names.red.now c.args.game.names.black.now c.in_ok-setting.ensures.fetches c.in_ok-setting.setting.world c.in_ok-setting.setting.red c.in_ok-setting.setting.black (sheet_of c.args.game.sheet) c.in_ok-setting.ensures.comes
 
 pub returns : goal.returns
 unfolding events_output
@@ -28,6 +28,4 @@ returns g c =
     carries_pushed (events_job c.args.game.names.world.now c.args.game.names.red.now c.args.game.names.black.now (plain_told c.args.game)) (g.S.Shelf.state c.args.shelf.now) (g.S.Shelf.state c.setting_of.new.shelf) (g.K.Sink.state c.args.out.now) (g.K.Sink.state c.push_events.new.out)
     (setting_contents c.in_ok-setting.setting) c.after_push.result c.push_events.result c.after_push.ensures c.in_ok-setting.ensures
     (events_output (plain_told c.args.game) (game_read c.in_ok-setting.setting)) (tells c.in_ok-setting.setting (events_output (plain_told c.args.game)))
-    (subst (λ (sheet : Sheet). Pushed (g.K.Sink.state c.args.out.now) (g.K.Sink.state c.push_events.new.out)
-    (events_text (record { red = c.in_ok-setting.setting.red; black = c.in_ok-setting.setting.black; sheet = sheet }) c.args.game.seed (world_of c.in_ok-setting.setting.world) c.args.game.rounds) c.push_events.result)
-    c.new-sheet.ensures c.push_events.ensures)
+    c.push_events.ensures

@@ -21,7 +21,7 @@ returns-in_err-setting g c =
 
 pub push_profile-requires-clause-fit : goal.push_profile-requires-clause-fit
 push_profile-requires-clause-fit g c =
-    fits_accepted c.args.game.names.world.now c.args.game.names.red.now c.args.game.names.black.now c.in_ok-setting.ensures.fetches c.in_ok-setting.setting.world c.in_ok-setting.setting.red c.in_ok-setting.setting.black (sheet_of c.new-sheet.result) c.in_ok-setting.ensures.comes
+    fits_accepted c.args.game.names.world.now c.args.game.names.red.now c.args.game.names.black.now c.in_ok-setting.ensures.fetches c.in_ok-setting.setting.world c.in_ok-setting.setting.red c.in_ok-setting.setting.black (sheet_of c.args.game.sheet) c.in_ok-setting.ensures.comes
 
 pub returns-in_err-push_profile : goal.returns-in_err-push_profile
 unfolding profile_output
@@ -29,9 +29,7 @@ returns-in_err-push_profile g c =
     carries_early (profile_job c.args.game.names.world.now c.args.game.names.red.now c.args.game.names.black.now (plain_told c.args.game)) (g.S.Shelf.state c.args.shelf.now) (g.S.Shelf.state c.setting_of.new.shelf) (g.K.Sink.state c.args.out.now) (g.K.Sink.state c.push_profile.new.out)
     (setting_contents c.in_ok-setting.setting) c.from_residual-in_err-push_profile.result c.in_err-push_profile.field-0.0 c.from_residual-in_err-push_profile.ensures.1 c.in_ok-setting.ensures
     (profile_output (plain_told c.args.game) (game_read c.in_ok-setting.setting)) (tells c.in_ok-setting.setting (profile_output (plain_told c.args.game)))
-    (subst (λ (sheet : Sheet). StoppedBefore (g.K.Sink.state c.args.out.now) (g.K.Sink.state c.push_profile.new.out)
-    (profile_text (record { red = c.in_ok-setting.setting.red; black = c.in_ok-setting.setting.black; sheet = sheet }) c.args.game.seed (world_of c.in_ok-setting.setting.world) c.args.game.rounds) c.in_err-push_profile.field-0.0)
-    c.new-sheet.ensures c.in_err-push_profile.ensures)
+    c.in_err-push_profile.ensures
 
 pub returns : goal.returns
 unfolding profile_output
@@ -39,6 +37,4 @@ returns g c =
     carries_done (profile_job c.args.game.names.world.now c.args.game.names.red.now c.args.game.names.black.now (plain_told c.args.game)) (g.S.Shelf.state c.args.shelf.now) (g.S.Shelf.state c.setting_of.new.shelf) (g.K.Sink.state c.args.out.now) (g.K.Sink.state c.push_profile.new.out)
     (setting_contents c.in_ok-setting.setting) c.in_ok-setting.ensures
     (profile_output (plain_told c.args.game) (game_read c.in_ok-setting.setting)) (tells c.in_ok-setting.setting (profile_output (plain_told c.args.game)))
-    (subst (λ (sheet : Sheet). PushedAll (g.K.Sink.state c.args.out.now) (g.K.Sink.state c.push_profile.new.out)
-    (profile_text (record { red = c.in_ok-setting.setting.red; black = c.in_ok-setting.setting.black; sheet = sheet }) c.args.game.seed (world_of c.in_ok-setting.setting.world) c.args.game.rounds))
-    c.new-sheet.ensures c.in_ok-push_profile.ensures)
+    c.in_ok-push_profile.ensures

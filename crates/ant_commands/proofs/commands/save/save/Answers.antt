@@ -9,5 +9,5 @@ use Rattle.ant_commands.proofs.commands.save.save.Goals as goal
 
 pub returns-in_err-game : goal.returns-in_err-game
 returns-in_err-game g c =
-    carries_wanting (save_job c.args.asked.names.world.now c.args.asked.names.red.now c.args.asked.names.black.now (plain_setup c.args.asked.options)) (g.S.Shelf.state c.args.shelf.now) (g.K.Sink.state c.args.out.now)
+    carries_wanting (save_job c.args.words.game.names.world.now c.args.words.game.names.red.now c.args.words.game.names.black.now (plain_setup c.args.words)) (g.S.Shelf.state c.args.shelf.now) (g.K.Sink.state c.args.out.now)
     c.from_residual.result (subst (λ (why : CommandStop). IsErrAnd c.from_residual.result (λ other. other ≡ why)) c.in_err-game.ensures c.from_residual.ensures.1)

@@ -5,7 +5,7 @@ use Rattle.ant_trace.specs.Trace.{trace_text}
 use Rattle.ant_turn.specs.Sheet.{Sheet, sheet_of}
 use Rattle.cell_world.specs.Grid.{world_of}
 use Rattle.ant_commands.specs.Jobs.{trace_job}
-use Rattle.ant_commands.specs.Setups.{plain_trace}
+use Rattle.ant_commands.specs.Setups.{plain_told}
 use Rattle.ant_commands.specs.Inner.Plans.{game_read, setting_contents}
 use Rattle.ant_commands.specs.Outputs.{trace_output}
 use Rattle.ant_commands.proofs.Accepted.{fits_accepted}
@@ -15,19 +15,17 @@ use Rattle.ant_commands.proofs.commands.trace.trace.Goals as goal
 
 pub returns-in_err-setting : goal.returns-in_err-setting
 returns-in_err-setting g c =
-    carries_stop (trace_job c.args.game.told.names.world.now c.args.game.told.names.red.now c.args.game.told.names.black.now c.args.game.id (plain_trace c.args.game)) (g.S.Shelf.state c.args.shelf.now) (g.S.Shelf.state c.setting_of.new.shelf) (g.K.Sink.state c.args.out.now)
+    carries_stop (trace_job c.args.game.names.world.now c.args.game.names.red.now c.args.game.names.black.now c.args.id (record { told = plain_told c.args.game; from = c.args.from })) (g.S.Shelf.state c.args.shelf.now) (g.S.Shelf.state c.setting_of.new.shelf) (g.K.Sink.state c.args.out.now)
     c.from_residual.result c.in_err-setting.field-0.0 c.from_residual.ensures.1 c.in_err-setting.ensures
 
 pub push_way-requires-clause-fit : goal.push_way-requires-clause-fit
 push_way-requires-clause-fit g c =
-    fits_accepted c.args.game.told.names.world.now c.args.game.told.names.red.now c.args.game.told.names.black.now c.in_ok-setting.ensures.fetches c.in_ok-setting.setting.world c.in_ok-setting.setting.red c.in_ok-setting.setting.black (sheet_of c.new-sheet.result) c.in_ok-setting.ensures.comes
+    fits_accepted c.args.game.names.world.now c.args.game.names.red.now c.args.game.names.black.now c.in_ok-setting.ensures.fetches c.in_ok-setting.setting.world c.in_ok-setting.setting.red c.in_ok-setting.setting.black (sheet_of c.args.game.sheet) c.in_ok-setting.ensures.comes
 
 pub returns : goal.returns
 unfolding trace_output
 returns g c =
-    carries_pushed (trace_job c.args.game.told.names.world.now c.args.game.told.names.red.now c.args.game.told.names.black.now c.args.game.id (plain_trace c.args.game)) (g.S.Shelf.state c.args.shelf.now) (g.S.Shelf.state c.setting_of.new.shelf) (g.K.Sink.state c.args.out.now) (g.K.Sink.state c.push_way.new.out)
+    carries_pushed (trace_job c.args.game.names.world.now c.args.game.names.red.now c.args.game.names.black.now c.args.id (record { told = plain_told c.args.game; from = c.args.from })) (g.S.Shelf.state c.args.shelf.now) (g.S.Shelf.state c.setting_of.new.shelf) (g.K.Sink.state c.args.out.now) (g.K.Sink.state c.push_way.new.out)
     (setting_contents c.in_ok-setting.setting) c.after_push.result c.push_way.result c.after_push.ensures c.in_ok-setting.ensures
-    (trace_output c.args.game.id (plain_trace c.args.game) (game_read c.in_ok-setting.setting)) (tells c.in_ok-setting.setting (trace_output c.args.game.id (plain_trace c.args.game)))
-    (subst (λ (sheet : Sheet). Pushed (g.K.Sink.state c.args.out.now) (g.K.Sink.state c.push_way.new.out)
-    (trace_text (record { red = c.in_ok-setting.setting.red; black = c.in_ok-setting.setting.black; sheet = sheet }) c.args.game.told.seed (world_of c.in_ok-setting.setting.world) c.args.game.told.rounds c.args.game.id c.args.game.from) c.push_way.result)
-    c.new-sheet.ensures c.push_way.ensures)
+    (trace_output c.args.id (record { told = plain_told c.args.game; from = c.args.from }) (game_read c.in_ok-setting.setting)) (tells c.in_ok-setting.setting (trace_output c.args.id (record { told = plain_told c.args.game; from = c.args.from })))
+    c.push_way.ensures

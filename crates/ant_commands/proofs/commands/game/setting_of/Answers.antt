@@ -6,7 +6,7 @@ use Rattle.ant_commands.specs.Inner.Reading.ReadOutcome.{Contents}
 use Rattle.ant_commands.specs.Outputs.{brain_file, world_file}
 use Rattle.ant_commands.specs.FaultLines.{reason_of}
 use Rattle.ant_commands.proofs.Readings.{reads_stopped, reads_then, stopped_first, stopped_later}
-use Rattle.ant_commands.proofs.commands.run.setting_of.Goals as goal
+use Rattle.ant_commands.proofs.commands.game.setting_of.Goals as goal
 
 pub returns-in_err-world : goal.returns-in_err-world
 returns-in_err-world g c =

@@ -1,0 +1,27 @@
+-- A game of a cup is a run.
+use Rattle.std.proofs.Common.{Bool, List, [], ap, refl, ℕ, ◌∙◌, ◌≡◌}
+use Rattle.std.specs.Prelude.{slice_index_or}
+use Rattle.ant_turn.specs.Minds.{Minds}
+use Rattle.ant_turn.specs.Sheet.{Sheet}
+use Rattle.brain_read.specs.declared.instr.Instr.{Instr}
+use Rattle.cell_world.specs.Grid.{world_of}
+use Rattle.cell_world.specs.World.{World}
+use Rattle.command_words.specs.Slots.{DumpChoice}
+use Rattle.command_words.specs.Slots.DumpChoice.{NoDump}
+use Rattle.match_run.proofs.CountLaws.{counts_come_last}
+use Rattle.match_run.proofs.RunLaws.{no_dumps}
+use Rattle.match_run.specs.Counts.{whole_text}
+use Rattle.ant_commands.specs.Laws.{CupGamesAreRuns}
+use Rattle.ant_commands.specs.Outputs.{chosen_rounds, match_output, minds_between, nowhere, score_between}
+
+pub cup_games_are_runs : CupGamesAreRuns
+unfolding match_output score_between
+cup_games_are_runs worlds players setup world red black sheet none off =
+    let w : World = world_of (slice_index_or worlds world nowhere) in
+    let minds : Minds = minds_between players red black in
+    let by_sheet : Sheet → Minds = λ (s : Sheet). record { red = slice_index_or players red []; black = slice_index_or players black []; sheet = s } in
+    ap (λ (s : Sheet). whole_text (by_sheet s) setup.seed setup.rounds (chosen_rounds setup.dumps) setup.window setup.stats w) sheet
+    ∙ ap (λ (dumps : DumpChoice). whole_text minds setup.seed setup.rounds (chosen_rounds dumps) setup.window setup.stats w) none
+    ∙ ap (λ (stats : Bool). whole_text minds setup.seed setup.rounds (chosen_rounds NoDump) setup.window stats w) off
+    ∙ counts_come_last.without minds setup.seed setup.rounds (chosen_rounds NoDump) setup.window w
+    ∙ no_dumps minds setup.seed setup.rounds w
