@@ -58,6 +58,7 @@
        ANTS_UNREADABLE  the words or the names aren't UTF-8, there isn't one size for each name, or the sizes don't make up all bytes
        ANTS_NO_FILE     a file that the words name isn't among those that were handed in: nothing is read from the machine
 
+   A name that the words have twice is the same file each time, also `-`, of which the program finds nothing left at the second.
    ANTS_NUMBER says there that the words are no command, and ANTS_NO_ROOM that the text is longer than `out` or the line than `said`: `used`
    and `told` have the lengths that are wanted. A room of 256 for the line is enough but for long names.
 
@@ -88,7 +89,8 @@
     5. malloc, realloc and free are of one allocator, and align a block to each power of two up to 16 that divides its size. One that
        stands in for them replaces all three.
     6. No call comes from a signal handler, nor from the forked child of a process with threads.
-    7. There is stack enough. No proof bounds it; 16 KB were enough for the largest texts, so a thread with 64 KB is safe.
+    7. Below the caller there are ANTS_STACK bytes of stack. No proof bounds what a call takes; library/test_stack.c measures it over the
+       largest and the most nested texts, of which none takes more than half of that.
     8. The system is Linux on x86-64 with glibc, and the processor has x86-64-v2 (SSE4.2 and POPCNT), as all have since 2013: on one
        without it a call dies of an illegal instruction.
     9. In the link the names ants_* mean the library's own functions. It shows no others.
@@ -102,6 +104,9 @@
 
 #include <stddef.h>
 #include <stdint.h>
+
+// How many bytes of stack a caller leaves for a call; what it owes, 7, says why they are enough.
+#define ANTS_STACK 262144
 
 #ifdef __cplusplus
 extern "C" {

@@ -2,6 +2,7 @@
 #include "ants.h"
 #include <stdio.h>
 #include <string.h>
+#include <time.h>
 
 static const char *world = "3\n3\n# # #\n # + #\n# # #\n", *brain = "Flip 2 0 0\n", *drop = "Drop 0\n";
 static struct ants_fault_data fault;
@@ -175,6 +176,73 @@ static void look_rows(void) {
     ROW(is_fault(2, 27, 1, 0, 7, "line 1: no such state 7") && used == 99);
 }
 
+enum { SIDE = 512, INSIDE = SIDE - 2, MOST_ANTS = 16384, MANY = 1000, LONGEST = 4194304 };
+
+/* The largest world with the most ants: its first cells inside the rim are hills, one half of them red and the other black. */
+static size_t largest_world(char *text) {
+    size_t length = (size_t)sprintf(text, "%d\n%d\n", SIDE, SIDE);
+    for (int row = 0; row < SIDE; row++) {
+        for (int column = 0; column < SIDE; column++) {
+            int id = (row - 1) * INSIDE + column - 1, is_rim = row % (SIDE - 1) == 0 || column % (SIDE - 1) == 0;
+            text[length++] = is_rim ? '#' : id < MOST_ANTS / 2 ? '+' : id < MOST_ANTS ? '-' : '.';
+        }
+        text[length++] = '\n';
+    }
+    return length;
+}
+
+/* Whether this ant stands in its opening cell as one of a brain that only flips. */
+static int has_stayed(const struct ants_ant_data *ant, int id) {
+    int is_there = ant->alive == 1 && ant->column == 1 + id % INSIDE && ant->row == 1 + id / INSIDE;
+    return is_there && ant->colour == (id >= MOST_ANTS / 2) && ant->direction == 0 && ant->laden == 0 && ant->state == 0 && ant->resting == 0;
+}
+
+static void largest_look_rows(void) {
+    static char text[SIDE * (SIDE + 1) + 16];
+    static struct ants_ant_data ants[2 * MOST_ANTS + 1];
+    const uint32_t rounds[2] = {0, 1};
+    const uint8_t *ground = (const uint8_t *)text;
+    size_t length = largest_world(text);
+    int stayed = 0;
+    clear();
+    memset(ants, 0x55, sizeof ants);
+    ROW(ants_look(ground, length, TEXT(brain), TEXT(brain), 1, rounds, 2, scores, 3, ants, 2 * MOST_ANTS - 1, &used, &fault, words, 64) == ANTS_NO_ROOM);
+    ROW(used == MOST_ANTS && ants[0].alive == 0x55 && scores[0].red == 0x55555555 && stays());
+    ROW(ants_look(ground, length, TEXT(brain), TEXT(brain), 1, rounds, 2, scores, 3, ants, 2 * MOST_ANTS + 1, &used, &fault, words, 64) == ANTS_DONE);
+    for (int place = 0; place < 2 * MOST_ANTS; place++) stayed += has_stayed(&ants[place], place % MOST_ANTS);
+    ROW(used == MOST_ANTS && stayed == 2 * MOST_ANTS && ants[2 * MOST_ANTS].alive == 0x55);
+    ROW(scores[1].red == 0 && scores[1].black == 0 && scores[2].red == 0x55555555 && stays());
+}
+
+/* The processor's time of a look at the last rounds of the longest game, as many as are asked for. */
+static clock_t spent_on_look(uint32_t count) {
+    static struct ants_score_data seen[MANY];
+    static struct ants_ant_data ant[MANY];
+    uint32_t rounds[MANY];
+    clock_t begun = clock();
+    for (uint32_t place = 0; place < count; place++) rounds[place] = 1000000 - count + 1 + place;
+    ROW(ants_look(TEXT(world), TEXT(brain), TEXT(brain), 1, rounds, count, seen, count, ant, count, &used, &fault, words, 64) == ANTS_DONE);
+    return clock() - begun;
+}
+
+/* The processor's time of games without a round, as many as are asked for, of two of the longest brains. */
+static clock_t spent_on_scores(size_t count) {
+    static struct ants_score_data seen[MANY];
+    static uint32_t seeds[MANY];
+    static char longest[LONGEST];
+    clock_t begun = clock();
+    memcpy(memset(longest, ' ', LONGEST), "Drop 0", 6);
+    const uint8_t *text = (const uint8_t *)longest;
+    ROW(ants_scores(TEXT(world), text, LONGEST, text, LONGEST, seeds, count, 0, seen, count, &fault, words, 64) == ANTS_DONE);
+    return clock() - begun;
+}
+
+/* A thousand rounds, or seeds, take no twenty times as long as one: the game is played once, and the texts are read once. */
+static void once_rows(void) {
+    ROW(spent_on_look(MANY) < 20 * spent_on_look(1) + CLOCKS_PER_SEC / 10);
+    ROW(spent_on_scores(MANY) < 20 * spent_on_scores(1) + CLOCKS_PER_SEC / 10);
+}
+
 int main(void) {
     ROW(ANTS_UNREADABLE == 1 && ANTS_NO_FILE == 3);
     ROW(ANTS_DONE == 0 && ANTS_NUMBER == 2 && ANTS_NO_ROOM == 4 && ANTS_REFUSED == 5 && ANTS_MEMORY == 6);
@@ -183,6 +251,8 @@ int main(void) {
     text_rows();
     run_row();
     look_rows();
+    largest_look_rows();
+    once_rows();
     null_rows();
     version_rows();
     call_rows();

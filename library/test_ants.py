@@ -287,6 +287,7 @@ class Texts(Beside):
             (lambda: icfp_ants.scores(*stand, [1, None], 1), "seeds: a whole number is wanted, and not NoneType"), (lambda: icfp_ants.gen(1, rocks=None), "rocks: a whole number is wanted"),
             (lambda: icfp_ants.scores(*stand, 5, 1), "seeds: whole numbers are wanted, as a list, and not int"), (lambda: icfp_ants.run(*stand, 1, 1, dumps=1), "dumps: whole numbers are wanted"),
             (lambda: icfp_ants.look(*stand, 1, 5), "rounds: whole numbers are wanted"), (lambda: icfp_ants.run(*stand, 1, 1, dumps="all"), "dumps: a whole number is wanted, and not str"),
+            (lambda: icfp_ants.scores(*stand, memoryview(bytes(4)).cast("B", (2, 2)), 1), "seeds: whole numbers are wanted, as a list, and not a memoryview of 2 dimensions"),
         ):
             self.assertRaisesRegex(TypeError, "^%s" % said, call)
 
@@ -324,6 +325,14 @@ class WhatIsNoText(unittest.TestCase):
             self.assertRaisesRegex(TypeError, "^program: a text is wanted", lambda: icfp_ants.asm(wrong))
             self.assertRaisesRegex(TypeError, "^second: a text is wanted", lambda: icfp_ants.same("Drop 0\n", wrong))
             self.assertRaisesRegex(TypeError, "^save: a text is wanted", lambda: icfp_ants.resume(wrong, 1))
+
+    def test_that_the_package_has_given_is_a_type_error_that_names_it(self):
+        for wrong in (None, b"", 5, ["cell (0, 0): rock"], pathlib.Path("dump")):
+            for call, name in ((icfp_ants.cells, "dump"), (icfp_ants.score_of, "text"), (icfp_ants.counts_of, "text")):
+                self.assertRaisesRegex(TypeError, "^%s: a text is wanted, as str, and not " % name, lambda: call(wrong))
+
+    def test_a_character_that_utf_8_has_not_is_named(self):
+        self.assertRaisesRegex(ValueError, r"^brain: no character: '\\ud800'$", lambda: icfp_ants.brain("Drop 0 \ud800"))
 
     def test_each_sort_of_bytes_is_a_text(self):
         text = b"drop 00\n"

@@ -95,12 +95,39 @@ class Calls(Beside):
             self.assert_called("run", "world", "red", "black", "--seed", 7, "--rounds", 9, "--dump", "all", **AMBUSH)
             self.assert_called("brain", "brain", brain="Move 0 7\n")
 
+    def test_no_text_is_longer_than_the_most(self):
+        """Of each function with `most` a text of just so many bytes comes, and with one byte less allowed none."""
+        program = "block b\nl:\nDrop next\nend\nuse b\nuse b\n"
+        saved = icfp_ants.save(**AMBUSH, seed=12345, rounds=0)
+        for call, length in (
+            (lambda most: icfp_ants.call(["brain", "b"], {"b": "Drop 0"}, most=most).output, 7), (lambda most: icfp_ants.labels(program, most).text, len("0 b@5/l\n1 b@6/l\n")),
+            (lambda most: icfp_ants.lines(program, most=most).text, len("0 3 b@5\n1 3 b@6\n")),
+            (lambda most: icfp_ants.events(**FIRST, seed=1, rounds=110, most=most).text, len("random seed: 1\nround 110, red ant 0: score: red 1 black 0\n")),
+            (lambda most: icfp_ants.trace(**AMBUSH, ant=2, seed=12345, rounds=1, start=1, most=most).text, len("random seed: 12345\nround 1: dead\n")),
+            (lambda most: icfp_ants.run(**FIRST, seed=1, rounds=0, most=most), len("random seed: 1\n\nscore: red 0 black 0\n")),
+            (lambda most: icfp_ants.run(**FIRST, seed=1, rounds=0, rest=0, most=most), len("random seed: 1\n\nscore: red 0 black 0\n")),
+            (lambda most: icfp_ants.resume(saved, 1, most=most), len("\nscore: red 3 black 0\n")),
+            (lambda most: icfp_ants.resume(saved, 0, stats=True, most=most), len("\nscore: red 0 black 0\nturns 0 taken 0 redone 0\n")),
+        ):
+            self.assertEqual(len(call(length)), length)
+            self.assertEqual(len(call(length + 1)), length)
+            self.assertRaisesRegex(ValueError, "^most: the text has %d bytes, and %d are allowed$" % (length, length - 1), lambda: call(length - 1))
+            self.assertRaisesRegex(ValueError, "^most: the text has %d bytes, and 0 are allowed$" % length, lambda: call(0))
+        self.assertRaisesRegex(ValueError, "^most: -1 is not 0 to ", lambda: icfp_ants.call(["help"], most=-1))
+        self.assertRaisesRegex(TypeError, "^most: a whole number is wanted", lambda: icfp_ants.labels(program, None))
+
+    def test_labels_that_a_stranger_multiplies_are_refused_by_themselves(self):
+        program = "block b\n" + "".join("l%d:\n" % it for it in range(1000)) + "Drop next\nend\n" + "use b\n" * 9000
+        self.assertRaisesRegex(ValueError, r"^most: the text has \d{9} bytes, and 67108864 are allowed$", lambda: icfp_ants.labels(program))
+
     def test_what_is_no_word(self):
         self.assertRaisesRegex(TypeError, "^words: a list of words", lambda: icfp_ants.call("show w 1"))
         self.assertRaisesRegex(TypeError, "^words: a word is wanted, as str, and not int", lambda: icfp_ants.call(["show", "w", 1]))
         self.assertRaisesRegex(ValueError, r"^words: a line break in 'a\\nb'$", lambda: icfp_ants.call(["brain", "a\nb"]))
         self.assertRaisesRegex(ValueError, r"^files: a line break in 'a\\nb'$", lambda: icfp_ants.call(["brain", "a"], {"a\nb": ""}))
-        self.assertRaises(ValueError, lambda: icfp_ants.call(["brain", "\udcff"]))
+        self.assertRaisesRegex(ValueError, r"^words: no character: '\\udcff'$", lambda: icfp_ants.call(["brain", "\udcff"]))
+        self.assertRaisesRegex(ValueError, r"^files: no character: '\\udcff'$", lambda: icfp_ants.call(["brain", "a"], {"\udcff": ""}))
+        self.assertRaisesRegex(ValueError, r"^brains: no character: '\\udcff'$", lambda: icfp_ants.cup({"w": WORLD}, {"a\udcff": "Drop 0\n", "b": "Drop 0\n"}, 1, 1))
         self.assertRaisesRegex(TypeError, "^a: a text is wanted", lambda: icfp_ants.call(["brain", "a"], {"a": 5}))
         for wrong, kind in ((["Drop 0\n"], "list"), ("Drop 0\n", "str"), (None, "NoneType")):
             self.assertRaisesRegex(TypeError, "^files: texts by their names are wanted, as a dict, and not %s$" % kind, lambda: icfp_ants.call(["brain", "a"], wrong))

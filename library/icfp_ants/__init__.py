@@ -15,7 +15,9 @@ The project's docs/RULES.md says what is printed, and what the numbers mean. Ids
 0 to 9; `rest` how many turns one rests after a step, 0 to 255; `window`, 1 to 16,384 turns, is for the counts.
 
 A text is given as str or bytes: a file's name as str is read as a text, and refused. What is neither, as a Path, is a TypeError. A text that is refused
-raises `Refused`, with the program's words; a number beyond its limits raises ValueError, and memory that could not be had MemoryError. Any threads may call
+raises `Refused`, with the program's words; a number beyond its limits raises ValueError, and memory that could not be had MemoryError. How long a text is
+that comes, a stranger's input may decide, as the labels of a program: `call`, `run` and `resume` raise ValueError if it has more than `most` bytes, 256 MiB
+unless you say otherwise, and `labels`, `lines`, `events` and `trace`, whose lists take some 20 times as much, 64 MiB. Any threads may call
 at once: while a call runs, other threads of Python run too. Make no call in a forked child of a process with threads: let `multiprocessing` begin its
 processes by "spawn".
 

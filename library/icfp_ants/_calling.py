@@ -6,9 +6,9 @@ from typing import Callable, Iterable, Mapping, NamedTuple
 
 from . import _declared
 from ._declared import Kind
-from ._library import Refused, Text, Texts, area_of, bytes_of, is_done, library, names_of, numbers_of
+from ._library import MOST_BYTES, Refused, Text, Texts, area_of, bytes_of, check_length, is_done, library, line_of, names_of, numbers_of, room_within
 
-_ROOM, _ROOM_FOR_LINE = 1 << 28, 1 << 10  # bytes of the first rooms, of which only those that are written take memory
+_ROOM, _ROOM_FOR_LINE = MOST_BYTES, 1 << 10  # bytes of the first rooms
 _NO_FILES: Mapping[str, Text] = MappingProxyType({})
 _FAULTS_OF_BREAKS = {
     "too long": Kind.TOO_LONG, "unknown word": Kind.BRAIN_UNKNOWN_WORD, "missing token": Kind.BRAIN_MISSING_TOKEN, "bad number": Kind.BRAIN_BAD_NUMBER,
@@ -31,21 +31,20 @@ def _lines(name: str, words: Iterable[str]) -> bytes:
     for it in found:
         if not isinstance(it, str):
             raise TypeError("%s: a word is wanted, as str, and not %s: %r" % (name, type(it).__name__, it))
-        if "\n" in it:
-            raise ValueError("%s: a line break in %r" % (name, it))
-    return "".join(it + "\n" for it in found).encode("utf-8")
+    return b"".join(line_of(name, it) for it in found)
 
 
-def call(words: Iterable[str], files: Mapping[str, Text] = _NO_FILES) -> Called:
+def call(words: Iterable[str], files: Mapping[str, Text] = _NO_FILES, most: int = MOST_BYTES) -> Called:
     """Runs the program with these words, which don't have its name, over these files by their names; "-" is a name as any other.
 
     Nothing is read from the machine: a file that isn't among these is one that can't be read, with status 3. `--far` is no option, and workers play on
-    this thread. No word and no name has a line break. A call, also by a function that prints lines, maps 256 MiB, of which it uses what is written.
+    this thread. No word and no name has a line break. A text of more than `most` bytes is a ValueError: some lines of a program with blocks become
+    gigabytes of labels. A call, also by a function that prints lines, maps 256 MiB, of which it uses what is written.
     """
     spoken, names = _lines("words", words), _lines("files", names_of("files", files))
     texts = [bytes_of(name, text) for name, text in files.items()]
     sizes, contents = numbers_of("files", map(len, texts)), b"".join(texts)
-    room, room_for_line = _ROOM, _ROOM_FOR_LINE
+    room, room_for_line = room_within(most, _ROOM), _ROOM_FOR_LINE
     while True:
         area, area_for_line = area_of(room), area_of(room_for_line)
         out, said, used, told = c_char.from_buffer(area), c_char.from_buffer(area_for_line), c_size_t(), c_size_t()
@@ -57,12 +56,13 @@ def call(words: Iterable[str], files: Mapping[str, Text] = _NO_FILES) -> Called:
         if status != _declared.NO_ROOM:
             with memoryview(area) as output, memoryview(area_for_line) as line:
                 return Called(status, str(output[:used.value], "utf-8"), str(line[:told.value], "utf-8"))
+        check_length(used.value, most)
         room, room_for_line = max(room, used.value), max(room_for_line, told.value)
 
 
-def output_of(words: Iterable[object], files: Mapping[str, Text], read: Callable[[], object]) -> str:
+def output_of(words: Iterable[object], files: Mapping[str, Text], read: Callable[[], object], most: int = MOST_BYTES) -> str:
     """What a command prints over these files. Where one of them is refused, `read` reads them again and raises why, in numbers."""
-    status, output, fault = call(list(map(str, words)), files)
+    status, output, fault = call(list(map(str, words)), files, most)
     if status == _declared.DONE:
         return output
     if status == _declared.REFUSED:

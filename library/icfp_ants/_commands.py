@@ -3,7 +3,7 @@ from typing import Mapping, Optional, Tuple
 
 from ._calling import output_of, read_game
 from ._games import Score, counts_of, game_output, score_of
-from ._library import MOST_ROUNDS, Text, Texts, bytes_of, names_of, number_of, text_of, texts_of
+from ._library import MOST_LISTED, MOST_ROUNDS, Text, Texts, bytes_of, line_of, names_of, number_of, text_of, texts_of
 from ._printed import (
     Colour, Cup, Death, Event, Executed, Label, Line, Played, Printed, Renumbered, Standing, Step, Stop, Traced, Workload, cell_of, tuples_of, uses_of,
 )
@@ -32,11 +32,15 @@ def view(world: Text, red: Text, black: Text, breaks: Text, seed: int, rounds: i
 
 def trace(
     world: Text, red: Text, black: Text, ant: int, seed: int, rounds: int, start: int = 0, surround: int = 5, corpse: int = 3, rest: int = 14,
+    most: int = MOST_LISTED,
 ) -> Printed[Traced]:
-    """Where the ant of this id is after each round from `start` on, up to the one after which it is dead. An id that the world has no ant of is a ValueError."""
+    """Where the ant of this id is after each round from `start` on, up to the one after which it is dead. An id that the world has no ant of is a ValueError.
+
+    The text has at most `most` bytes.
+    """
     game, places = texts_of(world=world, red=red, black=black), [number_of("ant", ant, most=_MOST_ID)]
     options = "--from", number_of("start", start, most=MOST_ROUNDS)
-    text = game_output("trace", game, places, seed, rounds, (surround, corpse, rest), *options)
+    text = game_output("trace", game, places, seed, rounds, (surround, corpse, rest), *options, most=most)
     lines = text.split("\n")[1:-1]
     if lines[:1] == ["no ant of id %d" % ant]:
         raise ValueError("ant: the world has no ant of id %d" % ant)
@@ -45,10 +49,10 @@ def trace(
 
 
 def events(
-    world: Text, red: Text, black: Text, seed: int, rounds: int, surround: int = 5, corpse: int = 3, rest: int = 14,
+    world: Text, red: Text, black: Text, seed: int, rounds: int, surround: int = 5, corpse: int = 3, rest: int = 14, most: int = MOST_LISTED,
 ) -> Printed[Event]:
-    """Who dies in a game, and each score that is another than before, turn after turn."""
-    text = game_output("events", texts_of(world=world, red=red, black=black), (), seed, rounds, (surround, corpse, rest))
+    """Who dies in a game, and each score that is another than before, turn after turn: a text of at most `most` bytes."""
+    text = game_output("events", texts_of(world=world, red=red, black=black), (), seed, rounds, (surround, corpse, rest), most=most)
     form = r"round (\d+), (\w+) ant (\d+): (?:(\w+) ant (\d+) dies on \((\d+), (\d+)\)|score: red (\d+) black (\d+))"
     return Printed(text, map(_event, tuples_of(form, text.split("\n")[1:-1])))
 
@@ -77,6 +81,7 @@ def _files(kind: str, texts: Mapping[str, Text], least: int) -> Texts:
     for name in names:
         if not name or name.startswith("--") or "\n" in name:
             raise ValueError("%s[%r]: no name of a file" % (kind, name))
+        line_of(kind, name)
     return {name: bytes_of("%s[%r]" % (kind, name), text) for name, text in texts.items()}
 
 
@@ -103,18 +108,21 @@ def cup(worlds: Mapping[str, Text], brains: Mapping[str, Text], seed: int, round
     return Cup([Standing(int(points), name, *map(int, counts)) for points, name, *counts in table], played, text)
 
 
-def labels(program: Text) -> Printed[Label]:
-    """The labels of a program, each with the state to which it leads."""
+def labels(program: Text, most: int = MOST_LISTED) -> Printed[Label]:
+    """The labels of a program, each with the state to which it leads. A text of more than `most` bytes is a ValueError.
+
+    A block's labels come again with each use of it: 74 KB of a program may have 20 million lines, and each takes some 300 bytes here.
+    """
     files = texts_of(program=program)
-    text = output_of(["asm", "program", "--labels"], files, lambda: text_of("ants_asm", files))
+    text = output_of(["asm", "program", "--labels"], files, lambda: text_of("ants_asm", files), most)
     found = tuples_of(r"(\d+) (?:(.*)/)?(\w+)", text.split("\n")[:-1])
     return Printed(text, (Label(int(state), uses_of(uses or ""), name) for state, uses, name in found))
 
 
-def lines(program: Text) -> Printed[Line]:
-    """For each state of the brain that a program becomes the line of its instruction."""
+def lines(program: Text, most: int = MOST_LISTED) -> Printed[Line]:
+    """For each state of the brain that a program becomes the line of its instruction. A text of more than `most` bytes is a ValueError."""
     files = texts_of(program=program)
-    text = output_of(["asm", "program", "--lines"], files, lambda: text_of("ants_asm", files))
+    text = output_of(["asm", "program", "--lines"], files, lambda: text_of("ants_asm", files), most)
     found = tuples_of(r"(\d+) (\d+)(?: (.*))?", text.split("\n")[:-1])
     return Printed(text, (Line(int(state), uses_of(uses or ""), int(line)) for state, line, uses in found))
 

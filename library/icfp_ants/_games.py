@@ -7,10 +7,11 @@ from typing import Callable, Dict, Iterable, List, NamedTuple, Tuple
 
 from . import _declared
 from ._calling import output_of, read_game
-from ._library import MOST_ROUNDS, Answer, Text, Texts, bytes_of, is_done, library, number_of, numbers_of, text_of, texts_of, whole_numbers
+from ._library import (
+    MOST_BYTES, MOST_ROUNDS, Answer, Text, Texts, bytes_of, is_done, library, number_of, numbers_of, str_of, text_of, texts_of, whole_numbers,
+)
 
 _MOST_CELLS = 512 * 512
-_MOST_GUESSED = 1 << 28  # bytes of a room for a text whose length isn't known; only those that are written take memory
 _MOST_WORKERS = 256
 _MOST_WINDOW = 16384
 _SHEET = 5, 3, 14  # the contest's numbers of the rules: foes that surround, food of a corpse, turns of rest
@@ -46,15 +47,17 @@ def _cells(world: bytes) -> int:
 
 def _room_of_run(dumps: int, cells: int) -> int:
     """A guess of how long the text of a game is, so that it is seldom played twice: a cell of a dump has some 20 to 25 bytes, and at most 150."""
-    return min((1 << 12) + dumps * cells * 40, _MOST_GUESSED)
+    return min((1 << 12) + dumps * cells * 40, MOST_BYTES)
 
 
-def game_output(command: str, game: Texts, places: Iterable[int], seed: int, rounds: int, sheet: Tuple[int, ...], *options: object) -> str:
+def game_output(
+    command: str, game: Texts, places: Iterable[int], seed: int, rounds: int, sheet: Tuple[int, ...], *options: object, most: int = MOST_BYTES,
+) -> str:
     """What a command prints of a game, with the numbers that stand behind its files, the numbers of the rules where they are given, and more options."""
     words = [command, *game, *places, "--seed", number_of("seed", seed), "--rounds", _rounds(rounds), *options]
     for name, value, least, most in zip(("surround", "corpse", "rest"), sheet, (4, 0, 0), (6, 9, 255)):
         words += ["--" + name, number_of(name, value, least, most)]
-    return output_of(words, game, lambda: read_game(game))
+    return output_of(words, game, lambda: read_game(game), most)
 
 
 def _window(value: int) -> Tuple[str, int]:
@@ -143,16 +146,16 @@ def _scores_of_games(
 
 def run(
     world: Text, red: Text, black: Text, seed: int, rounds: int, dumps: Iterable[int] = (), stats: bool = False, window: int = _MOST_WINDOW,
-    surround: int = 5, corpse: int = 3, rest: int = 14,
+    surround: int = 5, corpse: int = 3, rest: int = 14, most: int = MOST_BYTES,
 ) -> str:
-    """What `ants run` prints of a game, with a dump after each of these rounds, and its counts at the end where `stats` says so."""
+    """What `ants run` prints of a game, with a dump after each of these rounds, and its counts at the end where `stats` says so: at most `most` bytes."""
     game = texts_of(world=world, red=red, black=black)
     seed, rounds = number_of("seed", seed), _rounds(rounds)
     dumped, sheet, windows = _dumped(dumps, rounds), (surround, corpse, rest), _window(window)
     if stats or sheet != _SHEET:
-        return game_output("run", game, (), seed, rounds, sheet, *_dump(dumped), *windows, *(["--stats"] if stats else []))
+        return game_output("run", game, (), seed, rounds, sheet, *_dump(dumped), *windows, *(["--stats"] if stats else []), most=most)
     room = _room_of_run(len(dumped), _cells(game["world"]))
-    return text_of("ants_run", game, seed, rounds, byref(c_uint32.from_buffer(numbers_of("dumps", dumped))), len(dumped), room=room)
+    return text_of("ants_run", game, seed, rounds, byref(c_uint32.from_buffer(numbers_of("dumps", dumped))), len(dumped), room=room, most=most)
 
 
 def save(
@@ -164,19 +167,22 @@ def save(
     if sheet != _SHEET or window != _MOST_WINDOW:
         return game_output("save", game, (), seed, rounds, sheet, *_window(window))
     room = (1 << 12) + 8 * _cells(game["world"]) + 4 * (len(game["red"]) + len(game["black"]))  # a cell has four bytes of a save
-    return text_of("ants_save", game, seed, rounds, room=min(room, _MOST_GUESSED))
+    return text_of("ants_save", game, seed, rounds, room=min(room, MOST_BYTES))
 
 
-def resume(save: Text, rounds: int, dumps: Iterable[int] = (), stats: bool = False) -> str:
-    """What `ants resume` prints of a saved game that goes on to this number of rounds in all, with the counts of all of them where `stats` says so."""
+def resume(save: Text, rounds: int, dumps: Iterable[int] = (), stats: bool = False, most: int = MOST_BYTES) -> str:
+    """What `ants resume` prints of a saved game that goes on to this number of rounds in all, with the counts of all of them where `stats` says so.
+
+    It has at most `most` bytes.
+    """
     saved = texts_of(save=save)
     rounds = _rounds(rounds)
     dumped = _dumped(dumps, rounds)
     if stats:
         words = ["resume", "save", "--rounds", rounds, *_dump(dumped), "--stats"]
-        return output_of(words, saved, lambda: resume(saved["save"], rounds))
+        return output_of(words, saved, lambda: resume(saved["save"], rounds), most)
     room = _room_of_run(len(dumped), min(len(saved["save"]) // 4, _MOST_CELLS))
-    return text_of("ants_resume", saved, rounds, byref(c_uint32.from_buffer(numbers_of("dumps", dumped))), len(dumped), room=room)
+    return text_of("ants_resume", saved, rounds, byref(c_uint32.from_buffer(numbers_of("dumps", dumped))), len(dumped), room=room, most=most)
 
 
 def advance(save: Text, rounds: int) -> str:
@@ -197,7 +203,7 @@ def counts_of(text: str) -> Counts:
 
 def _last_numbers(form: str, text: str) -> List[int]:
     """The numbers of the line of a text that has this form."""
-    found = re.search("^%s$" % form, text[-200:], re.M)
+    found = re.search("^%s$" % form, str_of("text", text)[-200:], re.M)
     if not found:
         raise ValueError("no such line ends the text: %s" % form)
     return [*map(int, found.groups())]

@@ -18,6 +18,8 @@ Texts = Dict[str, bytes]  # the bytes of texts by their names, in the order in w
 
 MOST_NUMBER = 2 ** 32 - 1
 MOST_ROUNDS = 10 ** 6
+MOST_BYTES = 1 << 28  # of a text that comes, where the caller says nothing else; a room of so many takes memory for those that are written
+MOST_LISTED = 1 << 26  # of a text that comes as a list, whose lines take some 20 times as much
 _WORDS = 1024  # bytes for the words of a fault, which have some dozens
 
 
@@ -73,10 +75,25 @@ def library() -> ctypes.CDLL:
     return found
 
 
+def _encoded(name: str, text: str, errors: str) -> bytes:
+    """A str as UTF-8."""
+    try:
+        return text.encode("utf-8", errors)
+    except UnicodeEncodeError as fault:
+        raise ValueError("%s: no character: %r" % (name, text[fault.start])) from None
+
+
+def line_of(name: str, word: str) -> bytes:
+    """A word as a line."""
+    if "\n" in word:
+        raise ValueError("%s: a line break in %r" % (name, word))
+    return _encoded(name, word, "strict") + b"\n"
+
+
 def bytes_of(name: str, text: Text) -> bytes:
     """The bytes of the text of this name."""
     if isinstance(text, str):
-        return text.encode("utf-8", "surrogateescape")
+        return _encoded(name, text, "surrogateescape")
     try:
         view = memoryview(text)
         is_text = view.ndim == 1 and view.format in ("B", "b", "c")
@@ -95,6 +112,13 @@ def names_of(kind: str, texts: Mapping[str, Text]) -> List[str]:
         if not isinstance(name, str):
             raise TypeError("%s: a name is wanted, as str, and not %s" % (kind, type(name).__name__))
     return list(texts)
+
+
+def str_of(name: str, text: str) -> str:
+    """A text that the package has given, as str."""
+    if not isinstance(text, str):
+        raise TypeError("%s: a text is wanted, as str, and not %s" % (name, type(text).__name__))
+    return text
 
 
 def texts_of(**texts: Text) -> Texts:
@@ -119,6 +143,8 @@ def whole_numbers(name: str, values: Iterable[int], most: int = MOST_NUMBER) -> 
         given = iter(values)
     except TypeError:
         raise TypeError("%s: whole numbers are wanted, as a list, and not %s" % (name, type(values).__name__)) from None
+    if isinstance(values, memoryview) and values.ndim != 1:
+        raise TypeError("%s: whole numbers are wanted, as a list, and not a memoryview of %d dimensions" % (name, values.ndim))
     return [number_of(name, it, most=most) for it in given]
 
 
@@ -160,12 +186,25 @@ def area_of(room: int) -> mmap.mmap:
         raise MemoryError("memory could not be had") from None
 
 
-def text_of(function: str, texts: Texts, *more: object, room: int = 1 << 16) -> str:
+def room_within(most: int, usual: int) -> int:
+    """How large the first room is for a text of at most `most` bytes: as usual, or less; at least 1 byte."""
+    return max(1, min(number_of("most", most, most=sys.maxsize), usual))
+
+
+def check_length(size: int, most: int) -> None:
+    """Raises a ValueError where a text has more bytes than are allowed."""
+    if size > most:
+        raise ValueError("most: the text has %d bytes, and %d are allowed" % (size, most))
+
+
+def text_of(function: str, texts: Texts, *more: object, room: int = 1 << 16, most: int = MOST_BYTES) -> str:
     """Calls a function that writes a text, once more where the text turns out to be longer than the room."""
+    room = room_within(most, room)
     while True:
         area = area_of(room)
         out, used = c_char.from_buffer(area), c_size_t()
         if is_done(function, texts, *more, byref(out), room, byref(used)):
             with memoryview(area) as view:
                 return str(view[:used.value], "ascii")
+        check_length(used.value, most)
         room = used.value

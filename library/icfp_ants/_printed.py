@@ -4,6 +4,7 @@ import re
 from typing import Iterable, Iterator, List, NamedTuple, Optional, Tuple, TypeVar
 
 from ._games import Counts, Score
+from ._library import str_of
 
 T = TypeVar("T")
 
@@ -177,7 +178,7 @@ def _digits(text: Optional[str]) -> Tuple[int, ...]:
 
 def cells(dump: str) -> List[Cell]:
     """The cells of a dump, row by row: of a text that has one, as `show` and `run` print it, or that of a `Stop`; of several dumps in their order."""
-    return [cell_of(line) for line in dump.split("\n") if line.startswith("cell ")]
+    return [cell_of(line) for line in str_of("dump", dump).split("\n") if line.startswith("cell ")]
 
 
 def uses_of(text: str) -> Tuple[Use, ...]:

@@ -17,6 +17,7 @@
 pub mod raw;
 
 pub use raw::{kind, Fault, Score};
+use std::alloc::{alloc_zeroed, Layout};
 use std::collections::BTreeSet;
 use std::fmt;
 
@@ -42,7 +43,8 @@ pub enum Stop {
         /// The same in numbers.
         fault: Fault,
     },
-    /// Memory could not be had by the library. Where this crate can't have a room of its own, the process ends, as for any `Vec`.
+    /// Memory could not be had by the library, or for the rooms of [`Game::look`], [`Game::scores`] or [`call`]. Elsewhere the process ends if this
+    /// crate can't have a room of its own, as for any `Vec`.
     OutOfMemory,
     /// A word or the name of a file of a [`call`] has a line break, or a file has 2^32 bytes or more.
     Unreadable,
@@ -203,6 +205,34 @@ fn text(names: &[&'static str], room: usize, call: impl Fn(&mut [u8], &mut usize
     Ok(cut(out, used))
 }
 
+/// An empty list with room for this many elements.
+fn list<T>(count: usize) -> Result<Vec<T>, Stop> {
+    let mut list = Vec::new();
+    list.try_reserve_exact(count).map_err(|_| Stop::OutOfMemory)?;
+    Ok(list)
+}
+
+/// A room of this many elements, all of them their type's default.
+fn room<T: Default + Clone>(count: usize) -> Result<Vec<T>, Stop> {
+    let mut room = list(count)?;
+    room.resize(count, T::default());
+    Ok(room)
+}
+
+/// A room of this many bytes, at least 1. They are 0, and only those that are written take memory.
+fn room_for_text(size: usize) -> Result<Vec<u8>, Stop> {
+    let size = size.max(1);
+    let layout = Layout::array::<u8>(size).map_err(|_| Stop::OutOfMemory)?;
+    // Safety: the layout has at least 1 byte. The block, if there is one, is the allocator's, has this layout, and its bytes are initialised.
+    unsafe {
+        let block = alloc_zeroed(layout);
+        if block.is_null() {
+            return Err(Stop::OutOfMemory);
+        }
+        Ok(Vec::from_raw_parts(block, size, size))
+    }
+}
+
 /// How many cells a world's text has, or some more.
 fn cells(world: &[u8]) -> usize {
     world.iter().filter(|it| **it != b' ').count().min(512 * 512)
@@ -248,7 +278,7 @@ impl<'a> Game<'a> {
     /// # Ok::<(), ants::Stop>(())
     /// ```
     pub fn scores(self, seeds: &[u32], rounds: u32) -> Result<Vec<Score>, Stop> {
-        let mut scores = vec![Score::default(); seeds.len()];
+        let mut scores = room(seeds.len())?;
         done(&Self::NAMES, |fault, words| raw::ants_scores(self.world, self.red, self.black, seeds, rounds, &mut scores, fault, words))?;
         Ok(scores)
     }
@@ -265,12 +295,17 @@ impl<'a> Game<'a> {
     pub fn look(self, seed: u32, rounds: &[u32]) -> Result<Vec<Look>, Stop> {
         let rounds: Vec<_> = BTreeSet::from_iter(rounds).into_iter().copied().collect();
         let hills = self.world.iter().filter(|it| matches!(it, b'+' | b'-')).count().min(MOST_ANTS);
-        let (mut scores, mut ants, mut ids) = (vec![Score::default(); rounds.len()], vec![raw::Ant::default(); rounds.len() * hills], 0);
+        let (mut scores, mut ants, mut ids) = (room(rounds.len())?, room(rounds.len() * hills)?, 0);
         done(&Self::NAMES, |fault, words| {
             raw::ants_look(self.world, self.red, self.black, seed, &rounds, &mut scores, &mut ants, &mut ids, fault, words)
         })?;
-        let looks = rounds.iter().zip(scores).enumerate();
-        Ok(looks.map(|(at, (&round, score))| Look { round, score, ants: ants[at * ids..][..ids].iter().map(Ant::of).collect() }).collect())
+        let mut looks = list(rounds.len())?;
+        for (at, (round, score)) in rounds.into_iter().zip(scores).enumerate() {
+            let mut seen = list(ids)?;
+            seen.extend(ants[at * ids..][..ids].iter().map(Ant::of));
+            looks.push(Look { round, score, ants: seen });
+        }
+        Ok(looks)
     }
 
     /// What `ants run` prints, with a dump after each of these rounds.
@@ -435,14 +470,19 @@ pub fn call(words: &[&str], files: &[(&str, &[u8])]) -> Result<Called, Stop> {
     let spoken = lines(words.iter().copied()).ok_or(Stop::Unreadable)?;
     let names = lines(files.iter().map(|it| it.0)).ok_or(Stop::Unreadable)?;
     let sizes: Vec<_> = files.iter().map(|it| u32::try_from(it.1.len())).collect::<Result<_, _>>().map_err(|_| Stop::Unreadable)?;
-    let bytes: Vec<_> = files.iter().flat_map(|it| it.1.iter().copied()).collect();
-    let (mut out, mut line) = (vec![0; MOST_GUESSED], vec![0; 1024]);
+    let mut bytes = list(files.iter().map(|it| it.1.len()).sum())?;
+    files.iter().for_each(|it| bytes.extend_from_slice(it.1));
+    let (mut out, mut line) = (room_for_text(MOST_GUESSED)?, room_for_text(1024)?);
     loop {
         let (mut used, mut told) = (0, 0);
         match raw::ants_call(&spoken, &names, &sizes, &bytes, &mut out, &mut used, &mut line, &mut told) {
             raw::NO_ROOM => {
-                out.resize(out.len().max(used), 0);
-                line.resize(line.len().max(told), 0);
+                if used > out.len() {
+                    out = room_for_text(used)?;
+                }
+                if told > line.len() {
+                    line = room_for_text(told)?;
+                }
             }
             raw::UNREADABLE => return Err(Stop::Unreadable),
             raw::MEMORY => return Err(Stop::OutOfMemory),

@@ -123,3 +123,19 @@ fn commands_are_those_of_the_program() {
     assert_eq!((far.status, far.output.as_str(), far.fault.as_str()), (2, "", "ants: word 5 refused\n"));
     assert_eq!(ants::call(&["brain", "a\nb"], &[]), Err(Stop::Unreadable));
 }
+
+/// In a process that may have 200 MB the rooms of a call, of a large look and of many scores can't be had.
+#[test]
+fn rooms_that_cant_be_had_are_an_error() {
+    if env::var_os("ANTS_FEW_BYTES").is_none() {
+        let test = "ulimit -v 200000 && exec \"$0\" --exact rooms_that_cant_be_had_are_an_error";
+        let ran = Command::new("sh").args(["-c", test]).arg(env::current_exe().unwrap()).env("ANTS_FEW_BYTES", "1").output().unwrap();
+        return assert!(ran.status.success(), "{}{}", String::from_utf8_lossy(&ran.stdout), String::from_utf8_lossy(&ran.stderr));
+    }
+    let rounds: Vec<u32> = (0..1_000).collect();
+    let game = Game { world: &[b'+'; 1 << 14], ..GAME };
+    assert_eq!(game.look(7, &rounds), Err(Stop::OutOfMemory));
+    assert_eq!(GAME.scores(&vec![7; 20_000_000], 0), Err(Stop::OutOfMemory));
+    assert_eq!(ants::call(&["--version"], &[]), Err(Stop::OutOfMemory));
+    assert_eq!(GAME.look(7, &[0]).unwrap().len(), 1);
+}
