@@ -1,6 +1,8 @@
-// Errands by far workers, who look at the same time; and what takes memory, with it.
-ghost use Rattle.std.specs.Prelude.{◌≡◌, ◌≤◌, true, IfOk, length};
+// Errands by far workers, who look at the same time. Looks that agree with a field, and looks that don't. And what takes memory, with it.
+ghost use Rattle.std.specs.Prelude.{◌≡◌, ◌+◌, ◌<◌, ◌≤◌, ◌^◌, true, IfOk, length};
+ghost use Rattle.std.specs.List.{AllByRecursion};
 ghost use Rattle.std.specs.Option.{ForSome};
+ghost use Rattle.std.specs.Arc.{arc_value};
 ghost use Rattle.ant_base.specs.Shelf.{longest};
 ghost use Rattle.ant_turn.specs.Minds.{Fits, minds_of};
 ghost use Rattle.cell_world.specs.Grid.{world_of};
@@ -9,13 +11,13 @@ use ant_base::{Gate, LONGEST, NoGate};
 use ant_turn::{Brains, Sheet};
 use brain_read::{Brain, read_brain};
 use cell_world::World;
-use far_crew::{Errand, FarCrew, with_far};
-use round_book::{Crew, Field};
+use far_crew::{Errand, FarCrew, Found, Job, OwnBrains, agrees, with_far};
+use round_book::{Crew, Field, play_window};
 use std::alloc::Global;
 use std::hint::spin_loop;
 use std::process::Abort;
-use std::sync::Wait;
 use std::sync::atomic::{AtomicBool, AtomicU32, Ordering};
+use std::sync::{Arc, Wait};
 use std::test::Fail;
 use std::thread::Threads;
 use world_read::read_world;
@@ -29,6 +31,46 @@ const FLIPS: &str = "Flip 2 0 0";
 const MOVES: &str = "Move 0 0";
 
 const SEED: u32 = 12345;
+
+// The guesses of the seven turns: each red ant draws, and no black one.
+const GUESSES: [u64; 7] = [0, 0, 0, 1, 1, 2, 2];
+
+// Turns of the looks with guesses, and whether they agree with the field on which they were made.
+const OPENING: [(u32, u64, bool); 8] = [
+    (0, 0, true),
+    (1, 0, true),
+    (2, 0, true),
+    (3, 1, true),
+    (4, 1, true),
+    (5, 2, true),
+    (6, 2, true),
+    (4, 0, false),
+];
+
+// The same looks with the field after the round: a cell that turn 1 reads has changed, and the ant of turn 2 is dead.
+const LATER: [(u32, u64, bool); 7] = [
+    (0, 0, true),
+    (1, 0, false),
+    (2, 0, false),
+    (3, 1, true),
+    (4, 1, true),
+    (5, 2, true),
+    (6, 2, true),
+];
+
+// The guesses of the next round, in which the dead ant doesn't draw.
+const NEXT_GUESSES: [u64; 7] = [1, 1, 1, 1, 1, 2, 2];
+
+// Looks that were made at them on the field after the round, with that field: the dead ant is dead in both.
+const NEXT: [(u32, u64, bool); 7] = [
+    (0, 1, true),
+    (1, 1, true),
+    (2, 1, true),
+    (3, 1, true),
+    (4, 1, true),
+    (5, 2, true),
+    (6, 2, true),
+];
 
 // The brains of a game.
 #[derive(Drop)]
@@ -50,7 +92,7 @@ pub(crate) fn make_players<R: Abort>(rt: &R, alloc: Global) -> Result<Players, F
 }
 
 // The world of a text, which these brains fit.
-fn opened_world(alloc: Global, text: &[u8], brains: Brains<'_>) -> Result<World, Fail>
+pub(crate) fn opened_world(alloc: Global, text: &[u8], brains: Brains<'_>) -> Result<World, Fail>
     requires { length text.now ≤ longest }
     ensures { IfOk result (λ world. Fits (world_of world) (minds_of brains.entry)) }
 {
@@ -92,6 +134,81 @@ pub(crate) fn field_of<'b, R: Abort>(
     field_on(alloc, bytes, brains, SEED)
 }
 
+// Copies of a field's brains.
+fn own_brains(alloc: Global, field: &Field<'_>) -> Result<Arc<OwnBrains>, Fail>
+    ensures { IfOk result (λ minds. arc_value minds ≡ field.now.minds) }
+{
+    Ok(Arc::new(alloc, OwnBrains::of(alloc, field.brains())?)?)
+}
+
+// A copy of its world.
+fn base_of(alloc: Global, field: &Field<'_>) -> Result<Arc<World>, Fail>
+    ensures { IfOk result (λ base. arc_value base ≡ field.now.world) }
+{
+    Ok(Arc::new(alloc, field.world().copy(alloc)?)?)
+}
+
+// The looks at all turns of a field's next round, each at its guess.
+fn found_on<R: Abort>(
+    rt: &R,
+    alloc: Global,
+    field: &Field<'_>,
+    guesses: &[u64],
+) -> Result<Found, Fail>
+    requires count { length guesses.now ≡ 7 }
+    requires small { AllByRecursion (λ guess. guess + 1 < 2 ^ 63) guesses.now }
+{
+    assert!(rt; 7 <= field.world().ant_count());
+    let minds = own_brains(alloc, field)?;
+    let base = base_of(alloc, field)?;
+    let job = Job::of(alloc, field, minds, base, 0, 7, guesses)?;
+    Ok(job.work(&NoGate, 0))
+}
+
+// Asserts of each row whether the look at its turn agrees with a field at its guess.
+fn check_rows<R: Abort>(rt: &R, field: &Field<'_>, found: &Found, rows: &[(u32, u64, bool)]) {
+    for (turn, guess, wanted) in rows {
+        assert!(rt; (*turn as usize) < found.len());
+        assert_eq!(rt; agrees(field, found, *turn, *guess), *wanted, "turn {turn}");
+    }
+}
+
+// The looks of the game's first round.
+fn first_looks<R: Abort>(rt: &R, alloc: Global, players: &Players) -> Result<Found, Fail> {
+    let field = field_of(rt, alloc, players)?;
+    found_on(rt, alloc, &field, &GUESSES)
+}
+
+// The field after the game's first round.
+fn later_field<'b, R: Abort>(
+    rt: &R,
+    alloc: Global,
+    players: &'b Players,
+) -> Result<Field<'b>, Fail> {
+    let mut field = field_of(rt, alloc, players)?;
+    let ids = field.world().ant_count();
+    play_window(&NoGate, alloc, &mut field, 0, ids)?;
+    Ok(field)
+}
+
+// Asserts of each table whether the looks agree with their field: that of the game's start, or that after its first round.
+fn check_agreement<R: Abort>(rt: &R, alloc: Global, players: &Players) -> Result<(), Fail> {
+    let found = first_looks(rt, alloc, players)?;
+    let opening = field_of(rt, alloc, players)?;
+    check_rows(rt, &opening, &found, &OPENING);
+    let later = later_field(rt, alloc, players)?;
+    check_rows(rt, &later, &found, &LATER);
+    let next = found_on(rt, alloc, &later, &NEXT_GUESSES)?;
+    check_rows(rt, &later, &next, &NEXT);
+    Ok(())
+}
+
+#[test]
+fn looks_agree_with_a_field_where_it_is_the_same(rt: HostRuntime) -> Result<(), Fail> {
+    let players = make_players(&rt, rt.alloc())?;
+    check_agreement(&rt, rt.alloc(), &players)
+}
+
 // An errand that ends at once.
 #[derive(Drop)]
 struct Early {
@@ -124,46 +241,59 @@ fn an_errand_may_end_early(rt: HostRuntime) {
 // Turns after which a worker that waits for the other one gives up.
 const PATIENCE: u32 = 100_000_000;
 
-// A gate at which two workers wait for each other, each up to its patience: which of them has called it, how often it was called, and whether
-// one waited in vain or was neither of them.
+// A gate at which two workers wait for each other, each up to its patience: which of them has called it, how often each turn was announced, and
+// whether one waited in vain or was neither of them.
 #[derive(Drop)]
 struct Pair {
     begun: [AtomicBool; 2],
-    calls: AtomicU32,
+    announced: Vec<AtomicU32>,
     missed: AtomicBool,
 }
 
 impl Pair {
-    // Nobody has called it.
-    fn new() -> Pair {
-        Pair {
-            begun: [AtomicBool::new(false), AtomicBool::new(false)],
-            calls: AtomicU32::new(0),
-            missed: AtomicBool::new(false),
+    // No worker has called it, for the given number of turns.
+    fn of(alloc: Global, turns: usize) -> Result<Pair, Fail> {
+        let mut announced = Vec::new(alloc);
+        for _ in 0..turns {
+            announced.push(AtomicU32::new(0))?;
         }
+        Ok(Pair {
+            begun: [AtomicBool::new(false), AtomicBool::new(false)],
+            announced,
+            missed: AtomicBool::new(false),
+        })
     }
 
-    // Asserts that it was called so often, by the two alone, who met.
-    fn check<R: Abort>(&self, rt: &R, calls: u32) {
+    // Asserts that the two alone called it, that they met, and that each turn was announced once.
+    fn check<R: Abort>(&self, rt: &R) {
         assert!(rt;
             !self.missed.load(Ordering::SeqCst),
             "a worker waited in vain"
         );
-        assert_eq!(rt; self.calls.load(Ordering::SeqCst), calls);
+        for (turn, count) in self.announced.iter().enumerate() {
+            check_announced(rt, turn, count);
+        }
     }
 }
 
+// Asserts that a turn was announced once.
+fn check_announced<R: Abort>(rt: &R, turn: usize, count: &AtomicU32) {
+    assert_eq!(rt; count.load(Ordering::SeqCst), 1, "turn {turn}");
+}
+
 impl Gate for Pair {
-    fn before_look(&self, worker: u32, _ticket: u32) {
+    fn before_look(&self, worker: u32, ticket: u32) {
         let met = match worker {
             0 => meets(&self.begun[0], &self.begun[1]),
             1 => meets(&self.begun[1], &self.begun[0]),
             _ => false,
         };
-        if !met {
-            self.missed.store(true, Ordering::SeqCst);
+        match self.announced.get(ticket as usize) {
+            Some(count) if met => {
+                count.fetch_add(1, Ordering::SeqCst);
+            }
+            _ => self.missed.store(true, Ordering::SeqCst),
         }
-        self.calls.fetch_add(1, Ordering::SeqCst);
     }
 }
 
@@ -282,7 +412,7 @@ fn check_pair<R: Threads + Wait + Sync + Abort>(
     players: &Players,
 ) -> Result<(), Fail> {
     let field = field_of(rt, alloc, players)?;
-    let pair = Pair::new();
+    let pair = Pair::of(alloc, 7)?;
     let errand = FirstRound {
         alloc,
         field: Some(field),
@@ -292,7 +422,7 @@ fn check_pair<R: Threads + Wait + Sync + Abort>(
         panic!(rt; "there is memory");
     };
     assert_eq!(rt; done.played, Some(PLAYED));
-    pair.check(rt, 7);
+    pair.check(rt);
     Ok(())
 }
 
