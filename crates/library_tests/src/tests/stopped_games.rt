@@ -1,8 +1,8 @@
 // Where a game stands when its sink had no room for its text.
-use crate::tests::standing_workers::{Players, field_on, make_players};
-use ant_base::{Calls, LONGEST, MemSink};
+use crate::tests::standing_workers::{Players, field_on, make_players, opened_world};
+use ant_base::{Calls, Failed, LONGEST, MemSink};
 use ant_turn::{Brains, Sheet};
-use match_run::{Dumps, Game, PlayFault, play_on};
+use match_run::{Dumps, Game, PlayFault, SequentialGame, play_on, play_on_alone};
 use round_book::{Crew, SoloCrew};
 use std::alloc::Global;
 use std::process::Abort;
@@ -51,11 +51,38 @@ fn check_stop<R: Abort>(
     Ok(())
 }
 
-// Asserts the same of each row.
+// Asserts how many rounds are done of a game that is just played, where the sink takes so many bytes.
+fn check_stop_alone<R: Abort>(
+    rt: &R,
+    alloc: Global,
+    players: &Players,
+    room: u64,
+    done: u32,
+) -> Result<(), Fail> {
+    let bytes = WORLD.as_bytes();
+    assert!(rt; bytes.len() <= LONGEST);
+    let brains = Brains {
+        red: &players.red,
+        black: &players.black,
+        sheet: Sheet::contest(),
+    };
+    let mut game = SequentialGame::begin(opened_world(alloc, bytes, brains)?, brains, 12345);
+    let mut sink = MemSink::with_room(alloc, room, Calls::new(alloc))?;
+    let played = play_on_alone(&mut game, 3, &Dumps::All, &mut sink);
+    assert_eq!(rt;
+        (played.err(), game.done()),
+        (Some(Failed), done),
+        "with room for {room}"
+    );
+    Ok(())
+}
+
+// Asserts both of each row.
 fn check_stops<R: Abort>(rt: &R, alloc: Global, rows: &[(u64, u32)]) -> Result<(), Fail> {
     let players = make_players(rt, alloc)?;
     for (room, done) in rows {
         check_stop(rt, alloc, &players, *room, *done)?;
+        check_stop_alone(rt, alloc, &players, *room, *done)?;
     }
     Ok(())
 }
