@@ -1,10 +1,13 @@
-// The task's own numbers of seed 12345, and each call once on its happy path.
+// The task's own numbers of seed 12345, each call once on its happy path, and the decimal texts of numbers.
 ghost use Rattle.std.specs.Prelude.{◌≡◌, ◌-◌, ◌^◌, ◌<◌};
 
+use ant_base::{Calls, MemSink, push_number};
 use ant_random::{Steps, Stream};
+use std::alloc::Global;
 use std::marker::Brand;
 use std::process::Abort;
 use std::sync::ledger::{Blank, Ledger};
+use std::test::Fail;
 
 const NUMBERS: [u32; 10] = [7193, 2932, 10386, 5575, 100, 15976, 430, 9740, 9449, 1636];
 
@@ -51,4 +54,33 @@ fn a_far_place_is_reached_at_once(rt: HostRuntime) {
         let numbers = two_numbers_at::<Brand>(12345, place, Blank::new(1));
         assert_eq!(rt; numbers, (7193, 2932), "at {place}");
     }
+}
+
+// Numbers with their decimal texts: the least and the greatest, and each side of a power of ten and of two.
+const DECIMALS: [(u64, &str); 6] = [
+    (0, "0"),
+    (9, "9"),
+    (10, "10"),
+    (4294967295, "4294967295"),
+    (4294967296, "4294967296"),
+    (18446744073709551615, "18446744073709551615"),
+];
+
+// Asserts the text that is pushed of a number.
+fn check_pushed<R: Abort>(rt: &R, alloc: Global, number: u64, text: &str) -> Result<(), Fail> {
+    let mut sink = MemSink::with_room(alloc, 20, Calls::new(alloc))?;
+    let pushed = push_number(&mut sink, number);
+    assert!(rt;
+        pushed.is_ok() && sink.held() == text.as_bytes(),
+        "{number}"
+    );
+    Ok(())
+}
+
+#[test]
+fn numbers_are_pushed_in_decimal(rt: HostRuntime) -> Result<(), Fail> {
+    for (number, text) in DECIMALS {
+        check_pushed(&rt, rt.alloc(), number, text)?;
+    }
+    Ok(())
 }

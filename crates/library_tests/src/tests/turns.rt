@@ -6,7 +6,7 @@ ghost use Rattle.cell_world.specs.Grid.{world_of};
 
 use crate::tests::{BLACK, CLEAR, RED, ROCK, shared};
 use ant_random::Stream;
-use ant_turn::{Brains, Sheet, take_turn};
+use ant_turn::{Brains, Sheet, check_around, surrounded, take_turn};
 use brain_read::{Brain, Instr};
 use cell_world::{Kind, Score, World};
 use hex_geometry::Pos;
@@ -86,4 +86,29 @@ fn brains_may_go_to_threads(rt: HostRuntime) {
         sheet: Sheet::contest(),
     };
     assert_eq!(rt; shared(&brains).black.len(), 1);
+}
+
+// Whether the red ant of id 2 is surrounded.
+fn is_ant_surrounded<R: Abort>(rt: &R, world: &mut World, sheet: Sheet) -> bool {
+    assert!(rt; world.width() == 7 && world.height() == 6);
+    surrounded(world, sheet, Pos { x: 3, y: 3 })
+}
+
+// Asserts which ants the checks around the cell to the west of it kill.
+fn check_killed<R: Abort>(rt: &R, world: &mut World, sheet: Sheet, killed: &[u32]) {
+    assert!(rt; world.width() == 7 && world.height() == 6);
+    let found = check_around(world, sheet, Pos { x: 2, y: 3 });
+    assert_eq!(rt; found.as_slice(), killed);
+}
+
+#[test]
+fn four_foes_surround_an_ant_by_a_sheet_of_four_alone(rt: HostRuntime) {
+    let mut world = World::build(rt.alloc(), 7, 6, &CLOSING).expect(&rt, "there is memory");
+    let four = Sheet::new(4, 3, 14);
+    assert!(rt; !is_ant_surrounded(&rt, &mut world, Sheet::contest()));
+    check_killed(&rt, &mut world, Sheet::contest(), &[]);
+    assert!(rt; is_ant_surrounded(&rt, &mut world, four));
+    check_killed(&rt, &mut world, four, &[2]);
+    assert!(rt; !is_ant_surrounded(&rt, &mut world, four));
+    assert_eq!(rt; world.score(), Score { red: 3, black: 0 });
 }

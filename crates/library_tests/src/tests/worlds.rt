@@ -1,7 +1,12 @@
-// What no clause says: that there is memory for worlds and for a copy, and that threads may share worlds and be handed them.
+// What no clause says: that there is memory for worlds and for a copy, and that what workers share and own may go to threads.
 use crate::tests::{RED, ROCK, shared};
-use cell_world::{Ant, Cell, Colour, Kind, Marks, Score, World};
+use brain_read::Brain;
+use cell_world::{Ant, Cell, Colour, Kind, Marks, Part, Parts, Score, World};
 use hex_geometry::{Dir, Pos};
+use round_book::{Book, Field};
+use round_workers::{Board, Seat, Worker};
+use spec_record::Look;
+use std::process::Abort;
 
 // One hill cell between rocks.
 const ONE_HILL: [Kind; 9] = [ROCK, ROCK, ROCK, ROCK, RED, ROCK, ROCK, ROCK, ROCK];
@@ -57,4 +62,56 @@ fn a_copy_is_an_equal_world(rt: HostRuntime) {
     assert_eq!(rt; copy.ant_count(), 1);
     let ants = (copy.ant_place(0), copy.alive(Colour::Red));
     assert_eq!(rt; (copy.width(), ants), (3, (Some(Pos { x: 1, y: 1 }), 1)));
+}
+
+// Compiles only for a type whose values may be handed to threads and shared by them.
+fn may_go_to_threads<T: Send + Sync>() {}
+
+#[test]
+fn what_workers_share_and_own_may_go_to_threads(_rt: HostRuntime) {
+    may_go_to_threads::<World>();
+    may_go_to_threads::<Brain>();
+    may_go_to_threads::<Look>();
+    may_go_to_threads::<Field<'static>>();
+    may_go_to_threads::<Book>();
+    may_go_to_threads::<Board>();
+    may_go_to_threads::<Seat>();
+    may_go_to_threads::<Worker>();
+}
+
+// Asserts whether two cells agree in a part, each with the other.
+fn check_part<R: Abort>(rt: &R, one: &Cell, other: &Cell, part: Part, agree: bool) {
+    let parts = Parts::none().with(part);
+    assert_eq!(rt;
+        (one.agrees(other, parts), other.agrees(one, parts)),
+        (agree, agree)
+    );
+}
+
+#[test]
+fn cells_agree_in_the_parts_that_are_equal(rt: HostRuntime) {
+    let none = Marks::none();
+    let hill = Cell {
+        rocky: false,
+        hill: Some(Colour::Red),
+        food: 0,
+        red: none,
+        black: none,
+        ant: Some(FIRST_ANT),
+    };
+    let resting = Ant {
+        resting: 14,
+        ..FIRST_ANT
+    };
+    let other = Cell {
+        food: 3,
+        ant: Some(resting),
+        ..hill
+    };
+    check_part(&rt, &hill, &other, Part::Who, true);
+    check_part(&rt, &hill, &other, Part::Mind, false);
+    check_part(&rt, &hill, &other, Part::Load, true);
+    check_part(&rt, &hill, &other, Part::Food, false);
+    check_part(&rt, &hill, &other, Part::RedMarks, true);
+    check_part(&rt, &hill, &other, Part::BlackMarks, true);
 }
