@@ -12,8 +12,8 @@ use std::sync::atomic::{AtomicBool, Ordering};
 use std::test::Fail;
 use std::thread::Threads;
 use tournament::{
-    Added, Names, Pairing, Played, PushFault, Referee, play_all, play_games, play_games_alone,
-    push_standing, play_and_print,
+    Added, Names, Pairing, Played, PushFault, Referee, play_all, play_and_print, play_games,
+    play_games_alone, push_standing,
 };
 
 // More bytes than any text of these tests has.
