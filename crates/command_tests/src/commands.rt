@@ -7,6 +7,7 @@ mod brains;
 mod compared;
 mod counts;
 mod cups;
+mod early_lines;
 mod events;
 mod games;
 mod generated;

@@ -1,17 +1,36 @@
 // A window of turns, settled by looks that were made at guesses.
-ghost use Rattle.std.specs.Prelude.{◌≡◌, ◌-◌, ◌≤◌, true, OnOk};
+ghost use Rattle.std.specs.Prelude.{◌≡◌, ◌+◌, ◌-◌, ◌<◌, ◌≤◌, true, OnOk};
 ghost use Rattle.cell_world.specs.Grid.{world_of};
 ghost use Rattle.spec_record.specs.Guess.{guesses_of};
-ghost use Rattle.round_book.specs.Book.{CanBegin, IsSameWindow, StandsOn};
+ghost use Rattle.round_book.specs.Book.{CanBegin, IsSameWindow, StandsOn, window_of};
+ghost use Rattle.round_book.specs.Window.{look_for};
 
 use crate::commands::games::{Players, killing_field, killing_players};
 use cell_world::Part;
 use hex_geometry::{OutOfMemory, Pos};
-use round_book::{Book, Cause, Counts, Field, advance};
-use spec_record::{guesses, look};
+use round_book::{Book, Cause, Counts, Field};
+use spec_record::{Look, guesses, look};
 use std::alloc::Global;
 use std::process::Abort;
 use std::test::Fail;
+
+// Settles the next turn by the look at it, and executes the turn again if the look doesn't hold.
+fn settle_or_redo(book: &mut Book, field: &Field<'_>, look: Look) -> Option<Cause>
+    requires stands { StandsOn field.now book.old }
+    requires left { book.old.next < book.old.to }
+    requires look { look ≡ look_for (window_of field.now book.old.from book.old.to) book.old.next }
+    ensures stands { StandsOn field.now book.new }
+    ensures next { book.new.next ≡ book.old.next + 1 }
+    ensures same { IsSameWindow book.old book.new }
+{
+    match book.settle(look) {
+        None => None,
+        Some(cause) => {
+            book.redo(field.brains(), cause);
+            Some(cause)
+        }
+    }
+}
 
 // Settles all turns of a window by looks at these guesses, and lists what became of each.
 fn settle_window(
@@ -30,7 +49,7 @@ fn settle_window(
     for guess in guesses {
         let id = book.next();
         let look = look(field.world(), field.brains(), field.seed(), *guess, id);
-        let cause = advance(book, field, &look);
+        let cause = settle_or_redo(book, field, look);
         causes.push(cause)?;
     }
     Ok(())

@@ -28,12 +28,17 @@ const THOUSAND: &str = "workload seed 12345 rounds 1000\n\
     turns 254000 taken 253622 redone 378\n";
 
 // Workloads, and what is told of them.
-const PLAYED_OUT: [(&str, &str); 6] = [
+const PLAYED_OUT: [(&str, &str); 4] = [
     ("workload 12345 0 4", UNTOUCHED),
     ("workload 0000012345 00 16", UNTOUCHED),
     ("workload 55 100 1", PLAYED),
     ("workload 55 100 3", PLAYED),
+];
+
+// A thousand rounds by one worker, by four and by sixteen.
+const THOUSANDS: [(&str, &str); 3] = [
     ("workload 12345 1000 1", THOUSAND),
+    ("workload 12345 1000 4", THOUSAND),
     ("workload 12345 1000 16", THOUSAND),
 ];
 
@@ -44,7 +49,19 @@ static WORKLOADS: Table<'static> = Table {
     rows: &PLAYED_OUT,
 };
 
+static LONG_WORKLOADS: Table<'static> = Table {
+    job: NO_JOB,
+    given: Given::Line,
+    status: Status::Done,
+    rows: &THOUSANDS,
+};
+
 #[test]
 fn a_workload_tells_of_its_world_and_its_game(rt: HostRuntime) -> Result<(), Fail> {
     check_rows(&rt, rt.alloc(), &WORKLOADS)
+}
+
+#[test]
+fn a_long_workload_is_the_same_by_any_number_of_workers(rt: HostRuntime) -> Result<(), Fail> {
+    check_rows(&rt, rt.alloc(), &LONG_WORKLOADS)
 }

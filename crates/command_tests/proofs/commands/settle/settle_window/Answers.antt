@@ -50,15 +50,15 @@ look-look-requires-clause-guess c =
     let here = c.next-id.ensures.next in
     going-guess c.args.field.now c.args.book.now.from c.args.book.now.to c.next-id.result c.loop-guess.book (slice_index_or c.args.guesses.now c.loop-guess.guess-index 0) (going-at c.args.field.now c.args.book.now c.loop-guess.book c.args.guesses.now c.loop-guess.guess-index c.next-id.result c.requires.guesses c.loop-guess-test.true c.loop-guess.invariant.stands c.loop-guess.invariant.same c.loop-guess.invariant.next c.next-id.ensures.next) (omega (arith, many, next, here, c.loop-guess-test.true))
 
-pub advance-cause-requires-clause-left : goal.advance-cause-requires-clause-left
-advance-cause-requires-clause-left c =
+pub settle_or_redo-cause-requires-clause-left : goal.settle_or_redo-cause-requires-clause-left
+settle_or_redo-cause-requires-clause-left c =
     let many = length-given c.args.field.now c.args.book.now c.args.guesses.now c.requires.guesses in
     let next = c.loop-guess.invariant.next in
     let to = c.loop-guess.invariant.same.to in
     omega (arith, many, next, to, c.loop-guess-test.true)
 
-pub advance-cause-requires-clause-look : goal.advance-cause-requires-clause-look
-advance-cause-requires-clause-look c =
+pub settle_or_redo-cause-requires-clause-look : goal.settle_or_redo-cause-requires-clause-look
+settle_or_redo-cause-requires-clause-look c =
     going-look c.args.field.now c.args.book.now.from c.args.book.now.to c.next-id.result c.loop-guess.book (slice_index_or c.args.guesses.now c.loop-guess.guess-index 0) (going-at c.args.field.now c.args.book.now c.loop-guess.book c.args.guesses.now c.loop-guess.guess-index c.next-id.result c.requires.guesses c.loop-guess-test.true c.loop-guess.invariant.stands c.loop-guess.invariant.same c.loop-guess.invariant.next c.next-id.ensures.next)
     c.look-look.result (minds_of c.brains.result) c.seed.result c.world.result.now c.brains.ensures.brains c.seed.ensures c.world.ensures.world c.look-look.ensures
 

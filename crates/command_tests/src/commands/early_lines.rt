@@ -1,0 +1,89 @@
+// Lines that are written while a game is played: once the output fails at one, nothing more is played. Each game has a million rounds of 16,361
+// turns, which take longer than a test has.
+use crate::commands::{CLOSED, check, cut, game_of};
+use std::alloc::Global;
+use std::process::Abort;
+use std::sync::Wait;
+use std::test::Fail;
+use std::thread::Threads;
+
+// The first cells of the first rows: a red ant among four black ones, a fifth about to come, between rocks.
+const AMBUSH: [&str; 6] = [
+    "#######", "#.....#", "#..-#.#", "#-.+-##", "#+.--##", "#######",
+];
+
+// How many rows and columns the world has.
+const SIDE: usize = 130;
+
+// Appends a row that begins so, goes on with cells of one kind, and ends in rock.
+fn push_row(text: &mut String, front: &str, kind: &str) -> Result<(), Fail> {
+    text.push_str(front)?;
+    for _ in front.len()..SIDE - 1 {
+        text.push_str(kind)?;
+    }
+    text.push_str("#\n")?;
+    Ok(())
+}
+
+// Appends the rows of the ambush but for the first, each with red hills after it, and then rows of red hills alone.
+fn push_hills(text: &mut String) -> Result<(), Fail> {
+    for front in &AMBUSH[1..] {
+        push_row(text, front, "+")?;
+    }
+    for _ in AMBUSH.len()..SIDE - 1 {
+        push_row(text, "#", "+")?;
+    }
+    Ok(())
+}
+
+// A world of 16,361 ants: the ambush, and red ants.
+fn crowd(alloc: Global) -> Result<String, Fail> {
+    let mut text = String::from_str(alloc, "130\n130\n")?;
+    push_row(&mut text, AMBUSH[0], "#")?;
+    push_hills(&mut text)?;
+    push_row(&mut text, "#", "#")?;
+    Ok(text)
+}
+
+// A small world.
+static MORE: [(&str, &str); 1] = [("v", CLOSED)];
+
+// Words, and the text up to where the output fails: in the line of the death in round 1; in the line of round 1; and in the second of the two games
+// on the small world, before a game on the other one. The rows before that of black ant 245 have 122 red ants and a black one, and 122 red ones.
+const EARLY: [(&str, &str); 3] = [
+    (
+        "events w r b --seed 12345 --rounds 1000000",
+        "random seed: 12345\nround 1, black ant 245: red ant 246",
+    ),
+    (
+        "trace w r b 0 --seed 12345 --rounds 1000000",
+        "random seed: 12345\nround 0: cell (7, 1): red hill; red ant of id 0, dir 0, food 0, state 0, resting 0\nround 1: ",
+    ),
+    (
+        "cup --worlds v w --brains r b --games --seed 12345 --rounds 1000000",
+        "game 1: red 0 black 0, v, r, b\ngame 2: ",
+    ),
+];
+
+// Asserts that the output of a command over these worlds fails after this text.
+fn check_early<R: Threads + Wait + Sync + Abort>(
+    rt: &R,
+    alloc: Global,
+    world: &str,
+    line: &str,
+    held: &str,
+) -> Result<(), Fail> {
+    let mut job = game_of(line, world, "Flip 2 0 0", "Move 0 0");
+    job.more = &MORE;
+    job.room = held.len() as u64;
+    check(rt, alloc, &job, cut(held, "ants: output failed\n"))
+}
+
+#[test]
+fn no_more_is_played_once_the_output_fails(rt: HostRuntime) -> Result<(), Fail> {
+    let world = crowd(rt.alloc())?;
+    for (line, held) in EARLY {
+        check_early(&rt, rt.alloc(), &world, line, held)?;
+    }
+    Ok(())
+}
