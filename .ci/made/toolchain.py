@@ -1,5 +1,6 @@
-"""What this repository knows of the inside of the toolchain, of which `rt` itself says nothing: how the checker beside `rt` is called, and the names of
-its folders. It stands here alone, so a toolchain of another layout needs no other change.
+"""What this repository knows of the inside of the toolchain, of which `rt` itself says nothing: how the checker
+beside `rt` is called, and the names of its folders. It stands here alone, so a toolchain of another layout needs no
+other change.
 """
 import os
 import shutil
