@@ -1,8 +1,10 @@
-"""Tries changed definitions: in a copy of the definitions and lemmas that name what was changed, beside the tree's own, which must be proved too.
+"""Tries changed definitions: in a copy of the definitions and lemmas that name what was changed, beside the tree's
+own, which must be proved too.
 
-A copy has the file of the lemma, what it names that names the changed file, and that file. The copies of some changes are in one copy of the crate of
-their lemmas, each under names of its own, and are checked in one go over the sources of the crates below; no function of the tree is. A change is
-refused if the copy of a lemma that its row names is: not if the changed definition is, or another lemma alone.
+A copy has the file of the lemma, what it names that names the changed file, and that file. The copies of some changes
+are in one copy of the crate of their lemmas, each under names of its own, and are checked in one go over the sources
+of the crates below; no function of the tree is. A change is refused if the copy of a lemma that its row names is: not
+if the changed definition is, or another lemma alone.
 """
 import os
 import re

@@ -1,5 +1,6 @@
-"""What this repository knows of the inside of the toolchain, of which `rt` itself says nothing: how the checker beside `rt` is called, and the names of
-its folders. It stands here alone, so a toolchain of another layout needs no other change.
+"""What this repository knows of the inside of the toolchain, of which `rt` itself says nothing: how the checker
+beside `rt` is called, and the names of its folders. It stands here alone, so a toolchain of another layout needs no
+other change.
 """
 import os
 import shutil
@@ -72,14 +73,3 @@ def build_words(crate, archive):
 def with_jobs(number):
     """The environment in which `rt must-fail` and `rt ci` make this number of checks at a time; its own, if there is none."""
     return {**os.environ, "RT_JOBS": str(number)} if number else dict(os.environ)
-
-
-def check_of(words, folder):
-    """The crate that a running command checks, and whether it is `proof`, `tests` or `edits`, by its words and the folder in which it runs; None if it
-    is no check."""
-    if "--crate-name" not in words or os.path.basename(words[0]) != CHECKER:
-        return None
-    name = words[words.index("--crate-name") + 1]
-    if os.path.basename(folder).startswith("rt-edit"):
-        return name, "edits"
-    return name, "tests" if "--test" in words else "proof"
