@@ -37,3 +37,7 @@ pub mod EdgesWorked
 pub mod HillsWorked
 pub mod SheetWorked
 pub mod RenumberWorked
+-- Each law, used.
+pub mod LawsUsed
+pub mod QuietLawsUsed
+pub mod RenumberLawsUsed

@@ -13,3 +13,5 @@ pub mod VerdictLemmas
 pub mod Worked
 pub mod WorkedInstructions
 pub mod WorkedTexts
+-- Each law, used.
+pub mod LawsUsed

@@ -26,7 +26,7 @@ unfolding decimal_value
 flip_line = record { spelled = (refl, (refl, (refl, (refl, tt)))); in_range = (omega arith, omega arith) }
 
 -- there is no marker 6
-marker_6 : IsBrainFault (codes "Mark 6 0") (BadNumber 1)
+pub marker_6 : IsBrainFault (codes "Mark 6 0") (BadNumber 1)
 unfolding decimal_value
 marker_6 = OfLine (first_line_fault-first brain_reader InstrLine first_of_line faithful (codes "Mark 6 0") (BadNumber 1) refl)
 

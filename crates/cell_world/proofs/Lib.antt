@@ -37,3 +37,5 @@ pub mod GroundWorked
 pub mod MarksWorked
 pub mod OpeningWorked
 pub mod ScoreWorked
+-- Each law, used.
+pub mod LawsUsed

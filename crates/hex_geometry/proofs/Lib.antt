@@ -14,3 +14,5 @@ pub mod RowLemmas
 pub mod Rim
 -- Worked values.
 pub mod Worked
+-- Each law, used.
+pub mod LawsUsed

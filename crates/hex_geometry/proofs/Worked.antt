@@ -32,7 +32,7 @@ unfolding adjacent_point directions
 table_at_2_2 = refl
 
 -- a place of whole numbers
-abbrev place : ℤ → ℤ → Point
+abbrev pub place : ℤ → ℤ → Point
 place x y = record { x = x; y = y }
 
 -- a least walk that leaves the grid: from (0, 0) over (-1, 1) to (0, 2)

@@ -2,12 +2,16 @@
 use Rattle.std.specs.Prelude.{◌≡◌, ◌≢◌, ℕ, ◌<◌, ◌≤◌, AllPairs, Contains, slice_get, Some}
 use Rattle.std.specs.Fn.{iterate}
 use Rattle.hex_geometry.specs.Direction.{dir_of, number_of, opposite, turned_by}
-use Rattle.hex_geometry.specs.Neighbourhood.{adjacent_pos, neighbours_of}
-use Rattle.hex_geometry.specs.Position.{IsInner, IsInside}
+use Rattle.hex_geometry.specs.Neighbourhood.{adjacent_point, adjacent_pos, neighbours_of}
+use Rattle.hex_geometry.specs.Position.{IsInner, IsInside, point_of}
 use Rattle.hex_geometry.specs.declared.direction.Dir.{Dir}
 use Rattle.hex_geometry.specs.declared.direction.Side.{Side}
 use Rattle.hex_geometry.specs.declared.direction.Side.TheVariants.{Left, Right}
 use Rattle.hex_geometry.specs.declared.position.Pos.{Pos}
+
+-- off the first row and column, the neighbour of a position is that of the table over whole numbers
+abbrev pub NeighboursAreTheTables : Type 0
+NeighboursAreTheTables = (p : Pos) (d : Dir) → 1 ≤ p.x → 1 ≤ p.y → point_of (adjacent_pos p d) ≡ adjacent_point (point_of p) d
 
 -- off the first row and column
 pub record NeighboursAreMutual : Type 0 where

@@ -1,15 +1,10 @@
 // Laws of the geometry. Each is proved by a function that does nothing.
-ghost use Rattle.std.specs.Prelude.{◌≡◌, ◌≤◌};
-ghost use Rattle.hex_geometry.specs.declared.direction.Dir.{Dir};
-ghost use Rattle.hex_geometry.specs.declared.position.Pos.{Pos};
-ghost use Rattle.hex_geometry.specs.Laws.{NeighboursAreMutual, TurnsGoRound};
-ghost use Rattle.hex_geometry.specs.Neighbourhood.{adjacent_point, adjacent_pos};
-ghost use Rattle.hex_geometry.specs.Position.{point_of};
+ghost use Rattle.hex_geometry.specs.Laws.{NeighboursAreMutual, NeighboursAreTheTables, TurnsGoRound};
 
 /// A law: off the first row and column, the neighbour on which all rules of the world rest is that of the table over whole numbers
 /// (the task's geometry).
 pub fn neighbours_are_the_tables()
-    ensures { (p : Pos) (d : Dir) → 1 ≤ p.x → 1 ≤ p.y → point_of (adjacent_pos p d) ≡ adjacent_point (point_of p) d }
+    ensures { NeighboursAreTheTables }
 {}
 
 /// A law: off the first row and column, neighbourhood is mutual, the opposite direction leads back, the six neighbours are pairwise two,

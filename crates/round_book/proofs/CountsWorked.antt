@@ -35,7 +35,7 @@ counts-seven : counts_of all_seven ≡ record { taken = 5; redone = 2 }
 unfolding counts_of is_taken look_for look_of guess_for moment_before after_turn turn reads writes merged stepped is_surrounded check_at killed_at places_around put_cell same_pos neighbours_of adjacent_pos directions guess flips opening cell_in rock floor place_in drawn random_at state_at
 counts-seven = refl
 
-redone-seven : (is_taken all_seven 2 ≡ false) × (is_taken all_seven 4 ≡ false)
+pub redone-seven : (is_taken all_seven 2 ≡ false) × (is_taken all_seven 4 ≡ false)
 unfolding is_taken look_for look_of guess_for moment_before after_turn turn reads writes merged stepped is_surrounded check_at killed_at places_around put_cell same_pos neighbours_of adjacent_pos directions guess flips opening cell_in rock floor place_in drawn random_at state_at
 redone-seven = (refl, refl)
 

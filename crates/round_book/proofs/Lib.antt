@@ -19,3 +19,5 @@ pub mod LoneTurns
 -- Worked values.
 pub mod CountsWorked
 pub mod MachineWorked
+-- Each law, used.
+pub mod LawsUsed

@@ -80,7 +80,7 @@ draws-lawful : (window : Window) (state : State) (hand : ℕ) → IsLawful windo
 draws-lawful window state hand = tt
 
 -- after these events
-abbrev after : List Event → State
+abbrev pub after : List Event → State
 after events = run all_seven (first_state all_seven) events
 
 -- two hands draw a ticket each; the second puts the look of turn 1, then the first that of turn 0; both turns are settled
@@ -90,10 +90,10 @@ two_drawn = Draws 0 ∷ Draws 1 ∷ []
 abbrev one_put : List Event
 one_put = two_drawn ++ Puts 1 1 ∷ []
 
-abbrev two_put : List Event
+abbrev pub two_put : List Event
 two_put = one_put ++ Puts 0 0 ∷ []
 
-abbrev two_settled : List Event
+abbrev pub two_settled : List Event
 two_settled = two_put ++ Settles Taken ∷ Settles Taken ∷ []
 
 two-lawful : AreLawful all_seven (first_state all_seven) two_settled
@@ -153,23 +153,23 @@ holds-first found can = Redone-refutes all_seven (after two_put).now 0 found can
 
 -- the red ant of id 2 was killed by turn 1: its turn is executed anew, and so is that of the red ant of id 4, whose number was guessed to be
 -- the second and is the first. The first hand puts the look of turn 4 before that of turn 3
-abbrev three_put : List Event
+abbrev pub three_put : List Event
 three_put = two_settled ++ Draws 1 ∷ Draws 0 ∷ Draws 0 ∷ Puts 0 4 ∷ Puts 1 2 ∷ []
 
-abbrev killed : Verdict
+abbrev pub killed : Verdict
 killed = Redone (cause.Part (at 3 3) Who)
 
-abbrev four_settled : List Event
+abbrev pub four_settled : List Event
 four_settled = three_put ++ Settles killed ∷ Puts 0 3 ∷ Settles Taken ∷ []
 
-abbrev guessed : Verdict
+abbrev pub guessed : Verdict
 guessed = Redone (cause.Place 1 0)
 
-abbrev five_settled : List Event
+abbrev pub five_settled : List Event
 five_settled = four_settled ++ Settles guessed ∷ []
 
 -- what is said of the killed ant, and of the random number
-is-killed : IsVerdict all_seven (after three_put).now 2 killed
+pub is-killed : IsVerdict all_seven (after three_put).now 2 killed
 unfolding patched look_for look_of guess_for turn reads writes merged stepped is_surrounded check_at killed_at places_around put_cell same_pos neighbours_of adjacent_pos directions guess flips opening cell_in rock floor place_in drawn random_at state_at
 is-killed = record {
   read = record { at = at 3 3; parts = record { who = true; mind = true; load = false; food = false; red_marks = false; black_marks = false } };
@@ -179,7 +179,7 @@ is-killed = record {
   differs = unlike Who (all_seven.base.cells (at 3 3)) ((after three_put).now.world.cells (at 3 3)) refl;
 }
 
-is-guessed : IsVerdict all_seven (after four_settled).now 4 guessed
+pub is-guessed : IsVerdict all_seven (after four_settled).now 4 guessed
 unfolding patched look_for look_of guess_for after_turn turn reads writes merged stepped is_surrounded check_at killed_at places_around put_cell same_pos neighbours_of adjacent_pos directions guess flips opening cell_in rock floor place_in drawn random_at state_at
 is-guessed = record {
   unchanged = ((parts-test (record { who = true; mind = true; load = false; food = false; red_marks = false; black_marks = false }) (all_seven.base.cells (at 1 4)) ((after four_settled).now.world.cells (at 1 4))).0 refl, tt);
@@ -189,7 +189,7 @@ is-guessed = record {
   differs = λ e. let one : 0 ≡ 1 = e in omega arith;
 }
 
-five-lawful : AreLawful all_seven (first_state all_seven) five_settled
+pub five-lawful : AreLawful all_seven (first_state all_seven) five_settled
 unfolding patched look_for look_of guess_for after_turn turn reads writes merged stepped is_surrounded check_at killed_at places_around put_cell same_pos neighbours_of adjacent_pos directions guess flips opening cell_in rock floor place_in drawn random_at state_at
 five-lawful = AreLawful-append all_seven (first_state all_seven) two_settled (Draws 1 ∷ Draws 0 ∷ Draws 0 ∷ Puts 0 4 ∷ Puts 1 2 ∷ Settles killed ∷ Puts 0 3 ∷ Settles Taken ∷ Settles guessed ∷ []) two-lawful (
   tt,
@@ -258,7 +258,7 @@ parts-first said = unlike Who (all_seven.base.cells (at 3 3)) (killed_elsewhere.
 
 -- a window of the one turn of id 4: ticket 0 is its first turn's, and the place rises where its look is taken. Whoever draws a ticket beyond
 -- the window puts nothing
-abbrev only_four : Window
+abbrev pub only_four : Window
 only_four = record all_seven { from = 4; to = 5 }
 
 abbrev four_taken : List Event
@@ -302,7 +302,7 @@ one_brain instruction own = record { some = omega arith; few = omega arith; soun
   at-most-one (suc i) one is = let never : None ≡ Some one = is in absurd (cc)
 
 -- the window of all seven turns is one whose turns are turns
-seven-sound : IsSound all_seven
+pub seven-sound : IsSound all_seven
 seven-sound = record {
   valid = (IsWorld-opening 7 6 kinds (IsPlan-test 7 6 kinds refl)).valid;
   sound = record {

@@ -35,3 +35,5 @@ pub mod EdgesWorked
 pub mod HoldsWorked
 pub mod RoundsWorked
 pub mod SameLooksWorked
+-- Each law, used.
+pub mod LawsUsed

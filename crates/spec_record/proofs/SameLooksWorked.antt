@@ -34,15 +34,15 @@ elsewhere_kinds =
     ∷ Rock ∷ Clear ∷ Clear ∷ Clear ∷ BlackHill ∷ Rock ∷ Rock
     ∷ Rock ∷ Rock ∷ Rock ∷ Rock ∷ Rock ∷ Rock ∷ Rock ∷ []
 
-abbrev elsewhere : World
+abbrev pub elsewhere : World
 elsewhere = world_of (opening 7 6 elsewhere_kinds)
 
 -- another red brain, and a black one that has one instruction more
-abbrev others : Minds
+abbrev pub others : Minds
 others = contest_minds (Drop 0 ∷ []) (Move 0 0 ∷ Flip 2 0 0 ∷ [])
 
 -- the turn of the ant of id 0 reads its own cell and the rock ahead: its looks are the same, whatever else is different
-blocked-same : SameForLook minds others field elsewhere 0
+pub blocked-same : SameForLook minds others field elsewhere 0
 unfolding reads merged same_pos adjacent_pos opening cell_in rock floor place_in
 blocked-same = record {
   valid = (IsWorld-opening 7 6 elsewhere_kinds (IsPlan-test 7 6 elsewhere_kinds refl)).valid;

@@ -2,3 +2,5 @@
 pub mod Places
 -- Worked values.
 pub mod Worked
+-- The law, used.
+pub mod LawsUsed

@@ -1,5 +1,5 @@
 -- Tables of words that are read in any ASCII case (this project's own: the spelling of its files).
-use Rattle.std.specs.Prelude.{◌≡◌, ℕ, suc, Bool, true, not, ◌&&◌, List, [], ◌∷◌, Option, Some, None, slice_get, option_map, if◌then◌else◌}
+use Rattle.std.specs.Prelude.{◌≡◌, ℕ, suc, Bool, true, not, ◌&&◌, IsTrue, List, [], ◌∷◌, Option, Some, None, slice_get, option_map, if◌then◌else◌}
 use Rattle.std.specs.List.{list_any}
 use Rattle.std.specs.Str.{str_to_ascii_lowercase, str_eq_ignore_ascii_case}
 
@@ -22,3 +22,7 @@ pub record IsWordAt (words : List (List ℕ)) (i : ℕ) (text : List ℕ) : Type
   pub word : List ℕ
   pub stands : slice_get words i ≡ Some word
   pub same : IsSameWord word text
+
+-- in a table whose words differ in any ASCII case, a word is found at the place where it stands
+abbrev pub WordIsFound : Type 0
+WordIsFound = (words : List (List ℕ)) (i : ℕ) (word : List ℕ) → IsTrue (are_distinct words) → slice_get words i ≡ Some word → word_place words word ≡ Some i

@@ -1,7 +1,7 @@
 // The table, and the search in it.
 ghost use Rattle.std.specs.Prelude.{◌≡◌, ◌<◌, ℕ, List, Some, IfSome, IsTrue, map, slice_get};
 ghost use Rattle.std.specs.Str.{str_eq_ignore_ascii_case};
-ghost use Rattle.word_table.specs.Words.{are_distinct, word_place, IsWordAt};
+ghost use Rattle.word_table.specs.Words.{are_distinct, word_place, IsWordAt, WordIsFound};
 
 use std::convert::AsStr;
 use std::marker::Model;
@@ -72,8 +72,7 @@ impl<T: AsStr, const N: usize> Words<T, N> {
 
 /// A law: in a table whose words differ in any ASCII case, a word is found at the place where it stands.
 pub fn word_is_found()
-    ensures { (words : List (List ℕ)) (i : ℕ) (word : List ℕ) → IsTrue (are_distinct words)
-        → slice_get words i ≡ Some word → word_place words word ≡ Some i }
+    ensures { WordIsFound }
 {}
 
 // The word is the text in some ASCII case.

@@ -2,3 +2,5 @@
 pub mod BordersLemmas
 -- Worked values.
 pub mod Worked
+-- Each law, used.
+pub mod LawsUsed

@@ -19,3 +19,5 @@ pub mod HasWorlds
 -- Worked values.
 pub mod Worked
 pub mod WorkedPlacing
+-- Each law, used.
+pub mod LawsUsed

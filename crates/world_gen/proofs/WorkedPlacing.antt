@@ -28,7 +28,7 @@ use Rattle.world_gen.specs.declared.spot.Spot.{Spot}
 use lib.Signed.{◌≤ℤ◌}
 
 -- 12 columns and rows are too few for a hill, wherever it is tried
-abbrev twelve : Shape
+abbrev pub twelve : Shape
 twelve = record { width = 12; height = 12; rocks = 14; blobs = 11 }
 
 no_hill : (p : Pos) → IsFreeSpot 12 12 [] (record { figure = Hill Red; place = p }) → ⊥
@@ -45,16 +45,16 @@ no_room = record {
 }
 
 -- two hills and a blob in 64 columns and rows
-abbrev shape : Shape
+abbrev pub shape : Shape
 shape = record { width = 64; height = 64; rocks = 0; blobs = 1 }
 
-abbrev first : Spot
+abbrev pub first : Spot
 first = record { figure = Hill Red; place = place 25 52 }
 
-abbrev second : Spot
+abbrev pub second : Spot
 second = record { figure = Hill Black; place = place 18 7 }
 
-abbrev third : Spot
+abbrev pub third : Spot
 third = record { figure = Blob SouthEast; place = place 36 40 }
 
 -- a place between these numbers is off the rim

@@ -15,3 +15,5 @@ pub mod CanonicalLemmas
 pub mod ReadsAsLemmas
 -- Worked values.
 pub mod Worked
+-- Each law, used.
+pub mod LawsUsed

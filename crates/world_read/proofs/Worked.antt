@@ -10,12 +10,12 @@ use Rattle.world_read.specs.Inner.Reading.{open_rim, plan_of}
 use Rattle.world_read.specs.FaultText.{world_fault_text}
 
 -- the canonical text of a small world
-text-one_hill : canonical_text 3 3 one_hill ≡ codes "3\n3\n# # #\n # + #\n# # #\n"
+pub text-one_hill : canonical_text 3 3 one_hill ≡ codes "3\n3\n# # #\n # + #\n# # #\n"
 unfolding digits canonical_text line_of_row cell_text numbered
 text-one_hill = refl
 
 -- and of one in whose middle row ants of both colours begin
-text-three_hills : canonical_text 5 3 three_hills ≡ codes "5\n3\n# # # # #\n # + + - #\n# # # # #\n"
+pub text-three_hills : canonical_text 5 3 three_hills ≡ codes "5\n3\n# # # # #\n # + + - #\n# # # # #\n"
 unfolding digits canonical_text line_of_row cell_text numbered
 text-three_hills = refl
 
