@@ -38,9 +38,9 @@ use Rattle.ant_commands.specs.Jobs.{job_of, run_job}
 use Rattle.ant_commands.specs.Outputs.{ReadGame, brain_file, chosen_rounds, game_contents, game_files, match_output, minds_named, sheet_named, world_file}
 use Rattle.ant_commands.specs.Outside.{Outside}
 use Rattle.ant_commands.specs.Run.{GotLine, IsRunTo}
-use Rattle.ant_commands.specs.RunPromise.{ComesNext, DidFetch, HasLine, IsCutOff, IsNotAccepted, IsPrinted, IsRunOf, IsText, IsUnbegun, IsUnfit, IsUnread, Plays, PushedPart, RefusedWords, RunAsked, RunEnds, RunPromise, RunShelf, StopsAt, TextKind, WantsMemory, fetch}
+use Rattle.ant_commands.specs.RunPromise.{ComesNext, DidFetch, HasLine, IsCutOff, IsNotAccepted, IsPrinted, IsRunOf, IsText, IsNotBegun, IsUnfit, IsNotRead, Plays, PushedPart, RefusedWords, RunAsked, RunEnds, RunPromise, RunShelf, StopsAtFile, TextKind, IsOutOfMemory, fetch}
 use Rattle.ant_commands.specs.RunPromise.ComesNext.{WorldFirst, RedNext, BlackLast}
-use Rattle.ant_commands.specs.RunPromise.IsUnbegun.{NothingFetched, BytesCame, NoBytes}
+use Rattle.ant_commands.specs.RunPromise.IsNotBegun.{NothingFetched, BytesCame, NoBytes}
 use Rattle.ant_commands.specs.RunPromise.TextKind.{OfWorld, OfBrain}
 use Rattle.ant_commands.specs.Setups.{RunSetup, setup_of}
 use Rattle.ant_commands.specs.Verdict.{IsRefusedAs}
@@ -162,7 +162,7 @@ record IsStop (IsSo : TextKind → List ℕ → Answer → Type 0) (asked : RunA
   kind : TextKind
   name : List ℕ
   answer : Answer
-  at : StopsAt asked before after kind name answer
+  at : StopsAtFile asked before after kind name answer
   such : IsSo kind name answer
 
 module _ (IsOld : File → Fetched → Type 0) (IsSo : TextKind → List ℕ → Answer → Type 0)
@@ -270,17 +270,17 @@ record HasStopped (world red black : List ℕ) (setup : RunSetup) (before after 
 
 -- where a file was not read
 unread_at : (world red black : List ℕ) (setup : RunSetup) (before after : Outside) (name : List ℕ) → HasStopped world red black setup before after (AtFile name)
-    → (kind : TextKind) × StopsAt (asked_for world red black setup) before after kind name (Err why.Failed)
+    → (kind : TextKind) × StopsAtFile (asked_for world red black setup) before after kind name (Err why.Failed)
 unread_at world red black setup before after name it =
     let asked = asked_for world red black setup in
     let stop : IsStop (IsFailedFetch name) asked before after =
     stops (IsUnsure before.shelf name) (IsFailedFetch name) (last_unsure before.shelf name WorldFile OfWorld) (last_unsure before.shelf name BrainFile OfBrain)
     asked before after it.stopped.unwritten it.fetches it.stopped.stopped it.fetched.log in (
       stop.kind,
-      subst (λ (answer : Answer). StopsAt asked before after stop.kind name answer) stop.such.1 (subst (λ (n : List ℕ). StopsAt asked before after stop.kind n stop.answer) stop.such.0 stop.at),
+      subst (λ (answer : Answer). StopsAtFile asked before after stop.kind name answer) stop.such.1 (subst (λ (n : List ℕ). StopsAtFile asked before after stop.kind n stop.answer) stop.such.0 stop.at),
     )
 
-unread : (world red black : List ℕ) (setup : RunSetup) (before after : Outside) (name : List ℕ) → HasStopped world red black setup before after (AtFile name) → IsUnread (asked_for world red black setup) before after
+unread : (world red black : List ℕ) (setup : RunSetup) (before after : Outside) (name : List ℕ) → HasStopped world red black setup before after (AtFile name) → IsNotRead (asked_for world red black setup) before after
 unfolding fault_line
 unread world red black setup before after name it =
     let at = unread_at world red black setup before after name it in
@@ -314,22 +314,22 @@ not_accepted world red black setup before after name fault it =
       name = name;
       answer = stop.answer;
       says = file_fault_text fault;
-      stopped = subst (λ (n : List ℕ). StopsAt asked before after stop.kind n stop.answer) stop.such.0 stop.at;
+      stopped = subst (λ (n : List ℕ). StopsAtFile asked before after stop.kind n stop.answer) stop.such.0 stop.at;
       unfit = stop.such.1;
       line = subst (HasLine before.err after.err) (ap (λ (says : List ℕ). codes "ants: " +++ says) (append_assoc name (codes ": " +++ file_fault_text fault) (codes "\n")))
           (has_line before.err after.err (fault_line (AtInput name fault)) it.line);
     }
 
 -- a run that stopped at a file without a fault
-stopped_short : {asked : RunAsked} {before after : Outside} → IsStop IsNoFault asked before after → IsUnbegun asked before after
+stopped_short : {asked : RunAsked} {before after : Outside} → IsStop IsNoFault asked before after → IsNotBegun asked before after
 stopped_short {asked} {before} {after} stop = elim stop.such [
-  | inl came ↦ BytesCame stop.kind stop.name came.0 (subst (StopsAt asked before after stop.kind stop.name) came.1 stop.at)
-  | inr wanting ↦ NoBytes stop.kind stop.name (subst (StopsAt asked before after stop.kind stop.name) wanting stop.at)
+  | inl came ↦ BytesCame stop.kind stop.name came.0 (subst (StopsAtFile asked before after stop.kind stop.name) came.1 stop.at)
+  | inr wanting ↦ NoBytes stop.kind stop.name (subst (StopsAtFile asked before after stop.kind stop.name) wanting stop.at)
 ]
 
 -- memory was wanting before the text was begun, or after a proper prefix of it
 wants_memory : (world red black : List ℕ) (setup : RunSetup) (before after : Outside) → setup.stats ≡ false → HasStopped world red black setup before after AtMemory
-    → WantsMemory (asked_for world red black setup) before after
+    → IsOutOfMemory (asked_for world red black setup) before after
 unfolding fault_line
 wants_memory world red black setup before after off it = record {
   stopped = elim it.stopped [
@@ -417,14 +417,14 @@ run_promise = record { kept = kept; one = one; every = every }
 
 -- a run at whose end a file was not read
 unread_of : (words : List (List ℕ)) (asked : RunAsked) → IsRunOf words asked → (before after : Outside) → IsRunTo words before after 3
-    → (kind : TextKind) × (name : List ℕ) × StopsAt asked before after kind name (Err why.Failed) × (before.shelf.sure name ≡ false) × Rose before.shelf.faults after.shelf.faults
+    → (kind : TextKind) × (name : List ℕ) × StopsAtFile asked before after kind name (Err why.Failed) × (before.shelf.sure name ≡ false) × Rose before.shelf.faults after.shelf.faults
 unread_of words asked is before after run =
     let it : IsTableRun words asked = table_run words asked is in
     let plain : PlainAsked = asked_in Run words in
     let found = (headline words before after 3 run).not_read refl in
     let stop = has_stopped words before after (AtFile found.0) it.is found.1 in
     let at = unread_at (plain.file 0) (plain.file 1) (plain.file 2) (setup_of plain) before after found.0 stop in
-    subst (λ (a : RunAsked). (kind : TextKind) × (name : List ℕ) × StopsAt a before after kind name (Err why.Failed) × (before.shelf.sure name ≡ false) × Rose before.shelf.faults after.shelf.faults)
+    subst (λ (a : RunAsked). (kind : TextKind) × (name : List ℕ) × StopsAtFile a before after kind name (Err why.Failed) × (before.shelf.sure name ≡ false) × Rose before.shelf.faults after.shelf.faults)
     it.said
     (at.0, found.0, at.1, never_sure before.shelf found.0 (game_files (plain.file 0) (plain.file 1) (plain.file 2)) stop.fetches stop.stopped.stopped, stop.stopped.rose)
 

@@ -15,11 +15,11 @@ use Rattle.command_words.specs.Inner.Walk.{choice_of, command_kind_of, read_of}
 use Rattle.command_words.specs.Slots.{dumps_of, is_dumps, is_file_name}
 use Rattle.command_words.specs.declared.table.CommandKind.TheVariants.{Run}
 use Rattle.ant_commands.specs.Outside.{Outside}
-use Rattle.ant_commands.specs.RunPromise.{AreOptions, bare_run, ComesNext, DidFetch, IsOption, IsPrinted, IsRunOf, IsText, IsUnbegun, IsUnfit, PushedPart, RunAsked, RunEnds, StopsAt, TextKind, fetch}
+use Rattle.ant_commands.specs.RunPromise.{AreOptions, bare_run, ComesNext, DidFetch, IsOption, IsPrinted, IsRunOf, IsText, IsNotBegun, IsUnfit, PushedPart, RunAsked, RunEnds, StopsAtFile, TextKind, fetch}
 use Rattle.ant_commands.specs.RunPromise.IsDumps.{NoRound, EveryRound, TheseRounds}
 use Rattle.ant_commands.specs.RunPromise.IsOption.{Seed, Rounds, Dump, Workers, Window, Surround, Corpse, Rest, Far}
 use Rattle.ant_commands.specs.RunPromise.ComesNext.{WorldFirst, RedNext, BlackLast}
-use Rattle.ant_commands.specs.RunPromise.IsUnbegun.{NothingFetched, BytesCame, NoBytes}
+use Rattle.ant_commands.specs.RunPromise.IsNotBegun.{NothingFetched, BytesCame, NoBytes}
 use Rattle.ant_commands.specs.RunPromise.TextKind.{OfWorld, OfBrain}
 use Rattle.ant_commands.proofs.RunWords.{table_run}
 
@@ -211,12 +211,12 @@ printed_alone : (asked : RunAsked) (before after : Outside) → IsPrinted asked 
 printed_alone asked before after is = (is.silent, is.flushed)
 
 -- where a run stopped at a file, nothing was written
-stopped_alone : {asked : RunAsked} {before after : Outside} {kind : TextKind} {name : List ℕ} {answer : Result (List ℕ) FetchFault} → StopsAt asked before after kind name answer
+stopped_alone : {asked : RunAsked} {before after : Outside} {kind : TextKind} {name : List ℕ} {answer : Result (List ℕ) FetchFault} → StopsAtFile asked before after kind name answer
     → after.out ≡ before.out
 stopped_alone at = at.unwritten
 
 -- so is it where it stopped before the text was begun, and what it fetched is told
-unbegun_alone : (asked : RunAsked) (before after : Outside) → IsUnbegun asked before after → (after.out ≡ before.out) × ((fetches : List Fetched) × DidFetch before after fetches)
+unbegun_alone : (asked : RunAsked) (before after : Outside) → IsNotBegun asked before after → (after.out ≡ before.out) × ((fetches : List Fetched) × DidFetch before after fetches)
 unbegun_alone asked before after (NothingFetched did unwritten) = (unwritten, ([], did))
 unbegun_alone asked before after (BytesCame kind name bytes at) = (at.unwritten, (at.earlier ++ (fetch name (Ok bytes) ∷ []), at.fetched))
 unbegun_alone asked before after (NoBytes kind name at) = (at.unwritten, (at.earlier ++ (fetch name (Err OutOfMemory) ∷ []), at.fetched))

@@ -108,7 +108,7 @@ pub data ComesNext (asked : RunAsked) : TextKind → List ℕ → List Fetched �
       → ComesNext asked OfBrain asked.black (fetch asked.world (Ok first) ∷ fetch asked.red (Ok second) ∷ [])
 
 -- a run stopped at the file of this name, which has to be a text of this kind: it was fetched last, with this answer, and nothing was written
-pub record StopsAt (asked : RunAsked) (before after : Outside) (kind : TextKind) (name : List ℕ) (answer : Result (List ℕ) FetchFault) : Type 0 where
+pub record StopsAtFile (asked : RunAsked) (before after : Outside) (kind : TextKind) (name : List ℕ) (answer : Result (List ℕ) FetchFault) : Type 0 where
   pub earlier : List Fetched
   pub next : ComesNext asked kind name earlier
   pub fetched : DidFetch before after (earlier ++ (fetch name answer ∷ []))
@@ -144,10 +144,10 @@ pub record IsPrinted (asked : RunAsked) (before after : Outside) : Type 0 where
   pub silent : after.err ≡ before.err
 
 -- 3: a file wasn't read: its fetch failed
-pub record IsUnread (asked : RunAsked) (before after : Outside) : Type 0 where
+pub record IsNotRead (asked : RunAsked) (before after : Outside) : Type 0 where
   pub kind : TextKind
   pub name : List ℕ
-  pub stopped : StopsAt asked before after kind name (Err Failed)
+  pub stopped : StopsAtFile asked before after kind name (Err Failed)
   pub line : HasLine before.err after.err (codes "ants: " +++ name +++ codes ": not read\n")
 
 -- 4: the output failed after a prefix of the text
@@ -166,32 +166,32 @@ pub record IsNotAccepted (asked : RunAsked) (before after : Outside) : Type 0 wh
   pub name : List ℕ
   pub answer : Result (List ℕ) FetchFault
   pub says : List ℕ
-  pub stopped : StopsAt asked before after kind name answer
+  pub stopped : StopsAtFile asked before after kind name answer
   pub unfit : IsUnfit kind answer says
   pub line : HasLine before.err after.err (codes "ants: " +++ name +++ codes ": " +++ says +++ codes "\n")
 
 -- the text wasn't begun, and nothing was written
-pub data IsUnbegun (asked : RunAsked) (before after : Outside) : Type 0 where
+pub data IsNotBegun (asked : RunAsked) (before after : Outside) : Type 0 where
   -- it stopped before the first fetch
-  NothingFetched : DidFetch before after [] → after.out ≡ before.out → IsUnbegun asked before after
+  NothingFetched : DidFetch before after [] → after.out ≡ before.out → IsNotBegun asked before after
   -- or after a file whose bytes came, whether they are such a text or not
-  BytesCame : (kind : TextKind) (name bytes : List ℕ) → StopsAt asked before after kind name (Ok bytes) → IsUnbegun asked before after
+  BytesCame : (kind : TextKind) (name bytes : List ℕ) → StopsAtFile asked before after kind name (Ok bytes) → IsNotBegun asked before after
   -- or at a fetch that answered out of memory
-  NoBytes : (kind : TextKind) (name : List ℕ) → StopsAt asked before after kind name (Err OutOfMemory) → IsUnbegun asked before after
+  NoBytes : (kind : TextKind) (name : List ℕ) → StopsAtFile asked before after kind name (Err OutOfMemory) → IsNotBegun asked before after
 
--- 6: it gave up for want of memory, before the text or within it
-pub record WantsMemory (asked : RunAsked) (before after : Outside) : Type 0 where
-  pub stopped : IsUnbegun asked before after ⊎ Plays PushedPart asked before after
+-- 6: memory ran out, before the text or within it
+pub record IsOutOfMemory (asked : RunAsked) (before after : Outside) : Type 0 where
+  pub stopped : IsNotBegun asked before after ⊎ Plays PushedPart asked before after
   pub line : HasLine before.err after.err (codes "ants: out of memory\n")
 
 -- how a run ends: with one of five statuses, and what each says
 abbrev pub RunEnds : RunAsked → Outside → Outside → ℕ → Type 0
 RunEnds asked before after number =
     ((number ≡ 0) × IsPrinted asked before after)
-    ⊎ ((number ≡ 3) × IsUnread asked before after)
+    ⊎ ((number ≡ 3) × IsNotRead asked before after)
     ⊎ ((number ≡ 4) × IsCutOff asked before after)
     ⊎ ((number ≡ 5) × IsNotAccepted asked before after)
-    ⊎ ((number ≡ 6) × WantsMemory asked before after)
+    ⊎ ((number ≡ 6) × IsOutOfMemory asked before after)
 
 -- the promise of a run. `IsRunOf words asked`: these words ask for this run. `IsRunTo words before after number`: the program, called with these words, ended
 -- with this number. So a run ended as `RunEnds` says; words ask for one run at most; and where the program, called with `run` and other words, no `--stats`
@@ -203,13 +203,13 @@ pub record RunPromise : Type 0 where
   pub every : (words : List (List ℕ)) (before after : Outside) (number : ℕ) → IsRunTo (codes "run" ∷ words) before after number → number ≢ 2
       → ¬ Contains words (codes "--stats") → (asked : RunAsked) × IsRunOf (codes "run" ∷ words) asked
 
--- what a run does to its shelf besides. `each`: its fetches agree with what the shelf tells, contents and sureness stay, and the count of faults falls never;
+-- what a run does to its shelf besides. `each`: its fetches agree with what the shelf tells, contents and sureness stay, and the count of faults never falls;
 -- `unread`: at 3 the shelf wasn't sure of the file at which the run stopped, and its count of faults rose
 pub record RunShelf : Type 0 where
   pub each : (words : List (List ℕ)) (asked : RunAsked) → IsRunOf words asked → (before after : Outside) (number : ℕ) → IsRunTo words before after number
       → (fetches : List Fetched) × FetchesEach before.shelf after.shelf fetches
   pub unread : (words : List (List ℕ)) (asked : RunAsked) → IsRunOf words asked → (before after : Outside) → IsRunTo words before after 3
-      → (kind : TextKind) × (name : List ℕ) × StopsAt asked before after kind name (Err Failed) × (before.shelf.sure name ≡ false) × Rose before.shelf.faults after.shelf.faults
+      → (kind : TextKind) × (name : List ℕ) × StopsAtFile asked before after kind name (Err Failed) × (before.shelf.sure name ≡ false) × Rose before.shelf.faults after.shelf.faults
 
 -- words that are no command end with status 2 at the refused word; and what the table of commands has as a `run` without `--stats` is one
 pub record RefusedWords : Type 0 where
