@@ -11,7 +11,7 @@ ghost use Rattle.ant_base.specs.System.{IsMadeOf, IsMadeOfOpen, IsReadFrom, Take
 
 use crate::shelf::LONGEST;
 use crate::system_log::SystemLog;
-use crate::{FetchFault, Shelf, Source, System};
+use crate::{FetchFault, Shelf, SureReader, System};
 use std::alloc::Global;
 use std::io::{self, ErrorKind};
 use std::marker::Model;
@@ -100,7 +100,7 @@ fn fetch_named<S: System>(system: &S, alloc: Global, name: &str) -> Result<Vec<u
 }
 
 // The content of a file that was opened, or why it has none.
-fn read_opened<R: Source + Drop>(
+fn read_opened<R: SureReader + Drop>(
     alloc: Global,
     opened: io::Result<R>,
 ) -> Result<Vec<u8>, FetchFault>
@@ -114,7 +114,7 @@ fn read_opened<R: Source + Drop>(
 }
 
 // What a reader has left, which is then closed.
-fn read_to_end<R: Source + Drop>(alloc: Global, mut reader: R) -> Result<Vec<u8>, FetchFault>
+fn read_to_end<R: SureReader + Drop>(alloc: Global, mut reader: R) -> Result<Vec<u8>, FetchFault>
     ensures short { IfOk result (λ content. length content.items ≤ longest) }
     ensures made { IsMadeOf R.sure R.remaining R.closed reader result }
 {
@@ -124,7 +124,7 @@ fn read_to_end<R: Source + Drop>(alloc: Global, mut reader: R) -> Result<Vec<u8>
 }
 
 // What a reader has left, if it isn't too long. One byte more than the longest content is taken from it at most.
-fn read_content<R: Source>(alloc: Global, reader: &mut R) -> Result<Vec<u8>, FetchFault>
+fn read_content<R: SureReader>(alloc: Global, reader: &mut R) -> Result<Vec<u8>, FetchFault>
     ensures short { IfOk result (λ content. length content.items ≤ longest) }
     ensures made { IsReadFrom (R.sure reader.old) (R.remaining reader.old) result }
     ensures taken { TakesAtMost (longest + 1) (R.remaining reader.old) (R.remaining reader.new) }
@@ -145,7 +145,7 @@ fn read_content<R: Source>(alloc: Global, reader: &mut R) -> Result<Vec<u8>, Fet
 }
 
 // Reads once, by way of the chunk to the end of the content, and answers whether the reader has nothing left.
-fn read_more<R: Source>(
+fn read_more<R: SureReader>(
     reader: &mut R,
     content: &mut Vec<u8>,
     chunk: &mut [u8],

@@ -9,7 +9,7 @@ use std::fs::{self, File};
 use std::io::{self, Read, Stdin};
 
 /// A reader that may be sure of its next bytes.
-pub trait Source: Read {
+pub trait SureReader: Read {
     /// For how many bytes from here on no read fails that asks for no more. It is none for each file and stream of the system.
     ghost sure: { Self → ℕ };
 
@@ -32,10 +32,10 @@ pub trait Source: Read {
 /// The answers are known by these calls alone, so a caller that has the answer to a name asked for that very name.
 pub trait System {
     /// A file that was opened.
-    type File: Source + Drop;
+    type File: SureReader + Drop;
 
     /// Standard input.
-    type Input: Source + Drop;
+    type Input: SureReader + Drop;
 
     /// Holds of a system, a name and each answer that an open of this name may have.
     ghost opened: { Self → List ℕ → Result Self.File Error → Type 0 };
@@ -52,7 +52,7 @@ pub trait System {
         ensures { standard self.now result };
 }
 
-impl Source for File {
+impl SureReader for File {
     ghost sure = { λ _. 0 };
 
     ghost closed = { λ _. ⊤ };
@@ -64,7 +64,7 @@ impl Source for File {
     fn close(self) {}
 }
 
-impl Source for Stdin {
+impl SureReader for Stdin {
     ghost sure = { λ _. 0 };
 
     ghost closed = { λ _. ⊤ };

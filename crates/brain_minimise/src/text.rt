@@ -5,7 +5,7 @@ ghost use Rattle.brain_minimise.specs.Text.{became_text, minimised_text, state_l
 
 use crate::merge::Minimised;
 use crate::state_map::StateMap;
-use ant_base::{Each, Failed, Layout, Parts, Sink, layout};
+use ant_base::{Each, Failed, Layout, NumberedTexts, Sink, layout};
 use brain_read::{Brain, write_brain};
 
 /// Pushes how many states there were and how many were kept, in a line of comment, and then the canonical text of the minimised brain. At
@@ -39,7 +39,7 @@ impl Layout for StateMap {
 #[derive(Clone, Copy)]
 struct StateLines<'m>(&'m StateMap);
 
-impl Parts for StateLines<'_> {
+impl NumberedTexts for StateLines<'_> {
     ghost count = { λ lines. length lines.0.now };
 
     ghost part = { λ lines state. state_line lines.0.now state };

@@ -36,4 +36,4 @@ pub use laws::{
 pub use line::read_instruction;
 pub use read::read_brain;
 pub use same::are_same;
-pub use write::{Words, write_brain};
+pub use write::{InstructionWords, write_brain};

@@ -62,16 +62,16 @@ impl Layout for Draft {
 
     #[tactic(auto, using(crate::proofs::CanonicalLemmas::line_of_words))]
     fn push_to<K: Sink>(&self, sink: &mut K) -> Result<(), Failed> {
-        layout!(Words(*self), "\n").push_to(sink)
+        layout!(InstructionWords(*self), "\n").push_to(sink)
     }
 }
 
 /// The words of an instruction with states of any size: its canonical line without the LF at its end, as `Turn Left 5`. So another text can
 /// have them within a line.
 #[derive(Clone, Copy, Debug, PartialEq, Eq)]
-pub struct Words(pub Draft);
+pub struct InstructionWords(pub Draft);
 
-impl Layout for Words {
+impl Layout for InstructionWords {
     ghost text = { λ words. instruction_words (drafted words.0) };
 
     #[tactic(auto, unfolding(crate::specs::Canonical::instruction_words))]

@@ -6,8 +6,8 @@ ghost use Rattle.brain_same.specs.Inner.Blank.{blank};
 ghost use Rattle.brain_same.specs.Text.{answer_text, found_words, step_text, way_text};
 
 use crate::comparison::{Comparison, Found};
-use ant_base::{Each, Failed, Layout, Parts, Sink, layout};
-use brain_read::{Draft, Words};
+use ant_base::{Each, Failed, Layout, NumberedTexts, Sink, layout};
+use brain_read::{Draft, InstructionWords};
 
 /// An answer on the way to a difference, which both brains have, and the states before it (the task's neurology).
 #[derive(Clone, Copy)]
@@ -76,7 +76,7 @@ fn push_difference<K: Sink>(
 #[derive(Clone, Copy)]
 struct StepLines<'s>(&'s [Step]);
 
-impl Parts for StepLines<'_> {
+impl NumberedTexts for StepLines<'_> {
     ghost count = { λ lines. length lines.0.now };
 
     ghost part = { λ lines at. step_text (slice_index_or lines.0.now at blank) };
@@ -112,7 +112,7 @@ impl Layout for FoundWords {
 
     #[tactic(auto, unfolding(crate::specs::Text::found_words))]
     fn push_to<K: Sink>(&self, sink: &mut K) -> Result<(), Failed> {
-        let words = Words(Draft::of(self.0.instruction));
+        let words = InstructionWords(Draft::of(self.0.instruction));
         layout!(self.0.state, ": ", words).push_to(sink)
     }
 }

@@ -9,7 +9,7 @@ ghost use Rattle.command_words.specs.declared.table.Choice.TheVariants.{Seed};
 
 use crate::table::{MOST_NAMES, kinds, options};
 use crate::{Choice, CommandKind, NumberKind, Place, Slot};
-use ant_base::{Each, Failed, Layout, Parts, Sink, layout};
+use ant_base::{Each, Failed, Layout, NumberedTexts, Sink, layout};
 
 /// What the page of `--help` says of the table: of each command how it is called, a sentence, the limits of its numbers and lists, and its
 /// options; and of each option what it is for, its limits, and what holds without it.
@@ -29,7 +29,7 @@ impl Layout for HelpPage {
 #[derive(Clone, Copy)]
 struct Commands;
 
-impl Parts for Commands {
+impl NumberedTexts for Commands {
     ghost count = { λ _. length kinds };
 
     ghost part = { λ _ at. command_text (slice_index_or kinds at Run) };
@@ -123,7 +123,7 @@ impl Layout for NeededOptions {
     }
 }
 
-impl Parts for NeededOptions {
+impl NumberedTexts for NeededOptions {
     ghost count = { λ options. length options.0.now };
 
     ghost part = { λ options at. needed_text (slice_index_or options.0.now at Seed) };
@@ -156,7 +156,7 @@ impl Layout for FreeOptions {
     }
 }
 
-impl Parts for FreeOptions {
+impl NumberedTexts for FreeOptions {
     ghost count = { λ options. length options.0.now };
 
     ghost part = { λ options at. free_text (slice_index_or options.0.now at Seed) };
@@ -201,7 +201,7 @@ impl Layout for PlaceLines {
     }
 }
 
-impl Parts for PlaceLines {
+impl NumberedTexts for PlaceLines {
     ghost count = { λ places. length places.0.now };
 
     ghost part = { λ places at. place_line (slice_index_or places.0.now at (Word FileName)) };
@@ -237,7 +237,7 @@ impl Parts for PlaceLines {
 #[derive(Clone, Copy)]
 struct Options;
 
-impl Parts for Options {
+impl NumberedTexts for Options {
     ghost count = { λ _. length options };
 
     ghost part = { λ _ at. option_line (slice_index_or options at Seed) };
@@ -311,7 +311,7 @@ impl Layout for Default {
 #[derive(Clone, Copy)]
 struct Spaces(usize);
 
-impl Parts for Spaces {
+impl NumberedTexts for Spaces {
     ghost count = { λ spaces. spaces.0 };
 
     ghost part = { λ _ _. codes " " };

@@ -4,7 +4,7 @@ ghost use Rattle.cell_world.specs.Marks.{has_mark};
 ghost use Rattle.dump_print.specs.Content.{food_text, hill_text, marks_text, content_text, colour_text, standing_ant_text};
 ghost use Rattle.hex_geometry.specs.Direction.{number_of};
 
-use ant_base::{Each, Failed, Layout, Parts, Sink, layout};
+use ant_base::{Each, Failed, Layout, NumberedTexts, Sink, layout};
 use cell_world::{Ant, Cell, Colour, Marks};
 use hex_geometry::Dir;
 
@@ -59,7 +59,7 @@ impl Layout for Hill {
 #[derive(Clone, Copy)]
 pub struct Digits(pub Marks);
 
-impl Parts for Digits {
+impl NumberedTexts for Digits {
     ghost count = { λ _. 6 };
 
     ghost part = { λ digits i. if has_mark digits.0 i then decimal i else [] };

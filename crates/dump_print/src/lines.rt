@@ -7,7 +7,7 @@ ghost use Rattle.dump_print.specs.Content.{content_text};
 ghost use Rattle.dump_print.specs.Texts.{cell_words, cells_text};
 
 use crate::content::Content;
-use ant_base::{Each, Failed, Layout, Parts, Sink, layout};
+use ant_base::{Each, Failed, Layout, NumberedTexts, Sink, layout};
 use arrayvec::ArrayString;
 use cell_world::{Cell, World};
 use hex_geometry::Pos;
@@ -84,7 +84,7 @@ pub struct Row<'w> {
     ghost told: { tail.now ≡ row_tail y },
 }
 
-impl Parts for Row<'_> {
+impl NumberedTexts for Row<'_> {
     ghost count = { λ row. row.world.now.width };
 
     ghost part = { λ row x. broken_line (world_of row.world.now) row.y x };
@@ -110,7 +110,7 @@ impl Parts for Row<'_> {
 #[derive(Clone, Copy)]
 pub struct Rows<'w>(pub &'w World);
 
-impl Parts for Rows<'_> {
+impl NumberedTexts for Rows<'_> {
     ghost count = { λ rows. rows.0.now.height };
 
     ghost part = { λ rows y. broken_row (world_of rows.0.now) y };

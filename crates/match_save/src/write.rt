@@ -12,7 +12,7 @@ ghost use Rattle.match_save.specs.Inner.Written.{ant_text_at, black_byte, cell_f
 
 use crate::head::Head;
 use crate::saved::Saved;
-use ant_base::{Each, Failed, Layout, Parts, Sink, layout};
+use ant_base::{Each, Failed, Layout, NumberedTexts, Sink, layout};
 use brain_read::{Brain, write_brain};
 use cell_world::{Ant, Cell, Colour, Marks, PlacedAnt, World};
 use dump_print::ColourWord;
@@ -224,7 +224,7 @@ struct Row<'w, B: CellByte> {
     ghost inside: { y < world.now.height },
 }
 
-impl<B: CellByte> Parts for Row<'_, B> {
+impl<B: CellByte> NumberedTexts for Row<'_, B> {
     ghost count = { λ row. row.world.now.width };
 
     ghost part = { λ row x. B.byte (cell_in row.world.now (record { x = x; y = row.y })) ∷ [] };
@@ -250,7 +250,7 @@ struct Rows<'w, B: CellByte> {
     byte: B,
 }
 
-impl<B: CellByte> Parts for Rows<'_, B> {
+impl<B: CellByte> NumberedTexts for Rows<'_, B> {
     ghost count = { λ rows. rows.world.now.height };
 
     ghost part = { λ rows y. row_text B.byte rows.world.now y };
@@ -273,7 +273,7 @@ impl<B: CellByte> Parts for Rows<'_, B> {
 #[derive(Clone, Copy)]
 struct FoodLines<'w>(&'w World);
 
-impl Parts for FoodLines<'_> {
+impl NumberedTexts for FoodLines<'_> {
     ghost count = { λ lines. lines.0.now.width * lines.0.now.height };
 
     ghost part = { λ lines i. food_text_at lines.0.now i };
@@ -353,7 +353,7 @@ impl Layout for AntLine {
 #[derive(Clone, Copy)]
 struct AntLines<'w>(&'w World);
 
-impl Parts for AntLines<'_> {
+impl NumberedTexts for AntLines<'_> {
     ghost count = { λ lines. lines.0.now.ids };
 
     ghost part = { λ lines i. ant_text_at lines.0.now i };

@@ -6,7 +6,7 @@ ghost use Rattle.tournament.specs.Text.{table_line_text, standing_text};
 
 use crate::names::Names;
 use crate::standing::{Line, Standing};
-use ant_base::{Each, Failed, Layout, Parts, Sink, layout};
+use ant_base::{Each, Failed, Layout, NumberedTexts, Sink, layout};
 
 // The lines of a standing, whose players all have names.
 #[derive(Clone, Copy)]
@@ -16,7 +16,7 @@ struct TableLines<'s> {
     ghost named: { All (λ line. line.player < length names.now) standing.now },
 }
 
-impl Parts for TableLines<'_> {
+impl NumberedTexts for TableLines<'_> {
     ghost count = { λ lines. length lines.standing.now };
 
     ghost part = { λ lines at. table_line_text lines.names.now (slice_index_or lines.standing.now at blank) };

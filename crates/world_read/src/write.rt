@@ -8,7 +8,7 @@ ghost use Rattle.world_read.specs.Bytes.{byte_of};
 ghost use Rattle.world_read.specs.Canonical.{canonical_text, cell_text, line_of_row, space_if};
 ghost use Rattle.world_read.specs.Opened.{IsOpeningWorld, kind_of_cell, kind_of_clear, kinds_of};
 
-use ant_base::{Each, Failed, Layout, Parts, Sink, layout};
+use ant_base::{Each, Failed, Layout, NumberedTexts, Sink, layout};
 use cell_world::{Cell, Colour, World};
 use hex_geometry::Pos;
 
@@ -37,7 +37,7 @@ struct GridRows<'w> {
     ghost light: { (p : Pos) → ((world_of world.now).cells p).food ≤ 9 },
 }
 
-impl Parts for GridRows<'_> {
+impl NumberedTexts for GridRows<'_> {
     ghost count = { λ rows. rows.world.now.height };
 
     ghost part = { λ rows y. line_of_row rows.world.now.width (kinds_of rows.world.now) y };
@@ -65,7 +65,7 @@ struct GridRow<'w> {
     ghost light: { (p : Pos) → ((world_of world.now).cells p).food ≤ 9 },
 }
 
-impl Parts for GridRow<'_> {
+impl NumberedTexts for GridRow<'_> {
     ghost count = { λ row. row.world.now.width };
 
     ghost part = { λ row x. cell_text x (byte_of (slice_index_or (kinds_of row.world.now) (row.y * row.world.now.width + x) Rock)) };

@@ -1,7 +1,7 @@
 // What no clause says: that calls succeed, exact bytes, and real files.
 use ant_base::{
     Calls, Each, Failed, FetchFault, FileShelf, Files, Gate, Layout, MemShelf, MemSink, NoGate,
-    OutOfMemory, Parts, Shelf, Sink, StreamSink, layout,
+    NumberedTexts, OutOfMemory, Shelf, Sink, StreamSink, layout,
 };
 use std::alloc::{AllocError, Global};
 use std::fs;
@@ -41,7 +41,7 @@ fn a_push_fails_by_its_number_or_for_want_of_room(rt: HostRuntime) {
 #[derive(Clone, Copy)]
 struct Squares;
 
-impl Parts for Squares {
+impl NumberedTexts for Squares {
     ghost use Rattle.std.specs.Prelude.{◌*◌, ◌++◌, codes, decimal};
 
     ghost count = { λ _. 3 };

@@ -7,7 +7,7 @@ use Rattle.ant_base.proofs.file_shelf.read_content.Goals as goal
 
 pub loop-turn-init : goal.loop-turn-init
 loop-turn-init g c =
-    let first = read_first 4194305 (g.R.Source.sure c.args.reader.now) (vec_len c.new-content.result) c.new-content.ensures.len in
+    let first = read_first 4194305 (g.R.SureReader.sure c.args.reader.now) (vec_len c.new-content.result) c.new-content.ensures.len in
     (read_none _ _ c.new-content.ensures.items, first.0, first.1)
 
 pub returns-then-len-gt-LONGEST-clause-made : goal.returns-then-len-gt-LONGEST-clause-made
@@ -22,7 +22,7 @@ pub returns-in_err-read_more-clause-made : goal.returns-in_err-read_more-clause-
 returns-in_err-read_more-clause-made g c =
     let p = err_from_is_err_and c.from_residual.result c.from_residual.ensures.1 in
     rw (p.1, p.2)
-    (read_failed (g.R.Source.sure c.args.reader.now) (g.R.Source.sure c.loop-turn.reader) (g.R.Source.sure c.read_more.new.reader) (vec_len c.loop-turn.content) (vec_len c.read_more.new.content) (g.R.Read.remaining c.args.reader.now) c.in_err-read_more.field-0.0
+    (read_failed (g.R.SureReader.sure c.args.reader.now) (g.R.SureReader.sure c.loop-turn.reader) (g.R.SureReader.sure c.read_more.new.reader) (vec_len c.loop-turn.content) (vec_len c.read_more.new.content) (g.R.Read.remaining c.args.reader.now) c.in_err-read_more.field-0.0
     c.in_err-read_more.ensures.no_length
     (λ sure. c.in_err-read_more.ensures.sure (read_asks 4194305 _ (vec_len c.loop-turn.content) 8192 c.min-most.result c.len-in-loop-turn.result c.loop-turn.chunk c.min-most.ensures c.len-in-loop-turn.ensures (c.loop-turn.invariant.2 sure).0)))
 
@@ -40,7 +40,7 @@ loop-turn-preserved g c =
       more.few,
       λ sure.
           let on = more.sure (read_asks 4194305 _ (vec_len c.loop-turn.content) 8192 c.min-most.result c.len-in-loop-turn.result c.loop-turn.chunk c.min-most.ensures c.len-in-loop-turn.ensures (old.2 sure).0) in
-          read_next 4194305 _ _ _ _ _ (old.2 sure) (subst (λ (end : Bool). ReadsOn (g.R.Source.sure c.loop-turn.reader) (g.R.Source.sure c.read_more.new.reader) (vec_len c.loop-turn.content) (vec_len c.read_more.new.content) (Ok end)) c.if-branch.false on),
+          read_next 4194305 _ _ _ _ _ (old.2 sure) (subst (λ (end : Bool). ReadsOn (g.R.SureReader.sure c.loop-turn.reader) (g.R.SureReader.sure c.read_more.new.reader) (vec_len c.loop-turn.content) (vec_len c.read_more.new.content) (Ok end)) c.if-branch.false on),
     )
 
 pub returns-clause-made : goal.returns-clause-made

@@ -7,4 +7,4 @@ use Rattle.ant_base.proofs.file_shelf.read_content.Given as goal
 
 abbrev pub invariant-loop-turn : goal.invariant-loop-turn
 invariant-loop-turn g l = Consumes (g.R.Read.remaining l.initial.reader) (g.R.Read.remaining l.reader) l.content.items × (vec_len l.content ≤ longest + 1)
-    × (longest + 1 ≤ g.R.Source.sure l.initial.reader → (longest + 1 ≤ g.R.Source.sure l.reader + vec_len l.content) × (l._turn ≤ vec_len l.content))
+    × (longest + 1 ≤ g.R.SureReader.sure l.initial.reader → (longest + 1 ≤ g.R.SureReader.sure l.reader + vec_len l.content) × (l._turn ≤ vec_len l.content))

@@ -6,7 +6,7 @@ ghost use Rattle.ant_base.specs.Layout.{numbered};
 use crate::{Failed, Layout, Sink};
 
 /// Texts that are numbered from 0.
-pub trait Parts {
+pub trait NumberedTexts {
     /// How many there are.
     ghost count: { Self → ℕ };
 
@@ -27,7 +27,7 @@ pub trait Parts {
 #[derive(Clone, Copy)]
 pub struct Each<P>(pub P);
 
-impl<P: Parts> Layout for Each<P> {
+impl<P: NumberedTexts> Layout for Each<P> {
     ghost text = { λ each. numbered (P.part each.0) (P.count each.0) };
 
     fn push_to<K: Sink>(&self, sink: &mut K) -> Result<(), Failed> {

@@ -4,7 +4,7 @@ use Rattle.world_read.specs.Bytes.{byte_of}
 use Rattle.world_read.specs.Canonical.{cell_text}
 use Rattle.world_read.specs.Opened.{kind_of_cell}
 use Rattle.world_read.proofs.OpenedLemmas.{kinds_of-at}
-use Rattle.world_read.proofs.write.GridRowParts.push_part.Goals as goal
+use Rattle.world_read.proofs.write.GridRowNumberedTexts.push_part.Goals as goal
 
 pub returns : goal.returns
 returns g c =
