@@ -6,7 +6,7 @@ use Rattle.command_words.specs.Command.{IsCommand, PlainAsked}
 use Rattle.command_words.specs.declared.table.CommandKind.TheVariants.{Run}
 use Rattle.match_run.specs.Counts.{counts_text, totals_of}
 use Rattle.tournament.specs.Games.{all_played}
-use Rattle.tournament.specs.Told.{games_text}
+use Rattle.tournament.specs.Printed.{games_text}
 use Rattle.ant_commands.specs.Files.{File, FileContent}
 use Rattle.ant_commands.specs.Headline.{KeepsPromise, PrintsTheGame}
 use Rattle.ant_commands.specs.Job.{WritesInPlay, plain_job}

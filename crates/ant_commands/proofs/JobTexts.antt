@@ -26,7 +26,7 @@ use Rattle.match_run.specs.Counts.{whole_text}
 use Rattle.tournament.proofs.LawsLemmas.{standing_law}
 use Rattle.tournament.proofs.SortedLines.{has_standing}
 use Rattle.tournament.specs.Text.{standing_text}
-use Rattle.tournament.specs.Told.{cup_played, games_text}
+use Rattle.tournament.specs.Printed.{cup_played, games_text}
 use Rattle.tournament.specs.declared.standing.Line.{Line}
 use Rattle.world_gen.proofs.HasWorlds.{has_outcome}
 use Rattle.world_gen.proofs.Unique.{one_outcome}
@@ -48,7 +48,7 @@ use Rattle.ant_commands.proofs.SetupLemmas.{cup-within, shape-within}
 use Rattle.ant_commands.specs.Laws.{HasOutput, OneText, TellsNoLabel, TextsEndInLf, WindowsChangeCountsAlone}
 use Rattle.ant_commands.proofs.Cups.{players_counted}
 use Rattle.ant_commands.proofs.ReadContents.{IsReading, has_text_of, has_told, one_text_of, one_told, read_brain, read_cup, read_game, read_none, read_pair, read_program, read_save, read_source, read_view, read_world}
-use Rattle.ant_commands.proofs.TextEnds.{EndsInLf, lf_advance, lf_brain, lf_canonical, lf_comparison, lf_difference, lf_events, lf_last, lf_help, lf_match, lf_minimised, lf_profile, lf_rest, lf_save, lf_show, lf_standing, lf_state_lines, lf_states, lf_told, lf_trace, lf_version, lf_view, lf_workload, lines_labels}
+use Rattle.ant_commands.proofs.TextEnds.{EndsInLf, lf_advance, lf_brain, lf_canonical, lf_comparison, lf_difference, lf_events, lf_last, lf_help, lf_match, lf_minimised, lf_profile, lf_rest, lf_save, lf_show, lf_standing, lf_state_lines, lf_states, lf_printed, lf_trace, lf_version, lf_view, lf_workload, lines_labels}
 use Rattle.ant_commands.proofs.Viewed.{view_of-view}
 
 -- what is told ends in LF
@@ -74,7 +74,7 @@ cup-ends false worlds brains seed rounds workers fetches cup text within are tol
 cup-ends true worlds brains seed rounds workers fetches cup text within are told =
     let enough : 2 ≤ length brains = within.brain_names.enough in
     let some : 1 ≤ length brains = omega (arith, enough) in
-    (lf_told worlds brains (score_between cup.worlds cup.players seed rounds) text some told).is
+    (lf_printed worlds brains (score_between cup.worlds cup.players seed rounds) text some told).is
 
 minimise-ends : (states : Bool) (name : List ℕ) (fetches : List Fetched) (old : List Instr) (text : List ℕ) → AreAccepted (brain_file name ∷ []) fetches (brain_contents old)
     → TellsMinimised states old text → ends_in_lf text ≡ true

@@ -10,7 +10,7 @@ pub mod JobTexts
 pub mod WorkerLaws
 -- What is fetched and judged, file by file.
 pub mod Readings
-pub mod ToldCups
+pub mod PrintedCups
 pub mod Verdicts
 pub mod Judgements
 pub mod Accepted
@@ -28,8 +28,9 @@ pub mod Headlines
 pub mod RunWords
 pub mod RunPromises
 mod FirstWorlds
--- Worked values.
+-- Worked values, and the laws used on them.
 pub mod HelpWorked
 pub mod WorkedStops
 pub mod WorkedJobs
 pub mod RunWorked
+pub mod LawsUsed

@@ -86,7 +86,7 @@ differ : (name other : List ℕ) → bytes_eq other name ≡ false → other ≢
 differ name other apart same = false≢true (sym apart ∙ ap (λ (n : List ℕ). bytes_eq other n) (sym same) ∙ bytes_eq-same other)
 
 -- the rounds 0 and 10
-abbrev two_rounds : ℕ → Bool
+abbrev pub two_rounds : ℕ → Bool
 two_rounds round = list_any (λ number. nat_eq number round) (0 ∷ 10 ∷ [])
 
 -- a command line whose options stand in another order

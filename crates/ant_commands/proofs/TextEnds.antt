@@ -58,7 +58,7 @@ use Rattle.tournament.specs.Games.{all_played, below}
 use Rattle.tournament.specs.Names.{name_of}
 use Rattle.tournament.specs.Standing.{Ranks, line_of}
 use Rattle.tournament.specs.Text.{standing_text, table_line_text}
-use Rattle.tournament.specs.Told.{IsToldCupText, cup_played, games_text}
+use Rattle.tournament.specs.Printed.{IsPrintedCupText, cup_played, games_text}
 use Rattle.tournament.specs.declared.standing.Line.{Line}
 use Rattle.world_read.specs.Bytes.{byte_of}
 use Rattle.world_read.specs.Canonical.{canonical_text, cell_text, line_of_row, space_if}
@@ -341,8 +341,8 @@ lf_standing names players worlds score lines some at =
     lf_flat_map (table_line_text names) lines (omega (arith, counted, each, all, some)) (lf_table_line names)
 
 -- the lines of games stand before it
-pub lf_told : (worlds names : List (List ℕ)) (score : ℕ → ℕ → ℕ → Score) (text : List ℕ) → 1 ≤ length names → IsToldCupText worlds names score text → EndsInLf text
-lf_told worlds names score text some told =
+pub lf_printed : (worlds names : List (List ℕ)) (score : ℕ → ℕ → ℕ → Score) (text : List ℕ) → 1 ≤ length names → IsPrintedCupText worlds names score text → EndsInLf text
+lf_printed worlds names score text some told =
     subst EndsInLf (sym told.is)
     (lf_last (games_text worlds names (cup_played worlds names score) 1) (standing_text names told.lines) (lf_standing names (length names) (length worlds) score told.lines some told.standing))
 

@@ -1,5 +1,5 @@
 -- What a command line of each command asks for, as its job: which word is which file, and which option which number.
-use Rattle.std.proofs.Common.{◌≡◌, ◌∷◌, [], Some, ap, codes, false, true, refl, ◌∙◌}
+use Rattle.std.proofs.Common.{◌≡◌, ℕ, List, ◌∷◌, [], Some, ap, codes, false, true, refl, ◌∙◌}
 use Rattle.std.specs.Fmt.{digits}
 use Rattle.ant_asm.specs.Source.{ReadSource}
 use Rattle.ant_base.specs.Layout.{◌+++◌}
@@ -118,17 +118,18 @@ later = record saved {
   world = record { width = 3; height = 3; ids = 1; cells = rock ∷ rock ∷ rock ∷ rock ∷ record hill { ant = Some (record { id = 0; colour = Red; state = 0; resting = 0; facing = West; laden = false }) } ∷ rock ∷ rock ∷ rock ∷ rock ∷ [] };
 }
 
-later_text : save_text later ≡
+-- its text
+abbrev pub later_save : List ℕ
+later_save =
     codes "ants save 1\nseed 12345\nsheet 5 3 14\nwindow 16384\nround 3\nplace 0\ntaken 3 redone 0\nsize 3 3\n"
     +++ codes "red 1\nTurn Left 0\nblack 1\nTurn Left 0\n###\n#+#\n###\n000\n000\n000\n000\n000\n000\n000\n000\n000\n"
     +++ codes "ant 0 red 1 1 3 0 0 0\nend\n"
+
+later_text : save_text later ≡ later_save
 unfolding save_text draft_text draft_lines draft_of instruction_line digits rock floor place_in cell_in
 later_text = refl
 
-pub advance_told : advance_output 3 saved ≡
-    codes "ants save 1\nseed 12345\nsheet 5 3 14\nwindow 16384\nround 3\nplace 0\ntaken 3 redone 0\nsize 3 3\n"
-    +++ codes "red 1\nTurn Left 0\nblack 1\nTurn Left 0\n###\n#+#\n###\n000\n000\n000\n000\n000\n000\n000\n000\n000\n"
-    +++ codes "ant 0 red 1 1 3 0 0 0\nend\n"
+pub advance_told : advance_output 3 saved ≡ later_save
 unfolding advance_output
 advance_told = ap save_text row_advanced ∙ later_text
 

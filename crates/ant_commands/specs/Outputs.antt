@@ -43,7 +43,7 @@ use Rattle.dump_print.specs.Texts.{seed_text, dump_text, score_text, stats_text}
 use Rattle.ant_commands.specs.Setups.{ResumeSetup, RunSetup, ToldSetup, TraceSetup}
 use Rattle.tournament.specs.Games.{all_played}
 use Rattle.tournament.specs.Text.{IsCupText}
-use Rattle.tournament.specs.Told.{IsToldCupText, games_text}
+use Rattle.tournament.specs.Printed.{IsPrintedCupText, games_text}
 use Rattle.world_gen.specs.declared.shape.Shape.{Shape}
 use Rattle.world_gen.specs.Food.{food_on}
 use Rattle.world_gen.specs.Generated.{IsGenerated}
@@ -257,7 +257,7 @@ score_between worlds players seed rounds world red black =
 -- the output of `cup`: the standing of all games between the players on all worlds; with `--games` the line of each game before it
 abbrev pub IsCupOutput : Bool → List (List ℕ) → List (List ℕ) → ℕ → ℕ → ReadCup → List ℕ → Type 0
 IsCupOutput false worlds names seed rounds cup text = IsCupText names (length cup.players) (length cup.worlds) (score_between cup.worlds cup.players seed rounds) text
-IsCupOutput true worlds names seed rounds cup text = IsToldCupText worlds names (score_between cup.worlds cup.players seed rounds) text
+IsCupOutput true worlds names seed rounds cup text = IsPrintedCupText worlds names (score_between cup.worlds cup.players seed rounds) text
 
 -- the lines of all games on the first worlds of such a cup, on none or on all
 pub record TellsFirstWorlds (worlds names : List (List ℕ)) (seed rounds : ℕ) (cup : ReadCup) (text : List ℕ) : Type 0 where

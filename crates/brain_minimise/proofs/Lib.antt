@@ -12,7 +12,8 @@ pub mod Ranks
 pub mod Uniqueness
 pub mod MinimisedGames
 pub mod HasMinimised
--- Texts and worked values.
+-- Texts, worked values, and the laws used on them.
 pub mod Texts
 pub mod Worked
 pub mod WorkedTen
+pub mod LawsUsed

@@ -23,14 +23,14 @@ use Rattle.brain_minimise.proofs.Equivalences.{class-equivalent}
 use Rattle.brain_minimise.proofs.Numbers.{number-inside}
 
 -- the brain: states 3 and 7 are equivalent, and nothing leads to state 9
-abbrev ten : List Instr
+abbrev pub ten : List Instr
 ten = Sense Ahead 1 5 Food ∷ PickUp 3 7 ∷ Move 0 4 ∷ Turn Left 2 ∷ Flip 2 6 8 ∷ Mark 0 2 ∷ Turn Right 2 ∷ Turn Left 2 ∷ Drop 0 ∷ Move 0 0 ∷ []
 
 -- what is left of it, and what became of each state
-abbrev eight : List Instr
+abbrev pub eight : List Instr
 eight = Sense Ahead 1 5 Food ∷ PickUp 3 3 ∷ Move 0 4 ∷ Turn Left 2 ∷ Flip 2 6 7 ∷ Mark 0 2 ∷ Turn Right 2 ∷ Drop 0 ∷ []
 
-abbrev numbers : List (Option ℕ)
+abbrev pub numbers : List (Option ℕ)
 numbers = Some 0 ∷ Some 1 ∷ Some 2 ∷ Some 3 ∷ Some 4 ∷ Some 5 ∷ Some 6 ∷ Some 3 ∷ Some 7 ∷ None ∷ []
 
 -- what holds of all numbers below n, one by one

@@ -12,6 +12,7 @@ pub mod SameGames
 -- The way to a difference.
 pub mod WayLemmas
 pub mod ReachedLemmas
--- Worked values.
+-- Worked values, and the laws used on them.
 pub mod Worked
 pub mod WorkedWays
+pub mod LawsUsed

@@ -107,13 +107,13 @@ unreached = record {
   onward (suc a) b holds = let it = zeros (suc a) b holds in absurd (omega (arith, it.0))
 
 -- a ring of two Drops and one of three are the same
-abbrev two_ring : List Instr
+abbrev pub two_ring : List Instr
 two_ring = Drop 1 ∷ Drop 0 ∷ []
 
-abbrev three_ring : List Instr
+abbrev pub three_ring : List Instr
 three_ring = Drop 1 ∷ Drop 2 ∷ Drop 0 ∷ []
 
-rings : AreSame two_ring three_ring
+pub rings : AreSame two_ring three_ring
 rings = record {
   related = λ a b. nat_lt a 2 && nat_lt b 3;
   bisimulation = record {

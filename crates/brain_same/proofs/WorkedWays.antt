@@ -20,7 +20,7 @@ use Rattle.brain_same.proofs.SameLaws.{no_later-both, same_is_not_apart}
 use Rattle.brain_same.proofs.Worked.{crossed, met_apart, none_before_met, straight}
 
 -- a step, written out
-abbrev step : ℕ → Instr → ℕ → Instr → Bool → Step
+abbrev pub step : ℕ → Instr → ℕ → Instr → Bool → Step
 step a one b other met = record { first = record { state = a; instruction = one }; second = record { state = b; instruction = other }; met = met }
 
 -- where both answers lead to a difference the way goes by the met one, from the states 0
@@ -45,10 +45,10 @@ none_goes comparison steps (ByWay many a b difference) = go difference.answers (
 
 -- two brains that first differ after five answers: unmet by the Moves, met by a Flip of bound 1 whose branches are equal, unmet by the PickUps,
 -- met by the Drops, which have no other answer, and met by a Sense whose branches are equal
-abbrev far_left : List Instr
+abbrev pub far_left : List Instr
 far_left = Move 1 2 ∷ Mark 0 0 ∷ Flip 1 3 3 ∷ PickUp 0 4 ∷ Drop 5 ∷ Sense Here 6 6 Home ∷ Turn Left 0 ∷ []
 
-abbrev far_right : List Instr
+abbrev pub far_right : List Instr
 far_right = Move 6 1 ∷ Flip 1 2 2 ∷ PickUp 0 3 ∷ Drop 4 ∷ Sense Here 5 5 Home ∷ Turn Right 0 ∷ Mark 0 0 ∷ []
 
 abbrev five_steps : List Step

@@ -17,8 +17,9 @@ pub mod ReadLemmas
 pub mod FarWords
 pub mod WordLaws
 pub mod SaidLemmas
--- Worked lines.
+-- Worked lines, and the laws used on them.
 pub mod WorkedLines
 pub mod WorkedFronts
 pub mod WorkedOptions
 pub mod WorkedHelp
+pub mod LawsUsed

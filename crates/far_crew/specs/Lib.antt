@@ -1,7 +1,7 @@
 pub mod Agreement
+pub mod Crews
 pub mod Inner
 pub mod Jobs
-pub mod Unstarted
 pub use Rattle.ant_turn.specs.Minds
 pub use Rattle.ant_turn.specs.Sheet
 pub use Rattle.ant_turn.specs.Turn

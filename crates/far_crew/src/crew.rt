@@ -1,9 +1,9 @@
 // The crew of workers that stand by.
-ghost use Rattle.std.specs.Prelude.{◌≡◌, ◌≤◌, IfOk, OnOk, OnErr};
+ghost use Rattle.std.specs.Prelude.{◌≡◌, ◌+◌, ◌-◌, ◌≤◌, ◌^◌, min, IfOk, OnOk, OnErr};
 ghost use Rattle.round_book.specs.Book.{CanBegin, IsPlayed, window_of};
 ghost use Rattle.round_book.specs.Counts.{counts_of};
+ghost use Rattle.far_crew.specs.Crews.{IsUnstarted, turns_of};
 ghost use Rattle.far_crew.specs.Inner.Turns.{AreTurnsOf, window_on};
-ghost use Rattle.far_crew.specs.Unstarted.{IsUnstarted};
 
 use crate::caller::Caller;
 use crate::deal::prepare_all;
@@ -33,10 +33,11 @@ pub struct FarCrew<'c, R: Wait, G: Gate> {
     minds: Option<Arc<OwnBrains>>,
     picks: Vec<Option<Pick>>,
     own: Vec<Look>,
+    turns: u64,
 }
 
 impl<'c, R: Wait, G: Gate> FarCrew<'c, R, G> {
-    // A crew of the workers of these lines, of so many that were asked for.
+    // A crew of the workers of these lines, of so many that were asked for, which has played no turn yet.
     pub(crate) fn of(
         rt: &'c R,
         alloc: Global,
@@ -46,6 +47,7 @@ impl<'c, R: Wait, G: Gate> FarCrew<'c, R, G> {
     ) -> FarCrew<'c, R, G>
         ensures lines { result.lines ≡ lines }
         ensures caller { result.caller.worker ≡ workers }
+        ensures turns { turns_of result ≡ 0 }
     {
         FarCrew {
             rt,
@@ -58,11 +60,12 @@ impl<'c, R: Wait, G: Gate> FarCrew<'c, R, G> {
             minds: None,
             picks: Vec::new(alloc),
             own: Vec::new(alloc),
+            turns: 0,
         }
     }
 
     /// A crew of so many workers, 1 to 16, none of which was started, as where the system refuses each start: no worker is asked, and the
-    /// caller's thread looks at each turn.
+    /// caller's thread looks at each turn. It has played no turn yet.
     pub fn unstarted(rt: &'c R, alloc: Global, gate: &'c G, workers: u32) -> FarCrew<'c, R, G>
         requires workers { (1 ≤ workers) × (workers ≤ 16) }
         ensures { IsUnstarted workers result }
@@ -70,10 +73,19 @@ impl<'c, R: Wait, G: Gate> FarCrew<'c, R, G> {
         FarCrew::of(rt, alloc, gate, workers, Vec::new(alloc))
     }
 
+    /// How many turns the crew has played, from 0; at the last value, 2^64 - 1, it stays.
+    #[inline]
+    pub fn turns(&self) -> u64
+        ensures { result ≡ turns_of self.now }
+    {
+        self.turns
+    }
+
     /// Plays the turns of the ids from `from` up to, and not including, `to`. The field is whole, `from` is at most `to`, `to` at most the
     /// number of ids, and the place with the number of turns is below 2^63. The field is whole afterwards, its world and place are those to
     /// which the turns lead in order, and the answer counts the looks that were taken and the turns that were executed anew. It is refused
-    /// only when out of memory; the field is as before then. All memory but that of the book is taken before the first job is sent.
+    /// only when out of memory; the field and the count of turns are as before then. All memory but that of the book is taken before the
+    /// first job is sent.
     ///
     /// Each worker that has started and whose channels are open gets a job, and one answer is awaited of it; so the call may wait. A turn of
     /// which no look agrees with the field is looked at by the caller's thread, which calls the gate with the number of workers as its own.
@@ -87,7 +99,9 @@ impl<'c, R: Wait, G: Gate> FarCrew<'c, R, G> {
         requires window { CanBegin field.old from to }
         ensures played { OnOk result (IsPlayed field.old from to field.new) }
         ensures counts { IfOk result (λ counts. counts ≡ counts_of (window_of field.old from to)) }
+        ensures turns { OnOk result (turns_of self.new ≡ min (turns_of self.old + (to - from)) (2 ^ 64 - 1)) }
         ensures unchanged { OnErr result (field.new ≡ field.old) }
+        ensures as_before { OnErr result (turns_of self.new ≡ turns_of self.old) }
     {
         let guesses = guesses_in(alloc, field, from, to)?;
         let turns = GuessedTurns {
@@ -95,10 +109,12 @@ impl<'c, R: Wait, G: Gate> FarCrew<'c, R, G> {
             to,
             guesses: &guesses,
         };
-        self.play(alloc, field, &turns)
+        let counts = self.play(alloc, field, &turns)?;
+        self.turns = self.turns.saturating_add(u64::from(to - from));
+        Ok(counts)
     }
 
-    // Plays the turns of a window.
+    // Plays the turns of a window. It doesn't count them.
     fn play(
         &mut self,
         alloc: Global,
@@ -109,6 +125,7 @@ impl<'c, R: Wait, G: Gate> FarCrew<'c, R, G> {
         ensures played { OnOk result (IsPlayed field.old turns.now.from turns.now.to field.new) }
         ensures counts { IfOk result (λ counts. counts ≡ counts_of (window_on field.old turns.now)) }
         ensures unchanged { OnErr result (field.new ≡ field.old) }
+        ensures turns { turns_of self.new ≡ turns_of self.old }
     {
         self.prepare(alloc, field, turns)?;
         take_room(
@@ -139,6 +156,7 @@ impl<'c, R: Wait, G: Gate> FarCrew<'c, R, G> {
         turns: &GuessedTurns<'_>,
     ) -> Result<(), OutOfMemory>
         requires { AreTurnsOf field.now turns.now }
+        ensures { turns_of self.new ≡ turns_of self.old }
     {
         clear_all(&mut self.lines);
         let base = world_in(alloc, self.base.take(), field.world())?;

@@ -36,11 +36,14 @@ abbrev around : Cell → Grid
 around cell = record { width = 3; height = 3; ids = 1; cells = rock ∷ rock ∷ rock ∷ rock ∷ cell ∷ rock ∷ rock ∷ rock ∷ rock ∷ [] }
 
 -- at round 1 the ant faces direction 5; it turns left twice
-pub row_advanced : advanced saved 3 ≡ record saved {
+abbrev pub turned_twice : SavedValue
+turned_twice = record saved {
   round = 3;
   totals = record { turns = 3; taken = 3; redone = 0 };
   world = around (record hill { ant = Some (record { id = 0; colour = Red; state = 0; resting = 0; facing = West; laden = false }) });
 }
+
+pub row_advanced : advanced saved 3 ≡ turned_twice
 unfolding advanced grid_at round_totals window_totals window_at counts_of is_taken look_for look_of guess_for moment_before after_round after_turn turn reads writes merged put_cell same_pos neighbours_of adjacent_pos directions turned_by guess flips cell_in rock floor place_in
 row_advanced = refl
 

@@ -42,7 +42,8 @@ pub mod GameSaves
 pub mod PlayedSaves
 mod AdvancedTexts
 pub mod TextLength
--- Worked values.
+-- Worked values, and the laws used on them.
 pub mod SaveWorked
 pub mod AdvancedWorked
 pub mod LinesWorked
+pub mod LawsUsed

@@ -6,9 +6,10 @@ pub mod TotalLemmas
 pub mod LawsLemmas
 pub mod SortedLines
 pub mod StandingLemmas
--- Games that are told.
-pub mod ToldLemmas
+-- Games that are printed.
+pub mod PrintedLemmas
 -- Names.
 pub mod NamesLemmas
--- Worked values.
+-- Worked values, and the laws used on them.
 pub mod Worked
+pub mod LawsUsed

@@ -12,22 +12,22 @@ use Rattle.tournament.specs.Games.{below, above, games_with, games_on, games_of,
 use Rattle.tournament.specs.Laws.{added_up}
 use Rattle.tournament.specs.Standing.{line_of, StandsAbove, IsStandingOf}
 use Rattle.tournament.specs.Text.{table_line_text, standing_text, IsCupText}
-use Rattle.tournament.specs.Told.{IsToldCupText, cup_played, game_line_text, games_text}
+use Rattle.tournament.specs.Printed.{IsPrintedCupText, cup_played, game_line_text, games_text}
 
-abbrev score : ℕ → ℕ → ℕ → Score
+abbrev pub score : ℕ → ℕ → ℕ → Score
 score world red black = cond (red == 1) (record { red = 3; black = 0 }) (record { red = 0; black = 0 })
 
-abbrev line_a : Line
+abbrev pub line_a : Line
 line_a = record { player = 0; points = 1; won = 0; drawn = 1; lost = 1 }
 
-abbrev line_b : Line
+abbrev pub line_b : Line
 line_b = record { player = 1; points = 3; won = 1; drawn = 1; lost = 0 }
 
 abbrev game : ℕ → ℕ → ℕ → Pairing
 game world red black = record { world = world; red = red; black = black }
 
 -- the games of two players on one world
-two_games : games_of 2 1 ≡ game 0 0 1 ∷ game 0 1 0 ∷ []
+pub two_games : games_of 2 1 ≡ game 0 0 1 ∷ game 0 1 0 ∷ []
 unfolding games_of games_on games_with above
 two_games = refl
 
@@ -47,7 +47,7 @@ b_first zero d lt = record { points = omega arith; ties = λ (e : 3 ≡ 1). absu
 b_first (suc k) d lt = absurd (omega arith)
 
 -- the standing: b, which has more points, and then a
-b_then_a : IsStandingOf 2 1 score (line_b ∷ line_a ∷ [])
+pub b_then_a : IsStandingOf 2 1 score (line_b ∷ line_a ∷ [])
 b_then_a = record {
   each = subst (λ lines. IsPermutation lines (line_b ∷ line_a ∷ [])) (sym two_lines) (IsPermutation-append_comm (line_a ∷ []) (line_b ∷ []));
   order = b_first;
@@ -61,8 +61,8 @@ text_is = refl
 pub worked : IsCupText (codes "a" ∷ codes "b" ∷ []) 2 1 score (codes "3 points: b (1 won, 1 drawn, 0 lost)\n1 points: a (0 won, 1 drawn, 1 lost)\n")
 worked = record { lines = line_b ∷ line_a ∷ []; standing = b_then_a; is = text_is }
 
--- on world 1 the players draw, so that only the games on world 0 tell them apart; one particle more wins
-abbrev two_worlds : ℕ → ℕ → ℕ → Score
+-- on world 1 the players draw, so that only the games on world 0 distinguish them; one particle more wins
+abbrev pub two_worlds : ℕ → ℕ → ℕ → Score
 two_worlds world red black = cond (world == 0) (record { red = red; black = black }) (record { red = 4; black = 4 })
 
 by_world : map (line_of (all_played 2 2 two_worlds)) (below 2)
@@ -89,24 +89,24 @@ names_known = (refl, refl, refl)
 names_added : (with_name (codes "b" ∷ codes "a" ∷ []) (codes "c") ≡ codes "b" ∷ codes "a" ∷ codes "c" ∷ []) × (with_name (codes "b" ∷ codes "a" ∷ []) (codes "b") ≡ codes "b" ∷ codes "a" ∷ [])
 names_added = (refl, refl)
 
--- the first cup on a world w, told: its two games, and then its standing
-abbrev told_text : List ℕ
-told_text = codes "game 1: red 0 black 0, w, a, b\ngame 2: red 3 black 0, w, b, a\n3 points: b (1 won, 1 drawn, 0 lost)\n1 points: a (0 won, 1 drawn, 1 lost)\n"
+-- the first cup on a world w, printed: its two games, and then its standing
+abbrev printed_text : List ℕ
+printed_text = codes "game 1: red 0 black 0, w, a, b\ngame 2: red 3 black 0, w, b, a\n3 points: b (1 won, 1 drawn, 0 lost)\n1 points: a (0 won, 1 drawn, 1 lost)\n"
 
-told_text_is : told_text ≡ games_text (codes "w" ∷ []) (codes "a" ∷ codes "b" ∷ []) (cup_played (codes "w" ∷ []) (codes "a" ∷ codes "b" ∷ []) score) 1 ++ standing_text (codes "a" ∷ codes "b" ∷ []) (line_b ∷ line_a ∷ [])
+printed_text_is : printed_text ≡ games_text (codes "w" ∷ []) (codes "a" ∷ codes "b" ∷ []) (cup_played (codes "w" ∷ []) (codes "a" ∷ codes "b" ∷ []) score) 1 ++ standing_text (codes "a" ∷ codes "b" ∷ []) (line_b ∷ line_a ∷ [])
 unfolding digits table_line_text game_line_text games_of games_on games_with above
-told_text_is = refl
+printed_text_is = refl
 
-pub told : IsToldCupText (codes "w" ∷ []) (codes "a" ∷ codes "b" ∷ []) score told_text
-told = record { lines = line_b ∷ line_a ∷ []; standing = b_then_a; is = told_text_is }
+pub printed : IsPrintedCupText (codes "w" ∷ []) (codes "a" ∷ codes "b" ∷ []) score printed_text
+printed = record { lines = line_b ∷ line_a ∷ []; standing = b_then_a; is = printed_text_is }
 
 -- on a second world v the numbers go on; each game has the name of its own world, and red's score first
-two_worlds_told : games_text (codes "w" ∷ codes "v" ∷ []) (codes "a" ∷ codes "b" ∷ []) (all_played 2 2 two_worlds) 1
+two_worlds_printed : games_text (codes "w" ∷ codes "v" ∷ []) (codes "a" ∷ codes "b" ∷ []) (all_played 2 2 two_worlds) 1
     ≡ codes "game 1: red 0 black 1, w, a, b\ngame 2: red 1 black 0, w, b, a\ngame 3: red 4 black 4, v, a, b\ngame 4: red 4 black 4, v, b, a\n"
 unfolding digits game_line_text games_of games_on games_with above
-two_worlds_told = refl
+two_worlds_printed = refl
 
 -- what player a has of it is what it lost on w and what it drew on v, added up
-added_by_world : added_up (line_of (world_played 2 0 two_worlds) 0) (line_of (world_played 2 1 two_worlds) 0) ≡ record { player = 0; points = 2; won = 0; drawn = 2; lost = 2 }
+pub added_by_world : added_up (line_of (world_played 2 0 two_worlds) 0) (line_of (world_played 2 1 two_worlds) 0) ≡ record { player = 0; points = 2; won = 0; drawn = 2; lost = 2 }
 unfolding games_on games_with above line_of
 added_by_world = refl

@@ -30,7 +30,7 @@ games_on players world = flat_map (games_with players world) (below players)
 unfoldable pub games_of : ℕ → ℕ → List Pairing
 games_of players worlds = flat_map (games_on players) (below worlds)
 
--- a game with its score, where scores are told by world, red player and black player
+-- a game with its score, where scores are given by world, red player and black player
 abbrev pub played_by : (ℕ → ℕ → ℕ → Score) → Pairing → Played
 played_by score game = record { game = game; score = score game.world game.red game.black }
 

@@ -6,6 +6,6 @@ pub mod Names
 pub mod Plays
 pub mod Standing
 pub mod Text
-pub mod Told
+pub mod Printed
 pub use Rattle.ant_base.specs.Layout
 pub use Rattle.ant_base.specs.Sink

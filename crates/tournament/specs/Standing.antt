@@ -38,6 +38,6 @@ pub record Ranks (players : ℕ) (games : List Played) (lines : List Line) : Typ
   pub each : IsPermutation (map (line_of games) (below players)) lines
   pub order : AllAdjacentBelow StandsAbove lines (length lines)
 
--- the standing of a cup of so many players and worlds, where the scores are told by world, red player and black player
+-- the standing of a cup of so many players and worlds, where the scores are given by world, red player and black player
 abbrev pub IsStandingOf : ℕ → ℕ → (ℕ → ℕ → ℕ → Score) → List Line → Type 0
 IsStandingOf players worlds score lines = Ranks players (all_played players worlds score) lines

@@ -1,11 +1,11 @@
-// Cups whose games are told.
+// Cups whose games are printed.
 ghost use Rattle.std.specs.Prelude.{◌≡◌, ◌≢◌, ℕ, ◌+◌, ◌<◌, ◌≤◌, ◌^◌, ◌++◌, All, length, OnOk};
 ghost use Rattle.ant_base.specs.Sink.{Pushed};
 ghost use Rattle.tournament.specs.Games.{IsGame, all_played, world_played};
 ghost use Rattle.tournament.specs.Names.{texts_of};
 ghost use Rattle.tournament.specs.Plays.{PlaysGames};
-ghost use Rattle.tournament.specs.Inner.Worlds.{CanBeTold, WorldTold};
-ghost use Rattle.tournament.specs.Told.{HasTold, Told, game_line_text, games_text};
+ghost use Rattle.tournament.specs.Inner.Worlds.{CanBePrinted, WorldPrinted};
+ghost use Rattle.tournament.specs.Printed.{HasPrinted, Printed, game_line_text, games_text};
 
 use crate::games::{Pairing, Played};
 use crate::names::Names;
@@ -40,7 +40,7 @@ pub fn push_games<K: Sink>(
 }
 
 // Pushes the line of a game.
-#[tactic(auto, unfolding(crate::specs::Told::game_line_text))]
+#[tactic(auto, unfolding(crate::specs::Printed::game_line_text))]
 fn push_game<K: Sink>(
     it: &Played,
     number: u32,
@@ -74,7 +74,7 @@ fn push_game<K: Sink>(
 
 /// Plays all games of a cup of the players of these names, 2 to 16, on the worlds of these names, 1 to 16, and pushes its text: the line of
 /// each game in the order of the cup, numbered from 1, and then the standing. `play` plays the games on a world, as in
-/// [`play_all`](crate::play_all): the text is the same. Their lines are pushed once all of them were played, and before the first game on the
+/// [`play_all_by`](crate::play_all_by): the text is the same. Their lines are pushed once all of them were played, and before the first game on the
 /// next world: the referee has to know a game only where there is a sink that has the lines of all games on the worlds before it, and nothing
 /// else.
 ///
@@ -96,10 +96,10 @@ pub fn play_and_print<
     requires players { (2 ≤ length players.now) × (length players.now ≤ 16) }
     requires worlds { (1 ≤ length worlds.now) × (length worlds.now ≤ 16) }
     requires workers { (1 ≤ workers) × (workers ≤ 16) }
-    requires known { (now : K) (world red black : ℕ) → HasTold (K.state sink.old) (K.state now) (texts_of worlds.now) players.now (F.score referee.now) world
+    requires known { (now : K) (world red black : ℕ) → HasPrinted (K.state sink.old) (K.state now) (texts_of worlds.now) players.now (F.score referee.now) world
         → world < length worlds.now → red < length players.now → black < length players.now → red ≢ black → F.knows referee.now world red black }
     requires plays { PlaysGames P.Fn F.knows F.score play.now }
-    ensures { Told (K.state sink.old) (K.state sink.new) (texts_of worlds.now) players.now (F.score referee.now) result }
+    ensures { Printed (K.state sink.old) (K.state sink.new) (texts_of worlds.now) players.now (F.score referee.now) result }
 {
     let cup = Cup {
         referee,
@@ -109,14 +109,14 @@ pub fn play_and_print<
     };
     let mut played = Vec::new(alloc);
     for world in 0..worlds.len() as u32 {
-        tell_world(alloc, &cup, world, play, &mut played, sink)?;
+        print_world(alloc, &cup, world, play, &mut played, sink)?;
     }
     let standing = standing_of(alloc, players.len() as u32, &played)?;
     push_standing(&standing, players, sink)?;
     Ok(())
 }
 
-// A cup whose games are told: who makes the scores, the names of its worlds and of its players, and how many workers play.
+// A cup whose games are printed: who makes the scores, the names of its worlds and of its players, and how many workers play.
 #[derive(Drop)]
 struct Cup<'c, F: Referee> {
     referee: &'c F,
@@ -127,7 +127,7 @@ struct Cup<'c, F: Referee> {
 
 // Plays the games on a world, adds them to those on the worlds before, and pushes their lines. All memory is taken before the first line is
 // pushed.
-fn tell_world<F: Referee, K: Sink, P: Fn(&F, &[Pairing], u32) -> Result<Vec<Played>, OutOfMemory>>(
+fn print_world<F: Referee, K: Sink, P: Fn(&F, &[Pairing], u32) -> Result<Vec<Played>, OutOfMemory>>(
     alloc: Global,
     cup: &Cup<'_, F>,
     world: u32,
@@ -135,11 +135,11 @@ fn tell_world<F: Referee, K: Sink, P: Fn(&F, &[Pairing], u32) -> Result<Vec<Play
     played: &mut Vec<Played>,
     sink: &mut K,
 ) -> Result<(), PushFault>
-    requires can { CanBeTold (F.knows cup.now.referee.now) (length cup.now.players.now) (length cup.now.worlds.now) cup.now.workers world }
+    requires can { CanBePrinted (F.knows cup.now.referee.now) (length cup.now.players.now) (length cup.now.worlds.now) cup.now.workers world }
     requires plays { PlaysGames P.Fn F.knows F.score play.now }
     requires before { played.old.items ≡ all_played (length cup.now.players.now) world (F.score cup.now.referee.now) }
     ensures played { OnOk result (played.new.items ≡ all_played (length cup.now.players.now) (world + 1) (F.score cup.now.referee.now)) }
-    ensures told { WorldTold (K.state sink.old) (K.state sink.new) (games_text (texts_of cup.now.worlds.now) cup.now.players.now
+    ensures printed { WorldPrinted (K.state sink.old) (K.state sink.new) (games_text (texts_of cup.now.worlds.now) cup.now.players.now
         (world_played (length cup.now.players.now) world (F.score cup.now.referee.now)) (length played.old.items + 1)) result }
 {
     let players = cup.players.len() as u32;

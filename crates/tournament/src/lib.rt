@@ -4,10 +4,11 @@
 //! and then j as red against i. The side with the greater score wins a game and gets 2 points; equal scores are a draw, which gives 1 point
 //! to each side (the task's game play). The standing has a line for each player, by points falling, equal points by player number rising.
 //!
-//! What makes a game's score is a [`Referee`], so that this crate knows no brain and no world. A cup is handed the function that plays its
-//! games: over [`play_games`], which cuts the list of games into contiguous pieces and plays each piece in a thread of its own, or over
-//! [`play_games_alone`], which needs no threads; the standing is that of the referee's scores. [`play_all`] plays all games at once, and
-//! [`play_and_print`] world by world, and pushes the games' lines after each. [`push_standing`] prints the standing with the players' [`Names`].
+//! What makes a game's score is a [`Referee`], so that this crate knows no brain and no world. [`play_all`] plays all games at once by workers:
+//! it cuts the list of games into contiguous pieces and plays each piece in a thread of its own. [`play_all_by`] takes the function that plays
+//! the games, over [`play_games`] or over [`play_games_alone`], which needs no threads; [`play_and_print`] takes one too, plays world by world,
+//! and pushes the games' lines after each. The standing is always that of the referee's scores. [`push_standing`] prints it with the players'
+//! [`Names`].
 //! Pieces, texts and names are this project's own. It stands on `cell_world` for the score, on `ant_base` for texts, and on no rule of the
 //! game.
 #![tactic(auto)]
@@ -32,7 +33,7 @@ pub use games_printed::{play_and_print, push_games};
 pub use hex_geometry::OutOfMemory;
 pub use laws::{games_add_up, one_standing, points_add_up, wins_are_losses};
 pub use names::{Added, Names};
-pub use play::{play_all, play_games, play_games_alone, play_world};
+pub use play::{play_all, play_all_by, play_games, play_games_alone, play_world};
 pub use referee::Referee;
 pub use standing::{Line, Standing};
 pub use tally::standing_of;

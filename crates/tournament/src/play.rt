@@ -14,13 +14,37 @@ use hex_geometry::OutOfMemory;
 use std::alloc::Global;
 use std::thread::Threads;
 
-/// Plays all games of a cup of 2 to 16 players on 1 to 16 worlds, and gives the standing of the referee's scores. `play` plays them, by 1 to 16
-/// workers or on the caller's thread, as [`play_games`] and [`play_games_alone`] do: the standing is the same. The referee knows each of these
-/// games: any two different players, as red and as black, on each world. It is refused only when out of memory, its own or that of `play`.
+/// Plays all games of a cup of 2 to 16 players on 1 to 16 worlds by 1 to 16 workers, and gives the standing of the referee's scores. On each
+/// world each pair of players plays twice, with the colours swapped (the task's game play); the standing is the same for each number of
+/// workers, which play as in [`play_games`]. The referee knows each of these games: any two different players, as red and as black, on each
+/// world. It is refused only when out of memory, its own or the referee's.
 ///
 /// Given 2 players, one world, and a referee by whom player 1 wins the game in which it is red and the other game is drawn, it answers two
 /// lines: player 1 with 3 points, 1 won, 1 drawn, 0 lost; and then player 0 with 1 point, 0 won, 1 drawn, 1 lost.
-pub fn play_all<F: Referee, P: Fn(&F, &[Pairing], u32) -> Result<Vec<Played>, OutOfMemory>>(
+pub fn play_all<R: Threads + Sync, F: Referee>(
+    rt: &R,
+    alloc: Global,
+    referee: &F,
+    players: u32,
+    worlds: u32,
+    workers: u32,
+) -> Result<Standing, OutOfMemory>
+    requires players { (2 ≤ players) × (players ≤ 16) }
+    requires worlds { (1 ≤ worlds) × (worlds ≤ 16) }
+    requires workers { (1 ≤ workers) × (workers ≤ 16) }
+    requires known { (world red black : ℕ) → world < worlds → red < players → black < players → red ≢ black → F.knows referee.now world red black }
+    ensures { IfOk result (λ standing. IsStandingOf players worlds (F.score referee.now) standing) }
+{
+    let play = |referee: &F, games: &[Pairing], workers: u32| -> Result<Vec<Played>, OutOfMemory>
+        requires { CanBePlayedBy workers (F.knows referee.now) games.now }
+        ensures { ArePlayed (F.score referee.entry.now) games.entry.now result }
+    { play_games(rt, alloc, referee, games, workers) };
+    play_all_by(alloc, referee, players, worlds, workers, &play)
+}
+
+/// Does what [`play_all`] does, and `play` plays the games, by 1 to 16 workers or on the caller's thread, as [`play_games`] and
+/// [`play_games_alone`] do: the standing is the same. It is refused only when out of memory, its own or that of `play`.
+pub fn play_all_by<F: Referee, P: Fn(&F, &[Pairing], u32) -> Result<Vec<Played>, OutOfMemory>>(
     alloc: Global,
     referee: &F,
     players: u32,
@@ -41,7 +65,7 @@ pub fn play_all<F: Referee, P: Fn(&F, &[Pairing], u32) -> Result<Vec<Played>, Ou
 }
 
 /// Plays the games of a cup of 2 to 16 players on the world of this number, from 0, and gives them with the referee's scores, in the order in
-/// which the cup has them. `play` plays them, as in [`play_all`]. The referee knows each of these games: any two different players, as red and
+/// which the cup has them. `play` plays them, as in [`play_all_by`]. The referee knows each of these games: any two different players, as red and
 /// as black. It is refused only when out of memory, its own or that of `play`.
 pub fn play_world<F: Referee, P: Fn(&F, &[Pairing], u32) -> Result<Vec<Played>, OutOfMemory>>(
     alloc: Global,

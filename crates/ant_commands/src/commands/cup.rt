@@ -8,7 +8,7 @@ ghost use Rattle.command_words.specs.declared.limits.NumberKind.TheVariants.{Wor
 ghost use Rattle.command_words.specs.Slots.{AllDiffer};
 ghost use Rattle.match_run.specs.Run.{most_rounds};
 ghost use Rattle.tournament.specs.Standing.{IsStandingOf};
-ghost use Rattle.tournament.specs.Told.{Told};
+ghost use Rattle.tournament.specs.Printed.{Printed};
 ghost use Rattle.ant_commands.specs.Inner.Cups.{AreReady, CanBePlayed, PlaysCup};
 ghost use Rattle.ant_commands.specs.Inner.Reading.{CarriesOut, ReadsFiles, ending_of, outcome_of};
 ghost use Rattle.ant_commands.specs.Outputs.{cup_contents, cup_files, score_between};
@@ -23,7 +23,8 @@ use cell_world::{Score, World};
 use match_run::{OutOfMemory, play_score};
 use std::alloc::Global;
 use tournament::{
-    Names, Pairing, Played, PushFault, Referee, Standing, play_all, play_and_print, push_standing,
+    Names, Pairing, Played, PushFault, Referee, Standing, play_all_by, play_and_print,
+    push_standing,
 };
 
 // What the files of a cup were read as.
@@ -100,11 +101,11 @@ fn standing_of<P: Fn(&Games<'_>, &[Pairing], u32) -> Result<Vec<Played>, OutOfMe
     };
     let players = games.players.len() as u32;
     let worlds = games.worlds.len() as u32;
-    play_all(alloc, &games, players, worlds, workers, play)
+    play_all_by(alloc, &games, players, worlds, workers, play)
 }
 
 // Plays the games world by world, and pushes their lines after each world; the standing comes last.
-fn tell_games<K: Sink, P: Fn(&Games<'_>, &[Pairing], u32) -> Result<Vec<Played>, OutOfMemory>>(
+fn print_games<K: Sink, P: Fn(&Games<'_>, &[Pairing], u32) -> Result<Vec<Played>, OutOfMemory>>(
     alloc: Global,
     roster: &Roster,
     entry: CupEntry<'_>,
@@ -118,7 +119,7 @@ fn tell_games<K: Sink, P: Fn(&Games<'_>, &[Pairing], u32) -> Result<Vec<Played>,
     requires players { length roster.now.players.items ≡ length (texts entry.brains.now) }
     requires names { names.now ≡ texts entry.brains.now }
     requires plays { PlaysCup P.Fn play.now }
-    ensures { Told (K.state out.old) (K.state out.new) (texts entry.entry.worlds.now) (texts entry.entry.brains.now)
+    ensures { Printed (K.state out.old) (K.state out.new) (texts entry.entry.worlds.now) (texts entry.entry.brains.now)
         (score_between roster.now.worlds.items roster.now.players.items entry.entry.seed entry.entry.rounds) result }
 {
     let games = Games {
@@ -165,7 +166,7 @@ pub fn cup<
     let roster = roster_of(alloc, entry, shelf)?;
     let names = names_of(alloc, entry.brains)?;
     if entry.games {
-        return after_cup(tell_games(alloc, &roster, entry, &names, play, out));
+        return after_cup(print_games(alloc, &roster, entry, &names, play, out));
     }
     let standing = standing_of(
         alloc,

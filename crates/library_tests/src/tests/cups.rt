@@ -1,5 +1,5 @@
 // What no clause says: that cups succeed, their exact text, and that games are played side by side.
-ghost use Rattle.std.specs.Prelude.{ℕ, ⊤};
+ghost use Rattle.std.specs.Prelude.{ℕ};
 ghost use Rattle.tournament.specs.Plays.{ArePlayed, CanBePlayedBy};
 
 use ant_base::{Calls, MemSink};
@@ -128,12 +128,8 @@ fn check<R: Threads + Sync + Abort, F: Referee>(
     let players = names.len();
     assert!(rt; 2 <= players && players <= 16);
     assert!(rt; 1 <= worlds && worlds <= 16);
-    let play = |referee: &F, games: &[Pairing], workers: u32| -> Result<Vec<Played>, OutOfMemory>
-        requires { CanBePlayedBy workers (F.knows referee.now) games.now }
-        ensures { ArePlayed (F.score referee.entry.now) games.entry.now result }
-    { played(rt, alloc, referee, games, workers) };
     for workers in [1, 2, 16] {
-        let standing = play_all(alloc, referee, players as u32, worlds, workers, &play)?;
+        let standing = play_all(rt, alloc, referee, players as u32, worlds, workers)?;
         let mut out = MemSink::with_room(alloc, ROOM, Calls::new(alloc))?;
         let pushed = push_standing(&standing, names, &mut out);
         assert!(rt; pushed.is_ok());
@@ -226,15 +222,7 @@ fn two_workers_play_two_games_at_once(rt: HostRuntime) -> Result<(), Fail> {
         second: AtomicBool::new(false),
         alone: AtomicBool::new(false),
     };
-    let alloc = rt.alloc();
-    let play = |meeting: &Meeting, games: &[Pairing], workers: u32| -> Result<
-        Vec<Played>,
-        OutOfMemory,
-    >
-        requires { CanBePlayedBy workers (λ _ _ _. ⊤) games.now }
-        ensures { ArePlayed (λ _ _ _. record { red = 0; black = 0 }) games.entry.now result }
-    { played(&rt, alloc, meeting, games, workers) };
-    let standing = play_all(alloc, &meeting, 2, 1, 2, &play)?;
+    let standing = play_all(&rt, rt.alloc(), &meeting, 2, 1, 2)?;
     assert_eq!(rt; standing.len(), 2);
     assert!(rt;
         !meeting.alone.load(Ordering::SeqCst),

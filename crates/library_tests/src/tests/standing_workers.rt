@@ -334,6 +334,7 @@ fn check_unstarted<R: Wait + Abort>(rt: &R, alloc: Global, players: &Players) ->
     let mut crew = FarCrew::unstarted(rt, alloc, &told, 5);
     let counts = crew.window(alloc, &mut field, 0, 3)?;
     assert_eq!(rt; (counts.taken(), counts.redone()), PLAYED.first);
+    assert_eq!(rt; crew.turns(), 3);
     assert_eq!(rt; told.calls.load(Ordering::SeqCst), 3);
     assert_eq!(rt; told.numbers.load(Ordering::SeqCst), 15);
     Ok(())

@@ -1,11 +1,11 @@
--- A cup that is told world by world.
+-- A cup that is printed world by world.
 use Rattle.std.specs.Prelude.{◌≡◌, ◌≢◌, ℕ, ◌<◌, ◌≤◌, List, Result, Ok, Err}
 use Rattle.ant_base.specs.Sink.{SinkState, PushedAll, PushedFront}
 use Rattle.ant_base.specs.declared.push_fault.PushFault.{PushFault}
 use Rattle.ant_base.specs.declared.push_fault.PushFault.TheVariants.{WriteFault, OutOfMemory}
 
 -- so many players, worlds and workers make a cup, and the referee knows each game on this world
-pub record CanBeTold (knows : ℕ → ℕ → ℕ → Type 0) (players worlds workers world : ℕ) : Type 0 where
+pub record CanBePrinted (knows : ℕ → ℕ → ℕ → Type 0) (players worlds workers world : ℕ) : Type 0 where
   pub pair : 2 ≤ players
   pub few_players : players ≤ 16
   pub few_worlds : worlds ≤ 16
@@ -20,6 +20,6 @@ WorldStops old new text WriteFault = PushedFront old new text
 WorldStops old new text OutOfMemory = new ≡ old
 
 -- the lines of a world were pushed, or why not
-abbrev pub WorldTold : SinkState → SinkState → List ℕ → Result (Unit {0}) PushFault → Type 0
-WorldTold old new text (Ok _) = PushedAll old new text
-WorldTold old new text (Err fault) = WorldStops old new text fault
+abbrev pub WorldPrinted : SinkState → SinkState → List ℕ → Result (Unit {0}) PushFault → Type 0
+WorldPrinted old new text (Ok _) = PushedAll old new text
+WorldPrinted old new text (Err fault) = WorldStops old new text fault

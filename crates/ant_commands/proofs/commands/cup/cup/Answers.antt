@@ -10,30 +10,30 @@ use Rattle.ant_commands.specs.Inner.Reading.{CarriesOut, ending_of}
 use Rattle.ant_commands.specs.Outputs.{cup_contents, score_between}
 use Rattle.ant_commands.proofs.Cups.{players_counted, ready, worlds_counted}
 use Rattle.ant_commands.proofs.Readings.{carries_pushed, carries_stop, carries_wanting_later}
-use Rattle.ant_commands.proofs.ToldCups.{carries_cup}
+use Rattle.ant_commands.proofs.PrintedCups.{carries_cup}
 use Rattle.ant_commands.proofs.commands.cup.cup.Goals as goal
 
-pub tell_games-requires-clause-ready : goal.tell_games-requires-clause-ready
-tell_games-requires-clause-ready g c =
+pub print_games-requires-clause-ready : goal.print_games-requires-clause-ready
+print_games-requires-clause-ready g c =
     ready (texts c.args.entry.worlds.now) (texts c.args.entry.brains.now) c.args.entry.seed c.args.entry.rounds c.args.entry.workers c.in_ok-roster.ensures.fetches c.in_ok-roster.roster.worlds.items c.in_ok-roster.roster.players.items
     c.requires.within c.in_ok-roster.ensures.comes
 
-pub tell_games-requires-clause-worlds : goal.tell_games-requires-clause-worlds
-tell_games-requires-clause-worlds g c =
+pub print_games-requires-clause-worlds : goal.print_games-requires-clause-worlds
+print_games-requires-clause-worlds g c =
     worlds_counted (texts c.args.entry.worlds.now) (texts c.args.entry.brains.now) c.in_ok-roster.ensures.fetches c.in_ok-roster.roster.worlds.items c.in_ok-roster.roster.players.items c.in_ok-roster.ensures.comes
 
-pub tell_games-requires-clause-players : goal.tell_games-requires-clause-players
-tell_games-requires-clause-players g c =
+pub print_games-requires-clause-players : goal.print_games-requires-clause-players
+print_games-requires-clause-players g c =
     players_counted (texts c.args.entry.worlds.now) (texts c.args.entry.brains.now) c.in_ok-roster.ensures.fetches c.in_ok-roster.roster.worlds.items c.in_ok-roster.roster.players.items c.in_ok-roster.ensures.comes
 
 pub returns-then-entry : goal.returns-then-entry
 returns-then-entry g c =
     let enough = c.requires.within.brain_names.enough in
     subst (λ (games : Bool). CarriesOut (cup_job (texts c.args.entry.worlds.now) (texts c.args.entry.brains.now) c.args.entry.seed c.args.entry.rounds c.args.entry.workers games) (g.S.Shelf.state c.args.shelf.now) (g.S.Shelf.state c.roster_of.new.shelf)
-    (g.K.Sink.state c.args.out.now) (g.K.Sink.state c.tell_games.new.out) (ending_of c.after_cup.result)) (sym c.if-entry.true)
+    (g.K.Sink.state c.args.out.now) (g.K.Sink.state c.print_games.new.out) (ending_of c.after_cup.result)) (sym c.if-entry.true)
     (carries_cup (texts c.args.entry.worlds.now) (texts c.args.entry.brains.now) c.args.entry.seed c.args.entry.rounds c.args.entry.workers
     (record { worlds = c.in_ok-roster.roster.worlds.items; players = c.in_ok-roster.roster.players.items }) (g.S.Shelf.state c.args.shelf.now) (g.S.Shelf.state c.roster_of.new.shelf)
-    (g.K.Sink.state c.args.out.now) (g.K.Sink.state c.tell_games.new.out) c.after_cup.result c.tell_games.result c.after_cup.ensures c.in_ok-roster.ensures (omega (arith, enough)) c.tell_games.ensures)
+    (g.K.Sink.state c.args.out.now) (g.K.Sink.state c.print_games.new.out) c.after_cup.result c.print_games.result c.after_cup.ensures c.in_ok-roster.ensures (omega (arith, enough)) c.print_games.ensures)
 
 pub standing_of-requires-clause-ready : goal.standing_of-requires-clause-ready
 standing_of-requires-clause-ready g c =

@@ -4,7 +4,7 @@ use Rattle.std.proofs.lemmas.List.{length-map}
 use Rattle.std.specs.Prelude.{string_bytes}
 use Rattle.match_run.specs.Run.{most_rounds}
 use Rattle.ant_commands.proofs.Cups.{all_playable}
-use Rattle.ant_commands.proofs.commands.cup.tell_games.Goals as goal
+use Rattle.ant_commands.proofs.commands.cup.print_games.Goals as goal
 
 pub play_and_print-requires-clause-known : goal.play_and_print-requires-clause-known
 play_and_print-requires-clause-known g c κs within =

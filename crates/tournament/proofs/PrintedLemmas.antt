@@ -1,4 +1,4 @@
--- Games that are told, world by world.
+-- Games that are printed, world by world.
 use Rattle.std.proofs.Common.{◌≡◌, inl, inr, ℕ, zero, suc, ◌+◌, ◌*◌, ◌<◌, ◌≤◌, Bool, List, [], ◌∷◌, ◌++◌, length, get_or, take, map, All, count_by, cond, append-nil, append_assoc, refl, sym, ◌∙◌, ap, subst, arith}
 use Rattle.std.specs.List.{flat_map}
 use Rattle.std.proofs.lemmas.Bool.{cases_eq}
@@ -17,7 +17,7 @@ use Rattle.tournament.specs.Inner.Worlds.{WorldStops}
 use Rattle.tournament.specs.Laws.{GamesAddUp, WorldsInOrder}
 use Rattle.tournament.specs.Standing.{Ranks, is_won, is_lost, is_drawn, line_of}
 use Rattle.tournament.specs.Text.{standing_text}
-use Rattle.tournament.specs.Told.{IsToldCupText, ToldBy, cup_played, game_line_text, games_text}
+use Rattle.tournament.specs.Printed.{IsPrintedCupText, PrintedBy, cup_played, game_line_text, games_text}
 use Rattle.tournament.proofs.GamesLemmas.{below-more, length-games_of, length-games_on, on_all}
 use Rattle.tournament.proofs.SortedLines.{has_standing}
 
@@ -68,17 +68,17 @@ games_added_up games more p =
     rw (points, won, drawn, lost) refl
 
 -- the games on the first worlds come first
-played_front : (players told worlds : ℕ) (score : ℕ → ℕ → ℕ → Score) → told ≤ worlds → (rest : List Played) × (all_played players worlds score ≡ all_played players told score ++ rest)
-played_front players told zero score few = let none : told ≡ 0 = omega arith in ([], ap (λ n. all_played players n score) (sym none) ∙ sym (append-nil (all_played players told score)))
-played_front players told (suc worlds) score few =
-    elim (cases_eq told (suc worlds)) [
-      | inl all ↦ ([], ap (λ n. all_played players n score) (sym all) ∙ sym (append-nil (all_played players told score)))
+played_front : (players printed worlds : ℕ) (score : ℕ → ℕ → ℕ → Score) → printed ≤ worlds → (rest : List Played) × (all_played players worlds score ≡ all_played players printed score ++ rest)
+played_front players printed zero score few = let none : printed ≡ 0 = omega arith in ([], ap (λ n. all_played players n score) (sym none) ∙ sym (append-nil (all_played players printed score)))
+played_front players printed (suc worlds) score few =
+    elim (cases_eq printed (suc worlds)) [
+      | inl all ↦ ([], ap (λ n. all_played players n score) (sym all) ∙ sym (append-nil (all_played players printed score)))
       | inr less ↦
-          let front = played_front players told worlds score (omega arith) in
+          let front = played_front players printed worlds score (omega arith) in
           let next : suc worlds ≡ worlds + 1 = omega arith in (
             front.0 ++ world_played players worlds score,
             ap (λ n. all_played players n score) next ∙ all_played-more players worlds score ∙ ap (λ games. games ++ world_played players worlds score) front.1
-                ∙ append_assoc (all_played players told score) front.0 (world_played players worlds score),
+                ∙ append_assoc (all_played players printed score) front.0 (world_played players worlds score),
           )
     ]
 
@@ -125,7 +125,7 @@ module _ (worlds players : List (List ℕ)) where
   module _ (score : ℕ → ℕ → ℕ → Score) where
     -- the games on the first worlds
     abbrev first_played : ℕ → List Played
-    first_played told = all_played (length players) told score
+    first_played printed = all_played (length players) printed score
 
     -- the lines of the games on one world more
     more_lines : (world : ℕ) → games_text worlds players (first_played (world + 1)) 1
@@ -137,44 +137,44 @@ module _ (worlds players : List (List ℕ)) where
         ∙ ap (λ n. games_text worlds players (first_played world) 1 ++ games_text worlds players (world_played (length players) world score) n) at
 
     -- the text of a cup begins with the lines of the games on its first worlds, and ends with the standing
-    pub told_text-front : (told : ℕ) (text : List ℕ) → told ≤ length worlds → (is_text : IsToldCupText worlds players score text)
-        → (rest : List ℕ) × (text ≡ games_text worlds players (first_played told) 1 ++ (rest ++ standing_text players is_text.lines))
-    told_text-front told text few is_text =
-        let front = played_front (length players) told (length worlds) score few in
-        let rest : List ℕ = games_text worlds players front.0 (1 + length (first_played told)) in (
+    pub printed_text-front : (printed : ℕ) (text : List ℕ) → printed ≤ length worlds → (is_text : IsPrintedCupText worlds players score text)
+        → (rest : List ℕ) × (text ≡ games_text worlds players (first_played printed) 1 ++ (rest ++ standing_text players is_text.lines))
+    printed_text-front printed text few is_text =
+        let front = played_front (length players) printed (length worlds) score few in
+        let rest : List ℕ = games_text worlds players front.0 (1 + length (first_played printed)) in (
           rest,
           is_text.is
               ∙ ap (λ games. games_text worlds players games 1 ++ standing_text players is_text.lines) front.1
-              ∙ ap (λ text. text ++ standing_text players is_text.lines) (games_text-append (first_played told) front.0 1)
-              ∙ append_assoc (games_text worlds players (first_played told) 1) rest (standing_text players is_text.lines),
+              ∙ ap (λ text. text ++ standing_text players is_text.lines) (games_text-append (first_played printed) front.0 1)
+              ∙ append_assoc (games_text worlds players (first_played printed) 1) rest (standing_text players is_text.lines),
         )
 
     -- the lines of a world's games are pushed
-    pub world_told : (old mid new : SinkState) (world : ℕ) → PushedAll old mid (games_text worlds players (first_played world) 1)
+    pub world_printed : (old mid new : SinkState) (world : ℕ) → PushedAll old mid (games_text worlds players (first_played world) 1)
         → PushedAll mid new (games_text worlds players (world_played (length players) world score) (length (first_played world) + 1))
         → PushedAll old new (games_text worlds players (first_played (world + 1)) 1)
-    world_told old mid new world so_far more = subst (PushedAll old new) (sym (more_lines world)) (all_then old mid new _ _ so_far more)
+    world_printed old mid new world so_far more = subst (PushedAll old new) (sym (more_lines world)) (all_then old mid new _ _ so_far more)
 
     -- they aren't
     pub world_stopped : (old mid new : SinkState) (world : ℕ) (fault : PushFault) → world < length worlds → PushedAll old mid (games_text worlds players (first_played world) 1)
         → WorldStops mid new (games_text worlds players (world_played (length players) world score) (length (first_played world) + 1)) fault
-        → ToldBy old new worlds players score fault
+        → PrintedBy old new worlds players score fault
     world_stopped old mid new world WriteFault early so_far stopped =
         let standing = has_standing (length players) (length worlds) score in
         let text : List ℕ = games_text worlds players (cup_played worlds players score) 1 ++ standing_text players standing.0 in
-        let is_text : IsToldCupText worlds players score text = record { lines = standing.0; standing = standing.1; is = refl } in
-        let front = told_text-front (world + 1) text (omega arith) is_text in
+        let is_text : IsPrintedCupText worlds players score text = record { lines = standing.0; standing = standing.1; is = refl } in
+        let front = printed_text-front (world + 1) text (omega arith) is_text in
         let lines = subst (PushedFront old new) (sym (more_lines world)) (front_then old mid new _ _ so_far stopped) in
         record { text = text; is_text = is_text; pushed = subst (PushedFront old new) (sym front.1) (front_more old new _ (front.0 ++ standing_text players standing.0) lines) }
     world_stopped old mid new world OutOfMemory early so_far stopped = record {
-      told = world;
+      printed = world;
       some = omega arith;
       pushed = subst (λ state. PushedAll old state (games_text worlds players (first_played world) 1)) (sym stopped) so_far;
     }
 
     -- the whole text of a cup, when the games on all worlds are played
     pub whole_cup : (world : ℕ) → world ≡ length worlds → (count : ℕ) → count ≡ length players → (games : List Played) → games ≡ first_played world → (lines : List Line) → Ranks count games lines
-        → IsToldCupText worlds players score (games_text worlds players (first_played world) 1 ++ standing_text players lines)
+        → IsPrintedCupText worlds players score (games_text worlds players (first_played world) 1 ++ standing_text players lines)
     whole_cup world all count named games played lines ranks = record {
       lines = lines;
       standing = subst (λ n. Ranks n (cup_played worlds players score) lines) named (subst (λ (it : List Played). Ranks count it lines) (played ∙ ap first_played all) ranks);

@@ -2,8 +2,8 @@ use Rattle.std.proofs.Common.{◌++◌, List, length, ap, ap₂, sym, ◌∙◌,
 use Rattle.std.proofs.lemmas.List.Elements.{All-same}
 use Rattle.tournament.specs.Games.{IsGame, world_played}
 use Rattle.tournament.specs.declared.games.Played.{Played}
-use Rattle.tournament.proofs.ToldLemmas.{All-world_played, all_played-more, length-all_played, length-world_played}
-use Rattle.tournament.proofs.games_printed.tell_world.Goals as goal
+use Rattle.tournament.proofs.PrintedLemmas.{All-world_played, all_played-more, length-all_played, length-world_played}
+use Rattle.tournament.proofs.games_printed.print_world.Goals as goal
 
 pub overflow_cast-first : goal.overflow_cast-first
 overflow_cast-first g c =

@@ -5,7 +5,7 @@ use Rattle.tournament.specs.Games.{played_by}
 use Rattle.tournament.specs.Standing.{Ranks}
 use Rattle.tournament.specs.declared.games.Played.{Played}
 use Rattle.tournament.proofs.PiecesLemmas.{can_play_all}
-use Rattle.tournament.proofs.play.play_all.Goals as goal
+use Rattle.tournament.proofs.play.play_all_by.Goals as goal
 
 pub play-requires : goal.play-requires
 play-requires g c =

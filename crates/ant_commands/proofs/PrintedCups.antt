@@ -1,4 +1,4 @@
--- What a cup whose games are told comes to.
+-- What a cup whose games are printed comes to.
 use Rattle.std.proofs.Common.{◌≡◌, ℕ, ◌≤◌, List, ◌++◌, length, true, refl, sym, subst, Result, Ok, Err}
 use Rattle.ant_base.specs.Shelf.{ShelfState}
 use Rattle.ant_base.specs.Sink.{SinkState}
@@ -6,10 +6,10 @@ use Rattle.ant_commands.specs.Job.{Job}
 use Rattle.ant_commands.specs.Jobs.{cup_job}
 use Rattle.match_run.specs.Play.{PushedProperPrefix}
 use Rattle.tournament.proofs.SortedLines.{has_standing}
-use Rattle.tournament.proofs.ToldLemmas.{told_text-front}
+use Rattle.tournament.proofs.PrintedLemmas.{printed_text-front}
 use Rattle.tournament.specs.Games.{all_played}
 use Rattle.tournament.specs.Text.{standing_text}
-use Rattle.tournament.specs.Told.{IsToldCupText, Told, cup_played, games_text}
+use Rattle.tournament.specs.Printed.{IsPrintedCupText, Printed, cup_played, games_text}
 use Rattle.ant_base.specs.declared.push_fault.PushFault.{PushFault}
 use Rattle.ant_base.specs.declared.push_fault.PushFault.TheVariants as fault
 use Rattle.ant_commands.specs.declared.stop.CommandStop.{CommandStop}
@@ -25,20 +25,20 @@ module _ (worlds brains : List (List ℕ)) (seed rounds workers : ℕ) (cup : Re
   command = cup_job worlds brains seed rounds workers true
 
   -- a text of the cup, of which the lines of the games on its first worlds are a proper prefix
-  record Front (told : ℕ) : Type 0 where
+  record Front (printed : ℕ) : Type 0 where
     text : List ℕ
-    is_text : IsToldCupText worlds brains (score_between cup.worlds cup.players seed rounds) text
+    is_text : IsPrintedCupText worlds brains (score_between cup.worlds cup.players seed rounds) text
     rest : List ℕ
-    whole : text ≡ games_text worlds brains (all_played (length brains) told (score_between cup.worlds cup.players seed rounds)) 1 ++ rest
+    whole : text ≡ games_text worlds brains (all_played (length brains) printed (score_between cup.worlds cup.players seed rounds)) 1 ++ rest
     left : 1 ≤ length rest
 
-  front : (told : ℕ) → told ≤ length worlds → 1 ≤ length brains → Front told
-  front told few some =
+  front : (printed : ℕ) → printed ≤ length worlds → 1 ≤ length brains → Front printed
+  front printed few some =
       let score = score_between cup.worlds cup.players seed rounds in
       let standing = has_standing (length brains) (length worlds) score in
       let text : List ℕ = games_text worlds brains (cup_played worlds brains score) 1 ++ standing_text brains standing.0 in
-      let is_text : IsToldCupText worlds brains score text = record { lines = standing.0; standing = standing.1; is = refl } in
-      let rest = told_text-front worlds brains score told text few is_text in
+      let is_text : IsPrintedCupText worlds brains score text = record { lines = standing.0; standing = standing.1; is = refl } in
+      let rest = printed_text-front worlds brains score printed text few is_text in
       record {
         text = text;
         is_text = is_text;
@@ -47,25 +47,25 @@ module _ (worlds brains : List (List ℕ)) (seed rounds workers : ℕ) (cup : Re
         left = lf_some _ (lf_last rest.0 (standing_text brains standing.0) (lf_standing brains (length brains) (length worlds) score standing.0 some standing.1));
       }
 
-  -- its files were read, and its games were told; or the output failed, or memory was wanting behind the lines of its first worlds
+  -- its files were read, and its games were printed; or the output failed, or memory was wanting after the lines of its first worlds
   pub carries_cup : {U : Type 0} (result : Result U CommandStop) (last : Result (Unit {0}) PushFault) → ending_of result ≡ play_ending last
       → ReadsFiles shelf new_shelf (cup_files worlds brains) (Contents (roster_contents cup)) → 1 ≤ length brains
-      → Told out new_out worlds brains (score_between cup.worlds cup.players seed rounds) last → CarriesOut command shelf new_shelf out new_out (ending_of result)
-  carries_cup result (Ok done) same reads some told =
+      → Printed out new_out worlds brains (score_between cup.worlds cup.players seed rounds) last → CarriesOut command shelf new_shelf out new_out (ending_of result)
+  carries_cup result (Ok done) same reads some printed =
       subst (CarriesOut command shelf new_shelf out new_out) (sym same)
-      (carries_done command shelf new_shelf out new_out (roster_contents cup) reads told.text (record { value = cup; read = refl; told = told.is_text }) told.pushed)
-  carries_cup result (Err fault.WriteFault) same reads some told =
+      (carries_done command shelf new_shelf out new_out (roster_contents cup) reads printed.text (record { value = cup; read = refl; told = printed.is_text }) printed.pushed)
+  carries_cup result (Err fault.WriteFault) same reads some printed =
       subst (CarriesOut command shelf new_shelf out new_out) (sym same)
-      (carries_cut command shelf new_shelf out new_out (roster_contents cup) reads told.text (record { value = cup; read = refl; told = told.is_text }) told.pushed)
-  carries_cup result (Err fault.OutOfMemory) same reads some told =
-      let it = front told.told told.some some in
+      (carries_cut command shelf new_shelf out new_out (roster_contents cup) reads printed.text (record { value = cup; read = refl; told = printed.is_text }) printed.pushed)
+  carries_cup result (Err fault.OutOfMemory) same reads some printed =
+      let it = front printed.printed printed.some some in
       let broken : PushedProperPrefix out new_out it.text = record {
-        front = games_text worlds brains (all_played (length brains) told.told (score_between cup.worlds cup.players seed rounds)) 1;
+        front = games_text worlds brains (all_played (length brains) printed.printed (score_between cup.worlds cup.players seed rounds)) 1;
         rest = it.rest;
         whole = it.whole;
         some_left = it.left;
-        pushed = told.pushed;
+        pushed = printed.pushed;
       } in
       subst (CarriesOut command shelf new_shelf out new_out) (sym same)
       (carries_broken command shelf new_shelf out new_out (roster_contents cup) reads it.text (record { value = cup; read = refl; told = it.is_text }) broken
-      (record { value = cup; read = refl; told = record { told = told.told; some = told.some; is = refl } }))
+      (record { value = cup; read = refl; told = record { told = printed.printed; some = printed.some; is = refl } }))

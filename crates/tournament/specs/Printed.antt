@@ -1,4 +1,4 @@
--- Cups whose games are told, a line each (this project's own).
+-- Cups whose games are printed, a line each (this project's own).
 use Rattle.std.specs.Prelude.{◌≡◌, ℕ, suc, ◌≤◌, List, [], ◌∷◌, ◌++◌, codes, decimal, length, Result, Ok, Err}
 use Rattle.ant_base.specs.Layout.{◌+++◌}
 use Rattle.ant_base.specs.Sink.{SinkState, PushedAll, PushedFront}
@@ -27,40 +27,40 @@ games_text worlds players (it ∷ games) number = game_line_text worlds players 
 abbrev pub cup_played : List (List ℕ) → List (List ℕ) → (ℕ → ℕ → ℕ → Score) → List Played
 cup_played worlds players score = all_played (length players) (length worlds) score
 
--- the text of a cup whose games are told: the line of each game in the order in which they are played, numbered from 1, and then the standing
-pub record IsToldCupText (worlds players : List (List ℕ)) (score : ℕ → ℕ → ℕ → Score) (text : List ℕ) : Type 0 where
+-- the text of a cup whose games are printed: the line of each game in the order in which they are played, numbered from 1, and then the standing
+pub record IsPrintedCupText (worlds players : List (List ℕ)) (score : ℕ → ℕ → ℕ → Score) (text : List ℕ) : Type 0 where
   pub lines : List Line
   pub standing : IsStandingOf (length players) (length worlds) score lines
   pub is : text ≡ games_text worlds players (cup_played worlds players score) 1 ++ standing_text players lines
 
 -- the whole text of such a cup was pushed
-pub record ToldAll (old new : SinkState) (worlds players : List (List ℕ)) (score : ℕ → ℕ → ℕ → Score) : Type 0 where
+pub record PrintedAll (old new : SinkState) (worlds players : List (List ℕ)) (score : ℕ → ℕ → ℕ → Score) : Type 0 where
   pub text : List ℕ
-  pub is_text : IsToldCupText worlds players score text
+  pub is_text : IsPrintedCupText worlds players score text
   pub pushed : PushedAll old new text
 
 -- a prefix of it was pushed, and the sink failed
-pub record ToldFront (old new : SinkState) (worlds players : List (List ℕ)) (score : ℕ → ℕ → ℕ → Score) : Type 0 where
+pub record PrintedFront (old new : SinkState) (worlds players : List (List ℕ)) (score : ℕ → ℕ → ℕ → Score) : Type 0 where
   pub text : List ℕ
-  pub is_text : IsToldCupText worlds players score text
+  pub is_text : IsPrintedCupText worlds players score text
   pub pushed : PushedFront old new text
 
 -- the lines of all games on the first worlds were pushed, and nothing else
-abbrev pub HasTold : SinkState → SinkState → List (List ℕ) → List (List ℕ) → (ℕ → ℕ → ℕ → Score) → ℕ → Type 0
-HasTold old new worlds players score told = PushedAll old new (games_text worlds players (all_played (length players) told score) 1)
+abbrev pub HasPrinted : SinkState → SinkState → List (List ℕ) → List (List ℕ) → (ℕ → ℕ → ℕ → Score) → ℕ → Type 0
+HasPrinted old new worlds players score printed = PushedAll old new (games_text worlds players (all_played (length players) printed score) 1)
 
 -- so were those on some of them
-pub record ToldWorlds (old new : SinkState) (worlds players : List (List ℕ)) (score : ℕ → ℕ → ℕ → Score) : Type 0 where
-  pub told : ℕ
-  pub some : told ≤ length worlds
-  pub pushed : HasTold old new worlds players score told
+pub record PrintedWorlds (old new : SinkState) (worlds players : List (List ℕ)) (score : ℕ → ℕ → ℕ → Score) : Type 0 where
+  pub printed : ℕ
+  pub some : printed ≤ length worlds
+  pub pushed : HasPrinted old new worlds players score printed
 
--- why the telling stopped: the sink failed, or memory was wanting
-abbrev pub ToldBy : SinkState → SinkState → List (List ℕ) → List (List ℕ) → (ℕ → ℕ → ℕ → Score) → PushFault → Type 0
-ToldBy old new worlds players score WriteFault = ToldFront old new worlds players score
-ToldBy old new worlds players score OutOfMemory = ToldWorlds old new worlds players score
+-- why the printing stopped: the sink failed, or out of memory
+abbrev pub PrintedBy : SinkState → SinkState → List (List ℕ) → List (List ℕ) → (ℕ → ℕ → ℕ → Score) → PushFault → Type 0
+PrintedBy old new worlds players score WriteFault = PrintedFront old new worlds players score
+PrintedBy old new worlds players score OutOfMemory = PrintedWorlds old new worlds players score
 
--- what was told of a cup: at Ok all of it
-abbrev pub Told : SinkState → SinkState → List (List ℕ) → List (List ℕ) → (ℕ → ℕ → ℕ → Score) → Result (Unit {0}) PushFault → Type 0
-Told old new worlds players score (Ok _) = ToldAll old new worlds players score
-Told old new worlds players score (Err fault) = ToldBy old new worlds players score fault
+-- what was printed of a cup: at Ok all of it
+abbrev pub Printed : SinkState → SinkState → List (List ℕ) → List (List ℕ) → (ℕ → ℕ → ℕ → Score) → Result (Unit {0}) PushFault → Type 0
+Printed old new worlds players score (Ok _) = PrintedAll old new worlds players score
+Printed old new worlds players score (Err fault) = PrintedBy old new worlds players score fault
