@@ -14,7 +14,7 @@ use Rattle.ant_commands.specs.Jobs.{job_of}
 use Rattle.ant_commands.specs.Job.{IsJobText, Job, WritesInPlay, files_of}
 use Rattle.ant_base.specs.declared.push_fault.PushFault.{PushFault}
 use Rattle.ant_base.specs.declared.push_fault.PushFault.TheVariants as play
-use Rattle.game_tellings.specs.Pushes.{StoppedBefore}
+use Rattle.game_reports.specs.Pushes.{StoppedBefore}
 use Rattle.match_run.specs.Play.{PushedBy, PushedProperPrefix, StoppedBy}
 use Rattle.ant_commands.specs.declared.stop.CommandStop.{CommandStop}
 use Rattle.ant_commands.specs.declared.stop.CommandStop.TheVariants as stop

@@ -11,7 +11,7 @@ use Rattle.ant_base.proofs.Numbered.{numbered-list}
 use Rattle.ant_base.proofs.Pushes.{ends_in_lf-append}
 use Rattle.ant_base.specs.Layout.{numbered, ◌+++◌}
 use Rattle.ant_base.specs.Lines.{ends_in_lf}
-use Rattle.ant_trace.specs.Trace.{lives_in_first, told_line, trace_text, unmade_text, way_line, way_text}
+use Rattle.game_reports.specs.Trace.{lives_in_first, told_line, trace_text, unmade_text, way_line, way_text}
 use Rattle.ant_turn.specs.Minds.{Minds}
 use Rattle.ant_turn.specs.Rounds.{after_rounds, start_of}
 use Rattle.ant_turn.specs.Turn.{instruction_at}
@@ -41,8 +41,8 @@ use Rattle.ant_commands.specs.Setups.{ResumeSetup, RunSetup, ToldSetup, TraceSet
 use Rattle.dump_print.specs.Content.{colour_text}
 use Rattle.dump_print.specs.Texts.{cell_line, cell_words, cells_text, dump_text, row_text, score_text, seed_text, seed_words, stats_text}
 use Rattle.dump_print.specs.declared.totals.Totals.{Totals}
-use Rattle.game_tellings.specs.Events.{events_text, turn_lines}
-use Rattle.game_tellings.specs.Profile.{brain_lines, executed_in_rounds, met_of, met_text, profile_text, state_line as tally_of_state, tally_line, times_of}
+use Rattle.game_reports.specs.Events.{events_text, turn_lines}
+use Rattle.game_reports.specs.Profile.{brain_lines, executed_in_rounds, met_of, met_text, profile_text, state_line as tally_of_state, tally_line, times_of}
 use Rattle.match_run.specs.Told.{told_in_rounds}
 use Rattle.line_tokens.specs.Fields.{LineField, field_text, further_text, line_text}
 use Rattle.match_run.specs.Counts.{counts_text, totals_of, whole_text, both}

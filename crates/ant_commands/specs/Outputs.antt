@@ -2,7 +2,7 @@
 use Rattle.std.specs.Prelude.{◌≡◌, ℕ, ◌≤◌, Bool, true, false, List, [], ◌∷◌, ◌++◌, length, map, nat_eq, slice_index_or, codes, decimal, Option, if◌then◌else◌}
 use Rattle.std.specs.List.{list_any}
 use Rattle.ant_base.specs.Layout.{◌+++◌}
-use Rattle.ant_trace.specs.Trace.{trace_text}
+use Rattle.game_reports.specs.Trace.{trace_text}
 use Rattle.ant_turn.specs.Minds.{Minds, contest_minds}
 use Rattle.ant_turn.specs.Rounds.{start_of}
 use Rattle.ant_turn.specs.Sheet.{Sheet}
@@ -31,8 +31,8 @@ use Rattle.command_words.specs.Slots.{DumpChoice}
 use Rattle.command_words.specs.Table.{default_of}
 use Rattle.command_words.specs.declared.table.Choice.TheVariants.{Blobs, Height, Rocks, Width, Window}
 use Rattle.command_words.specs.Slots.DumpChoice.{NoDump, EveryDump, ChosenDumps}
-use Rattle.game_tellings.specs.Events.{events_text}
-use Rattle.game_tellings.specs.Profile.{profile_text}
+use Rattle.game_reports.specs.Events.{events_text}
+use Rattle.game_reports.specs.Profile.{profile_text}
 use Rattle.match_run.specs.Counts.{totals_of, whole_text}
 use Rattle.match_run.specs.Run.{world_after}
 use Rattle.match_save.specs.Advanced.{advanced}

@@ -20,3 +20,5 @@ pub mod WorkedEdges
 pub mod WorkedEnds
 pub mod WorkedGame
 pub mod WorkedSeeds
+-- Laws, used.
+pub mod LawsUsed

@@ -25,7 +25,7 @@ use Rattle.break_view.specs.Stops.{IsTurn, IsEarlier, IsFirstStop, met_at, world
 --     . . - . .
 --      - . + - #
 --     + . - - .
-abbrev kinds : List Kind
+abbrev pub kinds : List Kind
 kinds =
     Rock ∷ Rock ∷ Rock ∷ Rock ∷ Rock ∷ Rock ∷ Rock
     ∷ Rock ∷ Clear ∷ Clear ∷ Clear ∷ Clear ∷ Clear ∷ Rock
@@ -34,11 +34,11 @@ kinds =
     ∷ Rock ∷ RedHill ∷ Clear ∷ BlackHill ∷ BlackHill ∷ Clear ∷ Rock
     ∷ Rock ∷ Rock ∷ Rock ∷ Rock ∷ Rock ∷ Rock ∷ Rock ∷ []
 
-abbrev start : World
+abbrev pub start : World
 start = world_of (opening 7 6 kinds)
 
 -- red ants flip for nothing, black ones go straight on
-abbrev minds : Minds
+abbrev pub minds : Minds
 minds = contest_minds (Flip 2 0 0 ∷ []) (Move 0 0 ∷ [])
 
 -- the red ant of id 2 dies after the turn of id 1, which steps beside it, and not before
@@ -47,7 +47,7 @@ unfolding world_in_round after_turn turn place_in opening cell_in rock floor put
 killed_then = (refl, refl)
 
 -- so the game stops there first
-killed_first : IsFirstStop minds 12345 5 start (Killed 2 ∷ []) (record { round = 1; id = 1; which = 1 })
+pub killed_first : IsFirstStop minds 12345 5 start (Killed 2 ∷ []) (record { round = 1; id = 1; which = 1 })
 unfolding opening
 killed_first = record {
   turn = record { begun = omega arith; played = omega arith; made = omega arith };

@@ -27,7 +27,7 @@ comments_alone : IsBreakText (codes "; Round 1\n\n ;\n") []
 comments_alone = record { lines = tt; few = omega arith }
 
 -- an id
-one_break : IsBreakText (codes "Killed 2") (Killed 2 ∷ [])
+pub one_break : IsBreakText (codes "Killed 2") (Killed 2 ∷ [])
 unfolding decimal_value
 one_break = record { lines = (record { spelled = (refl, (refl, tt)); in_range = (tt, (omega arith, tt)) }, tt); few = omega arith }
 
@@ -53,7 +53,7 @@ unfolding decimal_value read_text read_line read_number read_coloured read_stand
 every_form = list_read_of _ _ refl
 
 -- one fault of each kind, and the line that has it
-no_such_word : IsBreakFault (codes "Jump 1") (UnknownWord 1)
+pub no_such_word : IsBreakFault (codes "Jump 1") (UnknownWord 1)
 unfolding decimal_value
 no_such_word = first_line_fault-first (codes "Jump 1") (UnknownWord 1) refl
 

@@ -5,6 +5,8 @@ pub mod RisingRounds
 pub mod ToldLemmas
 pub mod RestsUntold
 pub mod WatchLemmas
+-- The score after a change of one cell.
+pub mod ScoreLemmas
 -- What is seen of a turn.
 pub mod SeenLemmas
 -- Windows and their counts.
@@ -23,3 +25,6 @@ pub mod LaterLaws
 pub mod CountWorked
 pub mod RunWorked
 pub mod LaterWorked
+-- Laws, and what is known of a game that stopped, used.
+pub mod LawsUsed
+pub mod StoppedUsed

@@ -1,9 +1,10 @@
 -- What is seen of a turn, by where its ant is; and it doesn't ask for the rest of others, nor does what is told of it alone.
 use Rattle.std.proofs.Common.{◌≡◌, ℕ, Bool, zero, suc, ◌+◌, List, [], ◌∷◌, Option, Some, None, map, ◌∙◌, ap, ap₂, refl, sym, arith}
-use Rattle.std.specs.Prelude.{◌||◌, not, if◌then◌else◌, nat_eq, option_map}
+use Rattle.std.specs.Prelude.{◌||◌, not, if◌then◌else◌, nat_eq, nat_lt, option_map}
 use Rattle.std.specs.List.{flat_map}
 use Rattle.std.specs.Option.{option_and_then}
 use Rattle.std.proofs.Math.Path.{fun_ext}
+use Rattle.std.proofs.lemmas.Bool.{cond_both}
 use Rattle.hex_geometry.specs.declared.position.Pos.{Pos}
 use Rattle.hex_geometry.specs.Neighbourhood.{adjacent_pos, sensed_pos}
 use Rattle.ant_turn.specs.Minds.{Minds, mind_of}
@@ -18,13 +19,13 @@ use Rattle.cell_world.specs.declared.ant.PlacedAnt.{PlacedAnt}
 use Rattle.cell_world.specs.declared.cell.Cell.{Cell}
 use Rattle.cell_world.specs.declared.score.Score.{Score}
 use Rattle.cell_world.specs.Resting.{rests_in, with_rest, with_rests}
-use Rattle.cell_world.specs.Score.{hill_food_of, score_of}
 use Rattle.cell_world.specs.World.{Cells, World, place_in, with_cells}
 use Rattle.cell_world.proofs.Places.{Holder, place_in-ant}
 use Rattle.cell_world.proofs.RestingLemmas.{place_in-with_rests}
 use Rattle.match_run.specs.Seen.{Killed, ahead_of, ant_in, death_place, is_met, killed_as, seen, seen_at, seen_by, seen_from, seen_here, seen_of, unrested}
-use Rattle.match_run.specs.Told.{Telling}
+use Rattle.match_run.specs.Told.{Telling, from_round}
 use Rattle.match_run.specs.Watch.{IgnoresRest}
+use Rattle.match_run.proofs.ScoreLemmas.{score-with_rests}
 
 -- what is told of what is told asks for no more than that
 pub IgnoresRest-mapped : {A B : Type 0} (lines : A → List B) {telling : Telling A} → IgnoresRest telling → IgnoresRest (λ m t. flat_map lines (telling m t))
@@ -33,6 +34,17 @@ IgnoresRest-mapped lines ignores = record {
   resting = λ m t p ant left found is tired. ap (flat_map lines) (ignores.resting m t p ant left found is tired);
   others = λ f t own m. ap (flat_map lines) (ignores.others f t own m);
 }
+
+-- nor does what is told from a round on
+pub IgnoresRest-from : {A : Type 0} (from : ℕ) {telling : ℕ → Telling A} → ((round : ℕ) → IgnoresRest (telling round)) → (round : ℕ) → IgnoresRest (from_round from telling round)
+IgnoresRest-from {A} from {telling} ignores round = record {
+  dead = λ m t none. kept (telling round m t) ((ignores round).dead m t none);
+  resting = λ m t p ant left found is tired. kept (telling round m t) ((ignores round).resting m t p ant left found is tired);
+  others = λ f t own m. ap (λ told. if nat_lt round from then [] else told) ((ignores round).others f t own m);
+}
+  where
+    kept : (told : List A) → told ≡ [] → (if nat_lt round from then [] else told) ≡ []
+    kept told none = cond_both (nat_lt round from) [] told (λ (l : List A). l ≡ []) (λ _. refl) (λ _. none)
 
 module _ (minds : Minds) (seed round : ℕ) (m : Moment) (t : ℕ) where
   -- nothing of the turn of a dead ant
@@ -91,11 +103,6 @@ module _ (f : ℕ → ℕ → ℕ) (w : World) where
 
   killed_as-with_rests : (t u : ℕ) → killed_as (with_rests f w) t u ≡ killed_as w t u
   killed_as-with_rests t u = ap₂ (λ (ant : Option Ant) (place : Option Pos). let k : Killed = record { ant = ant; place = place } in k) (ant_in-unrested u) (death_place-with_rests t u)
-
-  -- the score doesn't ask how long ants rest
-  pub score-with_rests : score_of (with_rests f w) ≡ score_of w
-  unfolding score_of hill_food_of
-  score-with_rests = refl
 
 -- nor whether an answer is the first
 pub is_met-with_rests : (f : ℕ → ℕ → ℕ) (seed : ℕ) (cells : Cells) (place : ℕ) (p : Pos) (ant : Ant) (instruction : Instr) → is_met seed (rests_in f cells) place p ant instruction ≡ is_met seed cells place p ant instruction

@@ -1,8 +1,10 @@
 -- What is told of turns and rounds, one after another.
-use Rattle.std.proofs.Common.{◌≡◌, ℕ, zero, suc, ◌+◌, ◌-◌, ◌≤◌, List, [], ◌++◌, refl, sym, ◌∙◌, ap, append_assoc, append-nil, add-one, arith}
+use Rattle.std.proofs.Common.{◌≡◌, ℕ, zero, suc, ◌+◌, ◌-◌, ◌≤◌, List, [], ◌++◌, refl, sym, ◌∙◌, ap, append_assoc, append-nil, add-one, le-ltb, arith}
+use Rattle.std.proofs.Math.Path.{fun_ext}
+use Rattle.std.proofs.lemmas.Bool.{cond-false}
 use Rattle.ant_turn.specs.Minds.{Minds}
 use Rattle.ant_turn.specs.Rounds.{Moment, after_rounds, after_turns}
-use Rattle.match_run.specs.Told.{Telling, told_in_round, told_in_rounds, told_in_turns}
+use Rattle.match_run.specs.Told.{Telling, from_round, told_in_round, told_in_rounds, told_in_turns}
 
 -- a list that grows by a part at each step begins with what it was
 grown : {A : Type 0} (all part : ℕ → List A) → ((n : ℕ) → all (n + 1) ≡ all n ++ part n) → (i k : ℕ) → (rest : List A) × (all (i + k) ≡ all i ++ rest)
@@ -40,3 +42,7 @@ module _ {A : Type 0} (minds : Minds) (seed : ℕ) where
   pub told_in_rounds-front : (telling : ℕ → Telling A) (m : Moment) (i n : ℕ) → i ≤ n → (rest : List A) × (told_in_rounds telling minds seed m n ≡ told_in_rounds telling minds seed m i ++ rest)
   told_in_rounds-front telling m i n early =
       grown-front (told_in_rounds telling minds seed m) (λ k. told_in_round (telling (k + 1)) minds seed (after_rounds minds seed m k)) (told_in_rounds-more telling m) i n early
+
+-- from round 0 on all is told
+pub from_round-all : {A : Type 0} (telling : ℕ → Telling A) → from_round 0 telling ≡ telling
+from_round-all telling = fun_ext λ round. fun_ext λ m. fun_ext λ t. cond-false _ _ _ (le-ltb round 0 (omega arith))

@@ -1,4 +1,5 @@
--- What is seen of a turn, for reports to tell of (this project's own; turns are the task's kinetics, deaths its martial arts, the score its game play).
+-- What is seen of a turn, for reports to tell of (this project's own; turns are the task's kinetics, deaths its
+-- martial arts, the score its game play).
 use Rattle.std.specs.Prelude.{ℕ, zero, suc, ◌==◌, ◌&&◌, ◌||◌, Bool, true, false, not, if◌then◌else◌, nat_eq, List, [], ◌∷◌, map, Option, Some, None, option_map}
 use Rattle.std.specs.Option.{option_and_then}
 use Rattle.hex_geometry.specs.declared.position.Pos.{Pos}
@@ -16,13 +17,16 @@ use Rattle.cell_world.specs.declared.score.Score.{Score}
 use Rattle.cell_world.specs.Score.{score_of}
 use Rattle.cell_world.specs.World.{Cells, World, place_in, with_cells}
 
--- an ant that is killed in a turn, as if it didn't rest, and the place of its death; each of them has both
+-- an ant that is killed in a turn, as if it didn't rest, and the place of its death; each of them has both in the
+-- worlds of games. They are options so that what is seen is defined by ids in every world, also in one that no game
+-- reaches: there a report by ids and one of what is seen have one text too. The rest is left out because a killed ant
+-- may rest, and nothing that is told may depend on how long others rest (`IgnoresRest`)
 pub record Killed : Type 0 where
   pub ant : Option Ant
   pub place : Option Pos
 
--- what is seen of a turn: its round; the ant as it stood before it, and where; what it executed, and whether its answer was the first; the killed in the order
--- of the checks; the scores before and after
+-- what is seen of a turn: its round; the ant as it stood before it, and where; what it executed, and whether its
+-- answer was the first; the killed in the order of the checks; the scores before and after
 pub record Seen : Type 0 where
   pub round : ℕ
   pub place : Pos
@@ -33,8 +37,8 @@ pub record Seen : Type 0 where
   pub before : Score
   pub after : Score
 
--- whether an instruction's answer is the first: the condition holds, a particle is taken, the ant moves, the number drawn is 0; an instruction
--- with one answer has that
+-- whether an instruction's answer is the first: the condition holds, a particle is taken, the ant moves, the number
+-- drawn is 0; an instruction with one answer has that
 abbrev pub is_met : ℕ → Cells → ℕ → Pos → Ant → Instr → Bool
 is_met seed cells place p ant (Sense sight met unmet condition) = meets (cells (sensed_pos p ant.facing sight)) condition ant.colour
 is_met seed cells place p ant (Mark i next) = true
@@ -83,7 +87,8 @@ ant_in w t = option_and_then (λ p. (w.cells p).ant) (place_in w t)
 unfoldable pub ahead_of : World → ℕ → Option Pos
 ahead_of w t = option_and_then (λ p. option_map (λ (ant : Ant). adjacent_pos p ant.facing) (w.cells p).ant) (place_in w t)
 
--- where an ant dies that is killed in the turn of t in this world: that of t on the cell ahead, onto which it has moved, and each other where it stands
+-- where an ant dies that is killed in the turn of t in this world: that of t on the cell ahead, onto which it has
+-- moved, and each other where it stands
 unfoldable pub death_place : World → ℕ → ℕ → Option Pos
 death_place w t killed = if nat_eq killed t then ahead_of w t else place_in w killed
 

@@ -1,5 +1,6 @@
--- What is told of the turns of a game, one after another (this project's own; turns and rounds are the task's kinetics).
-use Rattle.std.specs.Prelude.{ℕ, zero, suc, ◌+◌, List, [], ◌++◌}
+-- What is told of the turns of a game, one after another (this project's own; turns and rounds are the task's
+-- kinetics).
+use Rattle.std.specs.Prelude.{ℕ, zero, suc, ◌+◌, List, [], ◌++◌, if◌then◌else◌, nat_lt}
 use Rattle.ant_turn.specs.Minds.{Minds}
 use Rattle.ant_turn.specs.Rounds.{Moment, after_rounds, after_turns}
 
@@ -20,3 +21,7 @@ told_in_round telling minds seed m = told_in_turns telling minds seed m 0 m.worl
 abbrev pub told_in_rounds : {A : Type 0} → (ℕ → Telling A) → Minds → ℕ → Moment → ℕ → List A
 told_in_rounds telling minds seed m zero = []
 told_in_rounds telling minds seed m (suc n) = told_in_rounds telling minds seed m n ++ told_in_round (telling (suc n)) minds seed (after_rounds minds seed m n)
+
+-- what is told from round `from` on: nothing of the turns of earlier rounds
+abbrev pub from_round : {A : Type 0} → ℕ → (ℕ → Telling A) → ℕ → Telling A
+from_round from telling round m t = if nat_lt round from then [] else telling round m t

@@ -1,5 +1,6 @@
 // What a game is played on.
 ghost use Rattle.std.specs.Prelude.{◌≡◌, ◌+◌, ◌-◌, ◌≤◌, take};
+ghost use Rattle.std.proofs.Common.{rules};
 ghost use Rattle.cell_world.specs.Resting.{ActsListed, rested};
 ghost use Rattle.cell_world.specs.Valid.{Valid};
 
@@ -20,6 +21,9 @@ pub trait Board: Ground {
         ensures world { Self.world self.new ≡ rested from to (Self.world self.old) }
         ensures listed { ActsListed (Self.world self.old) from (to - from) (take result acting.new) }
         ensures count { result ≤ to - from };
+
+    /// It has room for a turn at any time.
+    ghost roomy: { (board : Self) → 9 ≤ Self.room board };
 }
 
 impl Board for World {
@@ -32,4 +36,6 @@ impl Board for World {
     fn count_down_rests(&mut self, from: u32, to: u32, acting: &mut [u16; 64]) -> usize {
         World::count_down_rests(self, from, to, acting)
     }
+
+    ghost roomy = { Prim.search rules };
 }

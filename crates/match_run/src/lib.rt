@@ -1,12 +1,14 @@
 //! Games of the ant world, and the text of a run.
 //!
-//! The task's game play: rounds are played one after another, each one turn of each id in rising order, with one stream of random
-//! numbers from place 0. A `Game` is played round by round by any crew, in windows of turns: it stands where the turns lead one after
-//! another, and counts how many of them were taken from looks, which depends on the turns and on the size of a window alone. `play` pushes
-//! the text of a run with its counts, by any crew. A `SequentialGame` is just played, turn after turn, in memory that doesn't grow with the
-//! rounds: `play_alone` pushes the text without counts so, and `play_score` gives a game's score alone. The laws say what the text is made
-//! of, which rounds a list adds to it, what the counts add up to, and that a game may be broken off and gone on with. What names no section
-//! of the contest's task is this project's own. This crate stands on `round_book`, `ant_turn` and `dump_print`.
+//! The task's game play: rounds are played one after another, each one turn of each id in rising order, with one stream
+//! of random numbers from place 0. A `Game` is played round by round by any crew, in windows of turns: it stands where
+//! the turns lead one after another, and counts how many of them were taken from looks, which depends on the turns and
+//! on the size of a window alone. `play` pushes the text of a run with its counts, by any crew. A `SequentialGame` is
+//! just played, turn after turn, in memory that doesn't grow with the rounds, by the one loop of `watch_rounds`, which
+//! plays a game before a `Watch`: `play_alone` pushes the text without counts so, and `play_score` gives a game's score
+//! alone. The laws say what the text is made of, which rounds a list adds to it, what the counts add up to, and that a
+//! game may be broken off and gone on with. What names no section of the contest's task is this project's own. This
+//! crate stands on `round_book`, `ant_turn` and `dump_print`.
 #![tactic(auto)]
 
 mod alone;
@@ -15,6 +17,7 @@ mod dumps;
 mod game;
 mod laws;
 mod plan;
+mod scored_world;
 mod sequential_game;
 mod watch;
 mod watched;
@@ -35,6 +38,7 @@ pub use laws::{
     totals_add_up, whole_rounds,
 };
 pub use plan::{MOST_ROUNDS, Plan};
+pub use scored_world::ScoredWorld;
 pub use sequential_game::SequentialGame;
 pub use watch::Watch;
 pub use watched::{watch_round, watch_rounds};

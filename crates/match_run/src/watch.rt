@@ -13,8 +13,8 @@ use ant_random::Stream;
 use ant_turn::{Brains, act};
 use cell_world::{PlacedAnt, World};
 
-/// Who watches a game: it takes each turn of an ant that is alive and doesn't rest, and writes what is told of it to a log. It may end
-/// the game.
+/// A watch of a game: it takes each turn of an ant that is alive and doesn't rest, and writes what it reports of that
+/// turn to a log. It may end the game.
 pub trait Watch {
     /// What the game is played on.
     type On: Board;

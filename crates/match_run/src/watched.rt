@@ -1,5 +1,5 @@
 // A game, played before who watches it: the one loop over rounds and turns.
-ghost use Rattle.std.specs.Prelude.{◌≡◌, ◌+◌, ◌-◌, ◌*◌, ◌<◌, ◌≤◌, ◌^◌, ℕ, length};
+ghost use Rattle.std.specs.Prelude.{◌+◌, ◌-◌, ◌*◌, ◌<◌, ◌≤◌, ◌^◌, ℕ, length};
 ghost use Rattle.ant_turn.specs.Listed.{AreUp, IsUp, after_listed};
 ghost use Rattle.ant_turn.specs.Minds.{AreSound, Fits, minds_of};
 ghost use Rattle.ant_turn.specs.Rounds.{after_round, after_rounds, after_turn, after_turns};
@@ -14,8 +14,8 @@ use ant_random::Stream;
 use ant_turn::Brains;
 use cell_world::Ground;
 
-/// Plays so many rounds before who watches, counted from 1 (the task's kinetics). Each ant's state is below the length of its colour's brain. It ends
-/// early only where the watch ends it, and takes no memory.
+/// Plays the given number of rounds, counted from 1, before a watch (the task's kinetics). Each ant's state is below
+/// the length of its colour's brain. The game ends early only if the watch ends it. It takes no memory.
 #[inline(always)]
 pub fn watch_rounds<W: Watch>(
     watch: &W,
@@ -39,7 +39,8 @@ pub fn watch_rounds<W: Watch>(
     Ok(())
 }
 
-/// Plays one round before who watches: a turn of each id in rising order (the task's kinetics), 64 ids after another.
+/// Plays one round before a watch: a turn of each id, in rising order (the task's kinetics). The condition and the
+/// early end are those of `watch_rounds`.
 #[inline(always)]
 pub fn watch_round<W: Watch>(
     watch: &W,
@@ -61,40 +62,46 @@ pub fn watch_round<W: Watch>(
     let mut from = 0;
     while from < ids {
         let to = ids.min(from + 64);
-        watch_chunk(watch, board, brains, stream, from, to, round, log)?;
+        watch_chunk(watch, board, brains, stream, Chunk { from, to }, round, log)?;
         from = to;
     }
     Ok(())
 }
 
-// Plays the turns of the ids from `from` to below `to`, at most 64: those of resting ants first, of which nothing is told, and then the others in
-// rising order.
+// The ids from `from` to below `to`, at most 64.
+#[derive(Clone, Copy)]
+struct Chunk {
+    from: u32,
+    to: u32,
+    ghost order: { from ≤ to },
+    ghost few: { to ≤ from + 64 },
+}
+
+// Plays the turns of a chunk: those of resting ants first, of which nothing is told, and then the others in rising
+// order.
 #[inline(always)]
 fn watch_chunk<W: Watch>(
     watch: &W,
     board: &mut W::On,
     brains: &Brains<'_>,
     stream: &mut Stream,
-    from: u32,
-    to: u32,
+    chunk: Chunk,
     round: u32,
     log: &mut W::Log,
 ) -> Result<(), W::Stop>
     requires fair { (seed : ℕ) → IsFair (W.telling watch.now (minds_of brains.now) seed) (W.logs watch.now) (W.ready watch.now (minds_of brains.now)) }
     requires fit { Fits (W.On.world board.old) (minds_of brains.now) }
-    requires order { from ≤ to }
-    requires made { to ≤ (W.On.world board.old).ids }
-    requires few { to ≤ from + 64 }
-    requires place { stream.old.place + (to - from) < 2 ^ 63 }
-    requires ready { W.ready watch.now (minds_of brains.now) log.old (to - from) }
+    requires made { chunk.to ≤ (W.On.world board.old).ids }
+    requires place { stream.old.place + (chunk.to - chunk.from) < 2 ^ 63 }
+    requires ready { W.ready watch.now (minds_of brains.now) log.old (chunk.to - chunk.from) }
     ensures { IsWatched (W.logs watch.now) (W.ready watch.now (minds_of brains.now)) (minds_of brains.now) stream.old log.old log.new
-        (told_in_turns (W.telling watch.now (minds_of brains.now) stream.old.seed round) (minds_of brains.now) stream.old.seed (moment_of (W.On.world board.old) stream.old) from (to - from)) (to - from)
-        (after_turns (minds_of brains.now) stream.old.seed (moment_of (W.On.world board.old) stream.old) from (to - from)) (W.On.world board.new) stream.new result }
+        (told_in_turns (W.telling watch.now (minds_of brains.now) stream.old.seed round) (minds_of brains.now) stream.old.seed (moment_of (W.On.world board.old) stream.old) chunk.from (chunk.to - chunk.from)) (chunk.to - chunk.from)
+        (after_turns (minds_of brains.now) stream.old.seed (moment_of (W.On.world board.old) stream.old) chunk.from (chunk.to - chunk.from)) (W.On.world board.new) stream.new result }
 {
     lemma_sound(*brains);
     let _ids = board.ids();
     let mut acting = [0; 64];
-    let count = board.count_down_rests(from, to, &mut acting);
+    let count = board.count_down_rests(chunk.from, chunk.to, &mut acting);
     watch_listed(watch, board, brains, stream, &acting[..count], round, log)
 }
 

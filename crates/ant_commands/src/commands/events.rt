@@ -5,7 +5,7 @@ ghost use Rattle.ant_turn.specs.Minds.{Fits};
 ghost use Rattle.cell_world.specs.Grid.{world_of};
 ghost use Rattle.ant_commands.specs.Jobs.{events_job};
 ghost use Rattle.ant_commands.specs.Setups.{plain_told};
-ghost use Rattle.game_tellings.specs.Events.{events_text};
+ghost use Rattle.game_reports.specs.Events.{events_text};
 ghost use Rattle.match_run.specs.Run.{most_rounds};
 ghost use Rattle.ant_commands.specs.Inner.Plans.{minds_by};
 ghost use Rattle.ant_commands.specs.Inner.Reading.{CarriesOut, ending_of};
@@ -34,7 +34,7 @@ fn push_events<K: Sink>(
         black: &black,
         sheet,
     };
-    game_tellings::events(world, brains, seed, rounds, out)
+    game_reports::events(world, brains, seed, rounds, out)
 }
 
 /// Plays a game turn by turn, and writes who died in it and how the score went.

@@ -4,8 +4,8 @@ ghost use Rattle.ant_turn.specs.Minds.{Fits};
 ghost use Rattle.cell_world.specs.Grid.{world_of};
 ghost use Rattle.ant_commands.specs.Jobs.{profile_job};
 ghost use Rattle.ant_commands.specs.Setups.{plain_told};
-ghost use Rattle.game_tellings.specs.Profile.{profile_text};
-ghost use Rattle.game_tellings.specs.Pushes.{PushedBefore};
+ghost use Rattle.game_reports.specs.Profile.{profile_text};
+ghost use Rattle.game_reports.specs.Pushes.{PushedBefore};
 ghost use Rattle.match_run.specs.Run.{most_rounds};
 ghost use Rattle.ant_commands.specs.Inner.Plans.{minds_by};
 ghost use Rattle.ant_commands.specs.Inner.Reading.{CarriesOut, ending_of};
@@ -35,7 +35,7 @@ fn push_profile<K: Sink>(
         black: &black,
         sheet,
     };
-    game_tellings::profile(alloc, world, brains, seed, rounds, out)
+    game_reports::profile(alloc, world, brains, seed, rounds, out)
 }
 
 /// Plays a game turn by turn, and writes how often each state was executed in it. Nothing is written before the last round is played.

@@ -1,7 +1,7 @@
 // The command `trace`.
 ghost use Rattle.std.specs.Prelude.{◌≤◌};
 ghost use Rattle.ant_base.specs.Sink.{Pushed};
-ghost use Rattle.ant_trace.specs.Trace.{trace_text};
+ghost use Rattle.game_reports.specs.Trace.{trace_text};
 ghost use Rattle.ant_turn.specs.Minds.{Fits};
 ghost use Rattle.cell_world.specs.Grid.{world_of};
 ghost use Rattle.ant_commands.specs.Jobs.{trace_job};
@@ -13,8 +13,8 @@ ghost use Rattle.ant_commands.specs.Inner.Reading.{CarriesOut, ending_of};
 use crate::commands::game::{GameWords, Setting, setting_of};
 use crate::stop::{CommandStop, after_push};
 use ant_base::{Failed, Shelf, Sink};
-use ant_trace::TracePlan;
 use ant_turn::{Brains, Sheet};
+use game_reports::TracePlan;
 use std::alloc::Global;
 
 // Plays a game, and pushes an ant's way through it.
@@ -35,7 +35,7 @@ fn push_way<K: Sink>(
         black: &black,
         sheet,
     };
-    ant_trace::trace(world, brains, plan, out)
+    game_reports::trace(world, brains, plan, out)
 }
 
 /// Plays a game turn by turn, and writes one ant's way through it.

@@ -1,0 +1,6 @@
+-- Stepping stones between the definitions and the code: no public clause cites them.
+pub mod Broken
+pub mod Chunks
+pub mod EventWords
+pub mod Tallies
+pub mod WayWords

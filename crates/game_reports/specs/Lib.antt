@@ -1,0 +1,16 @@
+pub mod Events
+pub mod Inner
+pub mod Laws
+pub mod Profile
+pub mod Pushes
+pub mod Report
+pub mod Trace
+pub use Rattle.ant_base.specs.Layout
+pub use Rattle.ant_base.specs.Sink
+pub use Rattle.ant_turn.specs.Minds
+pub use Rattle.ant_turn.specs.Rounds
+pub use Rattle.cell_world.specs.Grid
+pub use Rattle.cell_world.specs.Score
+pub use Rattle.cell_world.specs.World
+pub use Rattle.match_run.specs.Run
+pub use Rattle.match_run.specs.Sequential

@@ -1,5 +1,0 @@
-use Rattle.game_tellings.proofs.CountLaws.{counts_add_up}
-use Rattle.game_tellings.proofs.laws.counts_add_up.Goals as goal
-
-pub returns : goal.returns
-returns c = counts_add_up

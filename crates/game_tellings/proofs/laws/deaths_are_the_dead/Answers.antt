@@ -1,5 +1,0 @@
-use Rattle.game_tellings.proofs.DeathLaws.{deaths_are_the_dead}
-use Rattle.game_tellings.proofs.laws.deaths_are_the_dead.Goals as goal
-
-pub returns : goal.returns
-returns c = deaths_are_the_dead

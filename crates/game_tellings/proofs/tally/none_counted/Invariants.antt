@@ -1,8 +1,0 @@
-use Rattle.std.proofs.Common.{[]}
-use Rattle.cell_world.specs.declared.ant.Colour.{Colour}
-use Rattle.game_tellings.specs.Inner.Tallies.{IsTallied}
-use Rattle.game_tellings.proofs.tally.none_counted.Given as goal
-
--- there are so many
-abbrev pub invariant-loop : goal.invariant-loop
-invariant-loop l = (colour : Colour) → IsTallied colour l.counter [] l.tallies.items

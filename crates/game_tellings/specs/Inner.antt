@@ -1,4 +1,0 @@
--- Stepping stones between the definitions and the code: no public clause cites them.
-pub mod Broken
-pub mod Chunks
-pub mod Tallies
