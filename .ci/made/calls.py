@@ -31,8 +31,8 @@ def length_of(text, opening, closing):
 
 
 def uncalled(texts, others):
-    """The file and the name of each public function that nothing calls by its name and its number of arguments, or passes on by its name. An exported
-    one is called if the `others`, which are texts in other languages, have its name."""
+    """The file and the name of each public function that nothing calls by its name and its number of arguments, and
+    nothing passes on by its name. An exported one is called if `others`, texts in other languages, have its name."""
     codes = {path: code_of(text) for path, text in texts.items()}
     called = collections.defaultdict(set)
     for code in codes.values():

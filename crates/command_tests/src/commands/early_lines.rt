@@ -1,5 +1,5 @@
-// Lines that are written while a game is played: once the output fails at one, nothing more is played. Each game has a million rounds of 16,361
-// turns, which take longer than a test has.
+// Lines that are written while a game is played: once the output fails at one, nothing more is played. Each game has a
+// million rounds of 16,361 turns, which take longer than a test has.
 use crate::commands::{CLOSED, check, cut, game_of};
 use std::alloc::Global;
 use std::process::Abort;
@@ -48,8 +48,9 @@ fn crowd(alloc: Global) -> Result<String, Fail> {
 // A small world.
 static MORE: [(&str, &str); 1] = [("v", CLOSED)];
 
-// Words, and the text up to where the output fails: in the line of the death in round 1; in the line of round 1; and in the second of the two games
-// on the small world, before a game on the other one. The rows before that of black ant 245 have 122 red ants and a black one, and 122 red ones.
+// Words, and the text up to where the output fails: in the line of the death in round 1; in the line of round 1; and in
+// the line of the second game on the small world, before a game on the other one. Above black ant 245 are 122 red ants
+// in row 1, and a black and 122 red ones in row 2.
 const EARLY: [(&str, &str); 3] = [
     (
         "events w r b --seed 12345 --rounds 1000000",

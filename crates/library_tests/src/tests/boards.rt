@@ -1,5 +1,5 @@
-// The steps of a board for the seven turns of a round, on one thread: which seat finds the book and which look, and what a closed board
-// leaves. And that a worker alone brings the book to the window's end.
+// The steps of a board for the seven turns of a round, on one thread: which seat finds the book and which look, and
+// what a closed board leaves. And that a worker alone brings the book to the window's end.
 ghost use Rattle.std.specs.Prelude.{◌≡◌, ◌+◌, ◌<◌, ◌≤◌, ◌^◌, true, IfOk};
 ghost use Rattle.round_book.specs.Book.{CanBegin, IsLentFor, StandsFor, window_of};
 ghost use Rattle.round_book.specs.Machine.{times};
@@ -88,7 +88,8 @@ fn check_left<R: Abort>(rt: &R, looks: &[Option<Look>], wanted: &[bool]) {
     }
 }
 
-// The second seat puts the look of turn 1. The first one has the book, finds no look of turn 0, and puts it. The second one settles both.
+// The second seat puts the look of turn 1. The first one has the book, finds no look of turn 0, and puts it. The second
+// one settles both.
 fn settle_two<R: Abort>(rt: &R, alloc: Global, field: &mut Field<'_>) -> Result<(), Fail>
     requires { CanBegin field.old 0 7 }
 {

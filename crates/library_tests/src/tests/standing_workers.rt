@@ -1,4 +1,5 @@
-// Errands by far workers, who look at the same time. Looks that agree with a field, and looks that don't. And what takes memory, with it.
+// Errands by far workers, who look at the same time. Looks that agree with a field, and looks that don't. And what takes
+// memory, with it.
 ghost use Rattle.std.specs.Prelude.{◌≡◌, ◌+◌, ◌<◌, ◌≤◌, ◌^◌, true, IfOk, length};
 ghost use Rattle.std.specs.List.{AllByRecursion};
 ghost use Rattle.std.specs.Option.{ForSome};
@@ -191,7 +192,8 @@ fn later_field<'b, R: Abort>(
     Ok(field)
 }
 
-// Asserts of each table whether the looks agree with their field: that of the game's start, or that after its first round.
+// Asserts of each table whether the looks agree with their field: that of the game's start, or that after its first
+// round.
 fn check_agreement<R: Abort>(rt: &R, alloc: Global, players: &Players) -> Result<(), Fail> {
     let found = first_looks(rt, alloc, players)?;
     let opening = field_of(rt, alloc, players)?;
@@ -241,8 +243,8 @@ fn an_errand_may_end_early(rt: HostRuntime) {
 // Turns after which a worker that waits for the other one gives up.
 const PATIENCE: u32 = 100_000_000;
 
-// A gate at which two workers wait for each other, each up to its patience: which of them has called it, how often each turn was announced, and
-// whether one waited in vain or was neither of them.
+// A gate at which two workers wait for each other, each up to its patience: which of them has called it, how often each
+// turn was announced, and whether one waited in vain or was neither of them.
 #[derive(Drop)]
 struct Pair {
     begun: [AtomicBool; 2],

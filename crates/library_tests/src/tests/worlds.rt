@@ -1,4 +1,5 @@
-// What no clause says: that there is memory for worlds and for a copy, and that what workers share and own may go to threads.
+// What no clause says: that there is memory for worlds and for a copy, and that what workers share and own may go to
+// threads.
 use crate::tests::{RED, ROCK, shared};
 use brain_read::Brain;
 use cell_world::{Ant, Cell, Colour, Kind, Marks, Part, Parts, Score, World};
