@@ -55,8 +55,8 @@ def game_output(
 ) -> str:
     """What a command prints of a game, with the numbers that stand behind its files, the numbers of the rules where they are given, and more options."""
     words = [command, *game, *places, "--seed", number_of("seed", seed), "--rounds", _rounds(rounds), *options]
-    for name, value, least, most in zip(("surround", "corpse", "rest"), sheet, (4, 0, 0), (6, 9, 255)):
-        words += ["--" + name, number_of(name, value, least, most)]
+    for name, value, least, greatest in zip(("surround", "corpse", "rest"), sheet, (4, 0, 0), (6, 9, 255)):
+        words += ["--" + name, number_of(name, value, least, greatest)]
     return output_of(words, game, lambda: read_game(game), most)
 
 
