@@ -176,7 +176,7 @@ EachEndsInLf job = (fetches : List Fetched) (contents : List FileContent) (text 
 -- the version's line ends in LF, and so does each output of `asm`, except an empty one of `--labels` alone
 texts_end_in_lf_used : TextsEndInLf → (ends_in_lf version_text ≡ true) × EachEndsInLf (asm_job (codes "p") false false) × EachEndsInLf (asm_job (codes "p") true true)
     × ((fetches : List Fetched) (contents : List FileContent) (text : List ℕ) → AreAccepted (files_of (asm_job (codes "p") true false)) fetches contents
-        → IsJobText (asm_job (codes "p") true false) contents text → text ≢ [] → ends_in_lf text ≡ true)
+    → IsJobText (asm_job (codes "p") true false) contents text → text ≢ [] → ends_in_lf text ≡ true)
 unfolding is_among
 texts_end_in_lf_used law = (
   elim (law (asked_in Version (words_of (codes "--version"))) [] [] version_text version_within (refl, refl) (record { value = tt; read = refl; told = refl })) [
@@ -408,9 +408,9 @@ refused_words_used : RefusedWords →
 unfolding is_among
 refused_words_used law = (
   λ before after number run.
-    let it = law.refused no_rounds_words before after number run (read-none no_rounds_words 7 no_rounds_read) in
-    let at = at_word_7 before after it.1 in
-    (it.0, at.0, at.1, at.2),
+      let it = law.refused no_rounds_words before after number run (read-none no_rounds_words 7 no_rounds_read) in
+      let at = at_word_7 before after it.1 in
+      (it.0, at.0, at.1, at.2),
   law.accepted plain_words (asked_in Run plain_words) (read-accepts plain_words (asked_in Run plain_words) plain_read) refl refl,
 )
 
@@ -438,11 +438,11 @@ saves_are_resumed_used : SavesAreResumed → (game : ReadGame) → IsGameOf (cod
     ((text : List ℕ) → IsSave game text → (saved : SavedValue) × Reads (SaveFile 5) text (SaveContent saved))
     × ((text : List ℕ) (at : List ℕ → Option (List ℕ)) → IsSave game text → at (codes "s") ≡ Some text → (saved : SavedValue) × IsJudged at (files_of resumed) (AllAccepted (SaveContent saved ∷ [])))
     × ((saved : SavedValue) (text rest : List ℕ) → IsAfter game 2 saved → IsJobText (run_job (codes "w") (codes "r") (codes "b") counted) (game_contents game) text
-        → IsJobText resumed (save_contents saved) rest → text ≡ front_output counted 2 game ++ rest)
+    → IsJobText resumed (save_contents saved) rest → text ≡ front_output counted 2 game ++ rest)
     × ((saved : SavedValue) (text : List ℕ) → IsAfter game 2 saved → IsJobText (advance_job (codes "s") 4 1) (save_contents saved) text
-        → IsJobText (save_job (codes "w") (codes "r") (codes "b") (saved_setup counted 4 16)) (game_contents game) text)
+    → IsJobText (save_job (codes "w") (codes "r") (codes "b") (saved_setup counted 4 16)) (game_contents game) text)
     × ((saved changed : SavedValue) (rest last : List ℕ) → IsAfter game 2 saved → IsAfter game 4 changed → IsJobText resumed (save_contents saved) rest → IsJobText resumed (save_contents changed) last
-        → front_output counted 2 game ++ rest ≡ front_output counted 4 game ++ last)
+    → front_output counted 2 game ++ rest ≡ front_output counted 4 game ++ last)
 saves_are_resumed_used law game is = (
   λ text save. law.accepted (codes "w") (codes "r") (codes "b") counted game 2 1 text is (omega arith) save,
   λ text at save there. law.fetched (codes "w") (codes "r") (codes "b") (codes "s") counted game 2 1 16 text at is (omega arith) save there,

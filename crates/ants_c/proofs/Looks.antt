@@ -17,7 +17,7 @@ use Rattle.brain_read.specs.declared.instr.Instr.{Instr}
 use Rattle.cell_world.specs.Grid.{Grid, world_of}
 use Rattle.cell_world.specs.World.{World}
 use Rattle.match_run.specs.Run.{world_after}
-use Rattle.match_run.specs.Sequential.{IsPlayedOn, SequentialValue, standing}
+use Rattle.match_run.specs.Alone.{IsPlayedOn, GameAloneValue, standing}
 use Rattle.ants_c.specs.Looked.{AreRising, ants_after, seen_ant, seen_ants}
 use Rattle.ants_c.specs.Played.{game_score}
 use Rattle.ants_c.specs.declared.ant.AntsAnt.{AntsAnt}
@@ -53,19 +53,19 @@ AreRising-from least from [] below rising = rising
 AreRising-from least from (round ∷ rounds) below rising = let later = rising.0 in (omega (arith, below, later), rising.1, rising.2)
 
 -- a game stands where so many rounds of it led, and the rounds to come rise from there on
-pub record Looking (world : Grid) (red black : List Instr) (seed : ℕ) (rounds : List ℕ) (index : ℕ) (game : SequentialValue) : Type 0 where
+pub record Looking (world : Grid) (red black : List Instr) (seed : ℕ) (rounds : List ℕ) (index : ℕ) (game : GameAloneValue) : Type 0 where
   pub minds : game.minds ≡ contest_minds red black
   pub same_seed : game.seed ≡ seed
   pub stands : standing game ≡ after_rounds (contest_minds red black) seed (start_of (world_of world)) game.done
   pub later : AreRising game.done (drop index rounds)
 
 -- the next round is at least the one after which it stands, and within the limit
-pub next_round : (world : Grid) (red black : List Instr) (seed : ℕ) (rounds : List ℕ) (index : ℕ) (game : SequentialValue) → Looking world red black seed rounds index game → index < length rounds
+pub next_round : (world : Grid) (red black : List Instr) (seed : ℕ) (rounds : List ℕ) (index : ℕ) (game : GameAloneValue) → Looking world red black seed rounds index game → index < length rounds
     → AreRising game.done (slice_index_or rounds index 0 ∷ drop (index + 1) rounds)
 next_round world red black seed rounds index game it below = subst (AreRising game.done) (drop_more rounds index 0 below) it.later
 
 -- it is played on to the next round
-pub looked_on : (world : Grid) (red black : List Instr) (seed : ℕ) (rounds : List ℕ) (index : ℕ) (game new : SequentialValue) → Looking world red black seed rounds index game → index < length rounds
+pub looked_on : (world : Grid) (red black : List Instr) (seed : ℕ) (rounds : List ℕ) (index : ℕ) (game new : GameAloneValue) → Looking world red black seed rounds index game → index < length rounds
     → IsPlayedOn game new (slice_index_or rounds index 0 - game.done)
     → Looking world red black seed rounds (index + 1) new × (world_of new.world ≡ world_after (contest_minds red black) seed (world_of world) (slice_index_or rounds index 0))
 unfolding world_after

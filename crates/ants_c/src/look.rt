@@ -10,7 +10,7 @@ use crate::read::Setting;
 use crate::score::AntsScore;
 use ant_turn::{Brains, Sheet};
 use cell_world::{Colour, World};
-use match_run::{MOST_ROUNDS, SequentialGame};
+use match_run::{GameAlone, MOST_ROUNDS};
 
 /// Whether each round is above the one before it, and none is above 1,000,000.
 pub fn are_rising(rounds: &[u32]) -> bool
@@ -108,7 +108,7 @@ pub fn put_looks(
         sheet: Sheet::contest(),
     };
     let ids = world.ant_count() as usize;
-    let mut game = SequentialGame::begin(world, brains, seed);
+    let mut game = GameAlone::begin(world, brains, seed);
     for index in 0..rounds.len() {
         game.play_on(rounds[index] - game.done());
         let score = game.world().score();

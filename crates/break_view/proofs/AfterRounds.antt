@@ -7,7 +7,7 @@ use Rattle.ant_turn.proofs.KeptByRounds.{after_rounds-more}
 use Rattle.cell_world.specs.Grid.{Grid, world_of}
 use Rattle.cell_world.specs.Limits.{most_ants}
 use Rattle.cell_world.specs.World.{World}
-use Rattle.match_run.specs.Inner.Sequential.{RoundTaken, moment_from}
+use Rattle.match_run.specs.Inner.Alone.{RoundTaken, moment_from}
 use Rattle.match_run.specs.Run.{world_after}
 use Rattle.round_book.proofs.BookLemmas.{moment_at}
 

@@ -10,8 +10,8 @@ use Rattle.cell_world.specs.Limits.{most_ants}
 use Rattle.cell_world.specs.Score.{score_of}
 use Rattle.cell_world.specs.World.{World}
 use Rattle.cell_world.specs.declared.score.Score.{Score}
-use Rattle.match_run.specs.Inner.Sequential.{moment_from}
-use Rattle.match_run.proofs.SequentialLemmas.{IsTaken}
+use Rattle.match_run.specs.Inner.Alone.{moment_from}
+use Rattle.match_run.proofs.AloneLemmas.{IsTaken}
 use Rattle.break_view.proofs.AfterRounds.{IsAfter, IsAfter-none, IsAfter-more, IsAfter-world}
 use Rattle.break_view.specs.declared.breaks.Break.{Break}
 use Rattle.break_view.specs.declared.stop.Stop.{Stop}

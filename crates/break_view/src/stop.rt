@@ -5,7 +5,7 @@ ghost use Rattle.ant_turn.specs.Minds.{Fits, minds_of};
 ghost use Rattle.cell_world.specs.Grid.{world_of};
 ghost use Rattle.cell_world.specs.Limits.{most_ants};
 ghost use Rattle.cell_world.specs.Score.{score_of};
-ghost use Rattle.match_run.specs.Inner.Sequential.{LastsARound, moment_from};
+ghost use Rattle.match_run.specs.Inner.Alone.{LastsARound, moment_from};
 ghost use Rattle.match_run.specs.Run.{most_rounds};
 ghost use Rattle.break_view.specs.Grammar.{most_breaks};
 ghost use Rattle.break_view.specs.Stops.{EndsAt};

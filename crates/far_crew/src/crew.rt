@@ -6,10 +6,10 @@ ghost use Rattle.far_crew.specs.Crews.{IsUnstarted, turns_of};
 ghost use Rattle.far_crew.specs.Inner.Turns.{AreTurnsOf, window_on};
 
 use crate::caller::Caller;
+use crate::channels::WorkerChannels;
 use crate::deal::prepare_all;
 use crate::guesses::{GuessedTurns, guesses_in};
 use crate::kept::{Copies, brains_in, world_in};
-use crate::line::Line;
 use crate::own_brains::OwnBrains;
 use crate::pick::{Pick, choose, take_room};
 use crate::settle::settle;
@@ -28,7 +28,7 @@ use std::sync::{Arc, Wait};
 pub struct FarCrew<'c, R: Wait, G: Gate> {
     rt: &'c R,
     caller: Caller<'c, G>,
-    lines: Vec<Line>,
+    lines: Vec<WorkerChannels>,
     base: Option<Arc<World>>,
     minds: Option<Arc<OwnBrains>>,
     picks: Vec<Option<Pick>>,
@@ -43,7 +43,7 @@ impl<'c, R: Wait, G: Gate> FarCrew<'c, R, G> {
         alloc: Global,
         gate: &'c G,
         workers: u32,
-        lines: Vec<Line>,
+        lines: Vec<WorkerChannels>,
     ) -> FarCrew<'c, R, G>
         ensures lines { result.lines ≡ lines }
         ensures caller { result.caller.worker ≡ workers }
@@ -171,21 +171,21 @@ impl<'c, R: Wait, G: Gate> FarCrew<'c, R, G> {
 }
 
 // Gives back what the last window shared with each line.
-fn clear_all(lines: &mut [Line]) {
+fn clear_all(lines: &mut [WorkerChannels]) {
     for line in lines {
         line.clear();
     }
 }
 
 // Sends each line its job.
-fn ask_all<R: Wait>(rt: &R, lines: &mut [Line]) {
+fn ask_all<R: Wait>(rt: &R, lines: &mut [WorkerChannels]) {
     for line in lines {
         line.ask(rt);
     }
 }
 
 // Takes in an answer of each line that was sent a job.
-fn take_in_all<R: Wait>(rt: &R, lines: &mut [Line]) {
+fn take_in_all<R: Wait>(rt: &R, lines: &mut [WorkerChannels]) {
     for line in lines {
         line.take_in(rt);
     }

@@ -3,10 +3,10 @@ ghost use Rattle.std.specs.Prelude.{◌-◌, ◌<◌, ◌≤◌};
 ghost use Rattle.far_crew.specs.Inner.Copies.{AreCopiesOf};
 ghost use Rattle.far_crew.specs.Inner.Turns.{AreTurnsOf, CanLookAt};
 
+use crate::channels::WorkerChannels;
 use crate::guesses::GuessedTurns;
 use crate::job::Job;
 use crate::kept::Copies;
-use crate::line::Line;
 use hex_geometry::OutOfMemory;
 use round_book::Field;
 use spec_record::Look;
@@ -26,7 +26,7 @@ pub struct Piece {
 // Has a job ready for each line that is open: the turns are shared out in contiguous pieces.
 pub fn prepare_all(
     alloc: Global,
-    lines: &mut [Line],
+    lines: &mut [WorkerChannels],
     field: &Field<'_>,
     copies: &Copies,
     turns: &GuessedTurns<'_>,
@@ -48,7 +48,7 @@ pub fn prepare_all(
 }
 
 // How many lines are open.
-fn open_lines(lines: &[Line]) -> usize {
+fn open_lines(lines: &[WorkerChannels]) -> usize {
     lines.iter().filter(|line| line.is_open()).count()
 }
 

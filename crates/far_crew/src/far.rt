@@ -3,10 +3,10 @@ ghost use Rattle.std.specs.Prelude.{◌≡◌, ◌≤◌, IfOk, IfErr};
 ghost use Rattle.round_book.specs.Book.{CanBegin};
 ghost use Rattle.round_book.specs.Led.{IsWindow};
 
+use crate::channels::WorkerChannels;
 use crate::crew::FarCrew;
 use crate::found::Found;
 use crate::job::Job;
-use crate::line::Line;
 use ant_base::Gate;
 use crossbeam_channel::{Receiver, Sender};
 use hex_geometry::OutOfMemory;
@@ -32,13 +32,13 @@ pub trait Errand: Drop {
 #[derive(Drop)]
 struct Post {
     number: u32,
-    line: Line,
+    line: WorkerChannels,
     jobs: Receiver<Job>,
     answers: Sender<Found>,
 }
 
 // The posts of so many workers, and room for their lines.
-fn posts(alloc: Global, workers: u32) -> Result<(Vec<Post>, Vec<Line>), AllocError> {
+fn posts(alloc: Global, workers: u32) -> Result<(Vec<Post>, Vec<WorkerChannels>), AllocError> {
     let mut posts = Vec::with_capacity(alloc, workers as usize)?;
     let lines = Vec::with_capacity(alloc, workers as usize)?;
     for number in 0..workers {
@@ -52,7 +52,7 @@ fn new_post(alloc: Global, number: u32) -> Result<Post, AllocError> {
     let (answers, from_worker) = crossbeam_channel::bounded(alloc, 1)?;
     Ok(Post {
         number,
-        line: Line::of(to_worker, from_worker),
+        line: WorkerChannels::of(to_worker, from_worker),
         jobs,
         answers,
     })
@@ -82,7 +82,7 @@ fn run_errand<R: Wait, G: Gate, E: Errand>(
     alloc: Global,
     gate: &G,
     workers: u32,
-    lines: Vec<Line>,
+    lines: Vec<WorkerChannels>,
     errand: E,
 ) -> E
     ensures { E.finished errand result }

@@ -7,6 +7,7 @@
 
 mod agreement;
 mod caller;
+mod channels;
 mod crew;
 mod deal;
 mod far;
@@ -14,7 +15,6 @@ mod found;
 mod guesses;
 mod job;
 mod kept;
-mod line;
 mod own_brains;
 mod pick;
 mod same_cells;

@@ -4,13 +4,13 @@ ghost use Rattle.std.specs.Option.{option_copied};
 ghost use Rattle.std.specs.Vec.{vec_capacity, vec_len};
 ghost use Rattle.far_crew.specs.Inner.Picks.{AreFilled, AreNone, ArePicked, ArePicksOf, look_named, looks_in};
 ghost use Rattle.far_crew.specs.Inner.Turns.{AreTurnsOf, window_on};
-ghost use Rattle.far_crew.specs.declared.line.Line.{Line as GivenLine};
+ghost use Rattle.far_crew.specs.declared.channels.WorkerChannels.{WorkerChannels as GivenLine};
 
 use crate::agreement::is_look_for;
 use crate::caller::Caller;
+use crate::channels::WorkerChannels;
 use crate::found::Found;
 use crate::guesses::{GuessedTurns, guess_of};
-use crate::line::Line;
 use ant_base::Gate;
 use hex_geometry::OutOfMemory;
 use round_book::Field;
@@ -61,7 +61,7 @@ fn blank(picks: &mut Vec<Option<Pick>>, turns: usize) -> Result<(), OutOfMemory>
 pub fn choose<G: Gate>(
     caller: &Caller<'_, G>,
     field: &Field<'_>,
-    lines: &[Line],
+    lines: &[WorkerChannels],
     turns: &GuessedTurns<'_>,
     picks: &mut Vec<Option<Pick>>,
     own: &mut Vec<Look>,
@@ -81,7 +81,12 @@ pub fn choose<G: Gate>(
 
 // Picks for each turn of a window the first look that agrees, in the order of the lines.
 #[tactic(auto, using(crate::proofs::PickLemmas::looks_in_some))]
-fn sift(field: &Field<'_>, lines: &[Line], turns: &GuessedTurns<'_>, picks: &mut [Option<Pick>])
+fn sift(
+    field: &Field<'_>,
+    lines: &[WorkerChannels],
+    turns: &GuessedTurns<'_>,
+    picks: &mut [Option<Pick>],
+)
     requires turns { AreTurnsOf field.now turns.now }
     requires picks { ArePicksOf field.now turns.now lines.now [] picks.old }
     ensures { ArePicksOf field.now turns.now lines.now [] picks.new }
@@ -96,7 +101,7 @@ fn sift(field: &Field<'_>, lines: &[Line], turns: &GuessedTurns<'_>, picks: &mut
 // Picks each look of an answer that agrees, for a turn that has no pick yet.
 fn sift_answer(
     field: &Field<'_>,
-    lines: &[Line],
+    lines: &[WorkerChannels],
     answer: &Answer<'_>,
     turns: &GuessedTurns<'_>,
     picks: &mut [Option<Pick>],
@@ -114,7 +119,7 @@ fn sift_answer(
 // Picks a look, if it agrees and its turn has no pick yet.
 fn sift_look(
     field: &Field<'_>,
-    lines: &[Line],
+    lines: &[WorkerChannels],
     answer: &Answer<'_>,
     at: usize,
     turns: &GuessedTurns<'_>,
@@ -199,7 +204,7 @@ fn fill_turn<G: Gate>(
 }
 
 // The look that a pick names, if there is one.
-pub fn look_named<'a>(lines: &'a [Line], own: &'a [Look], pick: Pick) -> Option<&'a Look>
+pub fn look_named<'a>(lines: &'a [WorkerChannels], own: &'a [Look], pick: Pick) -> Option<&'a Look>
     ensures { option_copied result ≡ look_named lines.now own.now pick }
 {
     match pick {
@@ -210,7 +215,7 @@ pub fn look_named<'a>(lines: &'a [Line], own: &'a [Look], pick: Pick) -> Option<
 
 // The look with this number in the answer of a line, if there is one.
 #[tactic(auto, using(crate::proofs::PickLemmas::looks_in_past, crate::proofs::PickLemmas::looks_in_none, crate::proofs::PickLemmas::looks_in_some))]
-fn look_in<'a>(lines: &'a [Line], line: usize, at: usize) -> Option<&'a Look>
+fn look_in<'a>(lines: &'a [WorkerChannels], line: usize, at: usize) -> Option<&'a Look>
     ensures { option_copied result ≡ slice_get (looks_in lines.now line) at }
 {
     if line >= lines.len() {

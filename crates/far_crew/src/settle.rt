@@ -3,8 +3,8 @@ ghost use Rattle.std.specs.Prelude.{◌≡◌, ◌+◌, ◌-◌, ◌<◌, length
 ghost use Rattle.round_book.specs.Book.{IsSameWindow, StandsOn, window_of};
 ghost use Rattle.far_crew.specs.Inner.Picks.{AreFilled, ArePicked, ArePicksOf};
 
+use crate::channels::WorkerChannels;
 use crate::guesses::GuessedTurns;
-use crate::line::Line;
 use crate::pick::{Pick, look_named};
 use round_book::{Book, Field, advance};
 use spec_record::Look;
@@ -13,7 +13,7 @@ use spec_record::Look;
 pub fn settle(
     book: &mut Book,
     field: &Field<'_>,
-    lines: &[Line],
+    lines: &[WorkerChannels],
     own: &[Look],
     picks: &[Option<Pick>],
     turns: &GuessedTurns<'_>,
@@ -37,7 +37,7 @@ pub fn settle(
 fn settle_next(
     book: &mut Book,
     field: &Field<'_>,
-    lines: &[Line],
+    lines: &[WorkerChannels],
     own: &[Look],
     picks: &[Option<Pick>],
     turn: usize,

@@ -10,7 +10,7 @@ use Rattle.ant_turn.proofs.KeptByRounds.{after_rounds-then}
 use Rattle.cell_world.specs.World.{World}
 use Rattle.dump_print.specs.Texts.{seed_text, seed_words}
 use Rattle.match_run.specs.Run.{world_after}
-use Rattle.match_run.specs.Sequential.{IsPlayedOn, SequentialValue, standing}
+use Rattle.match_run.specs.Alone.{IsPlayedOn, GameAloneValue, standing}
 use Rattle.game_reports.specs.Inner.WayWords.{broken_end, broken_line, worlds_from}
 use Rattle.game_reports.specs.Trace.{trace_text, unmade_text, way_text}
 use Rattle.game_reports.proofs.WayLines.{way-shift}
@@ -44,7 +44,7 @@ broken_end-none minds seed w rounds id from made later =
     ∙ numbered-none (broken_line (λ i. world_after minds seed w (from + i)) id from)
 
 -- the worlds of a game that began on w and was played so far
-worlds_from-begun : (minds : Minds) (seed : ℕ) (w : World) (game : SequentialValue) (from : ℕ) → game.minds ≡ minds → game.seed ≡ seed → standing game ≡ after_rounds minds seed (start_of w) from
+worlds_from-begun : (minds : Minds) (seed : ℕ) (w : World) (game : GameAloneValue) (from : ℕ) → game.minds ≡ minds → game.seed ≡ seed → standing game ≡ after_rounds minds seed (start_of w) from
     → worlds_from game ≡ (λ i. world_after minds seed w (from + i))
 unfolding worlds_from world_after
 worlds_from-begun minds seed w game from same_minds same_seed now = fun_ext λ i.
@@ -53,7 +53,7 @@ worlds_from-begun minds seed w game from same_minds same_seed now = fun_ext λ i
     ∙ ap (λ (m : Moment). m.world) (after_rounds-then minds seed (start_of w) from i)
 
 -- where the game was played up to the first round that is told
-pub broken_end-told : (minds : Minds) (seed : ℕ) (w : World) (begun game : SequentialValue) (rounds id from : ℕ) → id < w.ids
+pub broken_end-told : (minds : Minds) (seed : ℕ) (w : World) (begun game : GameAloneValue) (rounds id from : ℕ) → id < w.ids
     → begun.minds ≡ minds → begun.seed ≡ seed → standing begun ≡ start_of w → begun.done ≡ 0 → IsPlayedOn begun game from
     → broken_end minds seed w rounds id from ≡ numbered (broken_line (worlds_from game) id game.done) (rounds + 1 - game.done)
 unfolding broken_end

@@ -8,8 +8,8 @@ use Rattle.cell_world.specs.World.{World, place_in}
 use Rattle.dump_print.proofs.Breaks.{numbered-shift}
 use Rattle.dump_print.specs.Texts.{cell_line}
 use Rattle.cell_world.specs.Grid.{Grid, world_of}
-use Rattle.match_run.specs.Sequential.{IsPlayedOn, SequentialValue}
-use Rattle.match_run.proofs.SequentialLemmas.{IsPlayedOn-world}
+use Rattle.match_run.specs.Alone.{IsPlayedOn, GameAloneValue}
+use Rattle.match_run.proofs.AloneLemmas.{IsPlayedOn-world}
 use Rattle.game_reports.specs.Inner.WayWords.{broken_line, told_of, words_of, worlds_from}
 use Rattle.game_reports.specs.Trace.{lives_in_first, told_line, way_line, way_text}
 
@@ -71,7 +71,7 @@ not_last-lives w round None more = absurd (cc)
 not_last-lives w round (Some p) more = refl
 
 -- what is told of a game that was played so far
-pub told-played : {first game : SequentialValue} {k : ℕ} → IsPlayedOn first game k → (id : ℕ) (world : Grid) (done : ℕ) → world ≡ game.world → done ≡ game.done
+pub told-played : {first game : GameAloneValue} {k : ℕ} → IsPlayedOn first game k → (id : ℕ) (world : Grid) (done : ℕ) → world ≡ game.world → done ≡ game.done
     → told_of (world_of world) done (place_in (world_of world) id) ≡ told_of (worlds_from first k) (first.done + k) (place_in (worlds_from first k) id)
 unfolding worlds_from
 told-played {first} {game} {k} played id world done same_world same_done =

@@ -13,4 +13,4 @@ pub use Rattle.cell_world.specs.Grid
 pub use Rattle.cell_world.specs.Score
 pub use Rattle.cell_world.specs.World
 pub use Rattle.match_run.specs.Run
-pub use Rattle.match_run.specs.Sequential
+pub use Rattle.match_run.specs.Alone

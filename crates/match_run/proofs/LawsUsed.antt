@@ -28,7 +28,7 @@ use Rattle.hex_geometry.specs.Position.{same_pos}
 use Rattle.round_book.specs.Book.{FieldValue, field_moment}
 use Rattle.spec_record.proofs.LooksWorked.{field, kinds, minds}
 use Rattle.match_run.specs.declared.dumps.Dumps.TheVariants.{Nothing, All}
-use Rattle.match_run.specs.CountLaws.{BrokenRoundsGoOn, CountsComeLast, LoneWindowsAreTaken, RoundsGoOn, TotalsAddUp, WholeRounds}
+use Rattle.match_run.specs.CountLaws.{BrokenRoundsGoOn, CountsComeLast, SingleTurnWindowsAreTaken, RoundsGoOn, TotalsAddUp, WholeRounds}
 use Rattle.match_run.specs.Counts.{both, round_totals, totals_of, whole_text}
 use Rattle.match_run.specs.Dumps.{chooses, has_round}
 use Rattle.match_run.specs.Game.{GameValue, GoesOnFor, IsRoundPlayed, IsRoundRefused, beginning, now_of}
@@ -124,9 +124,9 @@ one_brain instruction own = record { some = omega arith; few = omega arith; soun
     lone zero one is = let same : instruction ≡ one = (let e : Some instruction ≡ Some one = is in cc) in subst (IsSound 1) same own
     lone (suc i) one is = let never : None ≡ Some one = is in absurd (cc)
 
-lone_windows_are_taken_used : LoneWindowsAreTaken → totals_of minds 12345 1 (start_of field) 2 ≡ record { turns = 14; taken = 14; redone = 0 }
+single_turn_windows_are_taken_used : SingleTurnWindowsAreTaken → totals_of minds 12345 1 (start_of field) 2 ≡ record { turns = 14; taken = 14; redone = 0 }
 unfolding opening
-lone_windows_are_taken_used law =
+single_turn_windows_are_taken_used law =
     law minds 12345 (start_of field) 2
     (record { red = one_brain (Flip 2 0 0) (omega arith, omega arith, omega arith); black = one_brain (Move 0 0) (omega arith, omega arith); corpse = omega arith })
     (IsWorld-opening 7 6 kinds (IsPlan-test 7 6 kinds refl)).valid (Fits-opening 7 6 kinds minds (omega arith) (omega arith)) (omega arith)

@@ -1,5 +1,5 @@
 -- Rounds that are played one after another.
-pub mod SequentialLemmas
+pub mod AloneLemmas
 pub mod RisingRounds
 -- What is told of turns, and who watches them.
 pub mod ToldLemmas
@@ -12,7 +12,7 @@ pub mod SeenLemmas
 -- Windows and their counts.
 pub mod CountLemmas
 pub mod WindowLemmas
-pub mod LoneWindows
+pub mod SingleTurnWindows
 -- A game, round by round.
 pub mod GameLemmas
 pub mod GamesByRounds

@@ -23,8 +23,8 @@ pub record RoundsGoOn : Type 0 where
       (totals_of minds seed size (after_rounds minds seed m r) q) ≡ totals_of minds seed size m (r + q)
 
 -- where a window has one turn, every turn is taken, at whatever moment the rounds begin where brains fit and the stream lasts
-abbrev pub LoneWindowsAreTaken : Type 0
-LoneWindowsAreTaken = (minds : Minds) (seed : ℕ) (m : Moment) (r : ℕ) → AreSound minds → Valid m.world → Fits m.world minds → m.place + m.world.ids * r < 2 ^ 63 →
+abbrev pub SingleTurnWindowsAreTaken : Type 0
+SingleTurnWindowsAreTaken = (minds : Minds) (seed : ℕ) (m : Moment) (r : ℕ) → AreSound minds → Valid m.world → Fits m.world minds → m.place + m.world.ids * r < 2 ^ 63 →
     totals_of minds seed 1 m r ≡ record { turns = m.world.ids * r; taken = m.world.ids * r; redone = 0 }
 
 -- the counts come last: without their line the text is the same whatever the size of a window

@@ -9,7 +9,7 @@ pub mod Later
 pub mod Run
 pub mod RunLaws
 pub mod Seen
-pub mod Sequential
+pub mod Alone
 pub mod Stopped
 pub mod Told
 pub mod Watch

@@ -11,7 +11,7 @@ use Rattle.match_run.specs.Counts.{counts_text}
 use Rattle.match_run.specs.Game.{GameValue, GoesOnFor, IsRoundRefused, now_of}
 use Rattle.match_run.specs.Later.{later_dumps}
 use Rattle.match_run.specs.Run.{chosen_dump}
-use Rattle.match_run.specs.Sequential.{IsPlayedOn, SequentialValue, standing}
+use Rattle.match_run.specs.Alone.{IsPlayedOn, GameAloneValue, standing}
 
 -- the dumps of so many later rounds of a game that are chosen
 abbrev pub dumps_behind : GameValue → (ℕ → Bool) → ℕ → List ℕ
@@ -49,7 +49,7 @@ StopsBy old new rounds chosen stats sink new_sink OutOfMemory = RefusesWindow ol
 
 -- of a game that is just played, the sink failed at the dump of one of so many rounds: it stands behind that round, and the dumps of the rounds
 -- before it were pushed
-pub record LosesDump (old new : SequentialValue) (rounds : ℕ) (chosen : ℕ → Bool) (sink new_sink : SinkState) : Type 0 where
+pub record LosesDump (old new : GameAloneValue) (rounds : ℕ) (chosen : ℕ → Bool) (sink new_sink : SinkState) : Type 0 where
   pub shown : ℕ
   pub left : shown < rounds
   pub played : IsPlayedOn old new (shown + 1)
@@ -58,12 +58,12 @@ pub record LosesDump (old new : SequentialValue) (rounds : ℕ) (chosen : ℕ �
   pub failed : PushedFront mid new_sink (chosen_dump chosen (world_of new.world) new.done)
 
 -- the sink failed at its score: it stands behind its last round, and all dumps were pushed
-pub record LosesScore (old new : SequentialValue) (rounds : ℕ) (chosen : ℕ → Bool) (sink new_sink : SinkState) : Type 0 where
+pub record LosesScore (old new : GameAloneValue) (rounds : ℕ) (chosen : ℕ → Bool) (sink new_sink : SinkState) : Type 0 where
   pub played : IsPlayedOn old new rounds
   pub mid : SinkState
   pub before : PushedAll sink mid (later_dumps old.minds old.seed chosen (standing old) old.done rounds)
   pub failed : PushedFront mid new_sink (score_text (score_of (world_of new.world)))
 
 -- why it wasn't played so many rounds further with its text: the sink failed at a dump or at the score
-abbrev pub LosesText : SequentialValue → SequentialValue → ℕ → (ℕ → Bool) → SinkState → SinkState → Type 0
+abbrev pub LosesText : GameAloneValue → GameAloneValue → ℕ → (ℕ → Bool) → SinkState → SinkState → Type 0
 LosesText old new rounds chosen sink new_sink = LosesDump old new rounds chosen sink new_sink ⊎ LosesScore old new rounds chosen sink new_sink

@@ -8,12 +8,12 @@ ghost use Rattle.cell_world.specs.Score.{score_of};
 ghost use Rattle.match_run.specs.Dumps.{chooses};
 ghost use Rattle.match_run.specs.Later.{later_dumps, plain_later_text};
 ghost use Rattle.match_run.specs.Run.{most_rounds, ended, run_text, world_after};
-ghost use Rattle.match_run.specs.Sequential.{IsPlayedOn, standing};
+ghost use Rattle.match_run.specs.Alone.{IsPlayedOn, standing};
 ghost use Rattle.match_run.specs.Stopped.{LosesDump, LosesText};
 
 use crate::dumps::{Dumps, push_chosen};
+use crate::game_alone::GameAlone;
 use crate::plan::Plan;
-use crate::sequential_game::SequentialGame;
 use ant_base::{Failed, Sink};
 use ant_turn::Brains;
 use cell_world::{Score, World};
@@ -41,7 +41,7 @@ pub fn play_alone<K: Sink>(
 {
     push_seed(plan.seed, sink)?;
     push_chosen(&world, &plan.dumps, 0, sink)?;
-    let mut game = SequentialGame::begin(world, brains, plan.seed);
+    let mut game = GameAlone::begin(world, brains, plan.seed);
     play_on_alone(&mut game, plan.rounds, &plan.dumps, sink)
 }
 
@@ -52,7 +52,7 @@ pub fn play_alone<K: Sink>(
 /// count of faults rose then: a prefix of the text was pushed. The game stands at the end of the round at whose dump the sink failed, and else
 /// of the last one. It takes no memory.
 pub fn play_on_alone<K: Sink>(
-    game: &mut SequentialGame<'_>,
+    game: &mut GameAlone<'_>,
     rounds: u32,
     dumps: &Dumps,
     sink: &mut K,
@@ -73,7 +73,7 @@ pub fn play_on_alone<K: Sink>(
 
 // Plays the later rounds of a game, and pushes the dumps that are chosen.
 fn play_rounds<K: Sink>(
-    game: &mut SequentialGame<'_>,
+    game: &mut GameAlone<'_>,
     rounds: u32,
     dumps: &Dumps,
     sink: &mut K,
@@ -104,7 +104,7 @@ pub fn play_score(world: World, brains: Brains<'_>, seed: u32, rounds: u32) -> S
     requires few_rounds { rounds ≤ most_rounds }
     ensures { result ≡ score_of (world_after (minds_of brains.entry) seed (world_of world) rounds) }
 {
-    let mut game = SequentialGame::begin(world, brains, seed);
+    let mut game = GameAlone::begin(world, brains, seed);
     game.play_on(rounds);
     game.world().score()
 }

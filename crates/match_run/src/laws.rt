@@ -1,5 +1,5 @@
 // What holds of all games and runs, as laws of their definitions.
-ghost use Rattle.match_run.specs.CountLaws.{BrokenRoundsGoOn, CountsComeLast, LoneWindowsAreTaken, RoundsGoOn, TotalsAddUp, WholeRounds};
+ghost use Rattle.match_run.specs.CountLaws.{BrokenRoundsGoOn, CountsComeLast, SingleTurnWindowsAreTaken, RoundsGoOn, TotalsAddUp, WholeRounds};
 ghost use Rattle.match_run.specs.GameLaws.{GamesFollowTheRules, GamesGoOnByRounds, GamesKeepTheirHills};
 ghost use Rattle.match_run.specs.Later.{RunsGoOn};
 ghost use Rattle.match_run.specs.RunLaws.{AllDumps, NoDumps, SameRounds, RepeatAddsNothing, LaterAddsNothing, GamesGoOn};
@@ -51,8 +51,8 @@ pub fn totals_add_up()
 {}
 
 /// Where a window has one turn, every turn of a game's rounds is taken. The call does nothing: its clause is the law.
-pub fn lone_windows_are_taken()
-    ensures { LoneWindowsAreTaken }
+pub fn single_turn_windows_are_taken()
+    ensures { SingleTurnWindowsAreTaken }
 {}
 
 /// The counts stand on the last line alone: without that line the text of a run is the same, however many turns a window has (this project's

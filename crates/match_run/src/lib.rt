@@ -3,7 +3,7 @@
 //! The task's game play: rounds are played one after another, each one turn of each id in rising order, with one stream
 //! of random numbers from place 0. A `Game` is played round by round by any crew, in windows of turns: it stands where
 //! the turns lead one after another, and counts how many of them were taken from looks, which depends on the turns and
-//! on the size of a window alone. `play` pushes the text of a run with its counts, by any crew. A `SequentialGame` is
+//! on the size of a window alone. `play` pushes the text of a run with its counts, by any crew. A `GameAlone` is
 //! just played, turn after turn, in memory that doesn't grow with the rounds, by the one loop of `watch_rounds`, which
 //! plays a game before a `Watch`: `play_alone` pushes the text without counts so, and `play_score` gives a game's score
 //! alone. The laws say what the text is made of, which rounds a list adds to it, what the counts add up to, and that a
@@ -15,10 +15,10 @@ mod alone;
 mod board;
 mod dumps;
 mod game;
+mod game_alone;
 mod laws;
 mod plan;
 mod scored_world;
-mod sequential_game;
 mod watch;
 mod watched;
 mod whole_run;
@@ -30,16 +30,16 @@ pub use board::Board;
 pub use dump_print::Totals;
 pub use dumps::{Dumps, Rounds};
 pub use game::Game;
+pub use game_alone::GameAlone;
 pub use hex_geometry::OutOfMemory;
 pub use laws::{
     all_dumps, broken_rounds_go_on, counts_come_last, games_follow_the_rules,
-    games_go_on_by_rounds, games_keep_their_hills, goes_on, later_adds_nothing,
-    lone_windows_are_taken, no_dumps, repeat_adds_nothing, rounds_go_on, runs_go_on, same_rounds,
+    games_go_on_by_rounds, games_keep_their_hills, goes_on, later_adds_nothing, no_dumps,
+    repeat_adds_nothing, rounds_go_on, runs_go_on, same_rounds, single_turn_windows_are_taken,
     totals_add_up, whole_rounds,
 };
 pub use plan::{MOST_ROUNDS, Plan};
 pub use scored_world::ScoredWorld;
-pub use sequential_game::SequentialGame;
 pub use watch::Watch;
 pub use watched::{watch_round, watch_rounds};
 pub use whole_run::{play, play_on};

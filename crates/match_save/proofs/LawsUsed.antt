@@ -73,6 +73,6 @@ advanced_saves_go_on_used : AdvancedSavesGoOn → IsSaved saved →
     × ((w : World) → IsOfGame saved w → IsOfGame turned_twice w)
 advanced_saves_go_on_used law is = (
   subst (λ (s : SavedValue). resumed_text saved 5 all_rounds true ≡ later_dumps turners 12345 all_rounds (moment_of saved) 1 2 +++ resumed_text s 5 all_rounds true) row_advanced
-  (law.text saved 3 5 all_rounds true is (let early : 1 ≤ 3 = omega arith in early) (let later : 3 ≤ 5 = omega arith in later)),
+      (law.text saved 3 5 all_rounds true is (let early : 1 ≤ 3 = omega arith in early) (let later : 3 ≤ 5 = omega arith in later)),
   λ w of_game. subst (λ (s : SavedValue). IsOfGame s w) row_advanced (law.game saved w 3 is of_game (let early : 1 ≤ 3 = omega arith in early)),
 )

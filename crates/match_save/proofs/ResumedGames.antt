@@ -15,8 +15,8 @@ use Rattle.match_run.proofs.LaterLaws.{later_text-plain, later_text-some, runs_g
 use Rattle.match_run.proofs.CountLemmas.{sum_windows-turns}
 use Rattle.match_run.specs.Game.{CanGoOn, GameValue, IsRoundRefused, game_at_round, now_of, totals_ahead}
 use Rattle.match_run.specs.Later.{plain_later_text, later_text}
-use Rattle.match_run.specs.Sequential.{SequentialValue, standing}
-use Rattle.match_save.specs.Inner.Alone.{sequential_of}
+use Rattle.match_run.specs.Alone.{GameAloneValue, standing}
+use Rattle.match_save.specs.Inner.Alone.{game_alone_of}
 use Rattle.match_run.specs.Run.{most_rounds}
 use Rattle.round_book.specs.Book.{FieldValue}
 use Rattle.match_save.specs.Draft.{Draft, IsAnt, IsInForm}
@@ -124,7 +124,7 @@ resumed_text-some s rounds chosen stats = later_text-some s.minds s.seed s.windo
 
 -- a game that is just played stands where the save does
 pub sequential-is : (s : SavedValue) (world : Grid) (minds : Minds) (seed place round : ℕ) → world ≡ s.world → minds ≡ s.minds → seed ≡ s.seed → place ≡ s.place → round ≡ s.round
-    → ◌≡◌ {A = SequentialValue} (record { world = world; minds = minds; seed = seed; place = place; done = round }) (sequential_of s)
+    → ◌≡◌ {A = GameAloneValue} (record { world = world; minds = minds; seed = seed; place = place; done = round }) (game_alone_of s)
 sequential-is s world minds seed place round a b c e f = cc
 
 -- few of its rounds are done
@@ -142,7 +142,7 @@ place-saved s is =
     (let p = is.state.place in omega (arith, p, all))
 
 -- what was pushed of a save's game that is just played is its rest without counts
-pub alone-is : (s : SavedValue) (game : SequentialValue) (rounds : ℕ) (chosen : ℕ → Bool) → game ≡ sequential_of s
+pub alone-is : (s : SavedValue) (game : GameAloneValue) (rounds : ℕ) (chosen : ℕ → Bool) → game ≡ game_alone_of s
     → plain_later_text game.minds game.seed (standing game) game.done rounds chosen ≡ resumed_text s rounds chosen false
 unfolding resumed_text
 alone-is s game rounds chosen e =

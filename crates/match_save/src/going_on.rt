@@ -7,14 +7,14 @@ ghost use Rattle.match_run.specs.Play.{PushedBy};
 ghost use Rattle.match_run.specs.Run.{most_rounds};
 ghost use Rattle.match_save.specs.Advanced.{advanced};
 ghost use Rattle.match_save.specs.Resumed.{UnwrittenByMemory, field_of, later_world, resumed_text};
-ghost use Rattle.match_save.specs.Inner.Alone.{sequential_of};
+ghost use Rattle.match_save.specs.Inner.Alone.{game_alone_of};
 
 use crate::saved::Saved;
 use crate::saves::save_of;
 use ant_base::Sink;
 use cell_world::Score;
 use hex_geometry::OutOfMemory;
-use match_run::{Dumps, Game, PlayFault, SequentialGame, play_on, play_on_alone};
+use match_run::{Dumps, Game, GameAlone, PlayFault, play_on, play_on_alone};
 use round_book::{Crew, Field, lemma_valid};
 use std::alloc::Global;
 
@@ -131,16 +131,16 @@ pub fn resume_alone<K: Sink>(
     ensures unwritten { UnwrittenByMemory (K.state sink.old) (K.state sink.new) result }
     ensures score { IfOk result (λ s. s ≡ score_of (later_world saved.now (rounds - saved.now.round))) }
 {
-    let mut game = sequential_of(alloc, saved)?;
+    let mut game = game_alone_of(alloc, saved)?;
     Ok(play_on_alone(&mut game, rounds, dumps, sink)?)
 }
 
 // The game that stands where a save does, to be just played.
-fn sequential_of<'s>(alloc: Global, saved: &'s Saved) -> Result<SequentialGame<'s>, OutOfMemory>
-    ensures { IfOk result (λ game. game ≡ sequential_of saved.now) }
+fn game_alone_of<'s>(alloc: Global, saved: &'s Saved) -> Result<GameAlone<'s>, OutOfMemory>
+    ensures { IfOk result (λ game. game ≡ game_alone_of saved.now) }
 {
     let world = saved.world().copy(alloc)?;
-    Ok(SequentialGame::at_round(
+    Ok(GameAlone::at_round(
         world,
         saved.brains(),
         saved.seed(),

@@ -17,7 +17,7 @@ use Rattle.round_book.specs.declared.verdict.Verdict.{Verdict}
 use Rattle.round_book.specs.declared.verdict.Verdict.TheVariants.{Taken}
 use Rattle.round_book.specs.Book.{AgreesUnwritten, BookValue, CanTake, FieldValue, IsCause, IsRedone, IsSameWindow, IsTaken, StandsFor, begun, moment_of, window_of}
 use Rattle.round_book.specs.BookLaws.{BooksAreReached, IsAt, StandingBooksSettle}
-use Rattle.round_book.specs.CountLaws.{CausesRefute, CountsAddUp, LoneTurnsAreTaken, TakenWhereItHolds}
+use Rattle.round_book.specs.CountLaws.{CausesRefute, CountsAddUp, SingleTurnsAreTaken, TakenWhereItHolds}
 use Rattle.round_book.specs.Counts.{counts_of, is_taken, look_holds}
 use Rattle.round_book.specs.Machine.{AreLawful, Event, IsLawful, IsPut, State, first_state, run, times}
 use Rattle.round_book.specs.Machine.Event.{Settles}
@@ -115,9 +115,9 @@ pub counts_add_up_used : CountsAddUp → (counts_of all_seven).taken + (counts_o
 counts_add_up_used law = law all_seven
 
 -- the turn of id 4 alone
-pub lone_turns_are_taken_used : LoneTurnsAreTaken → counts_of only_four ≡ record { taken = 1; redone = 0 }
+pub single_turns_are_taken_used : SingleTurnsAreTaken → counts_of only_four ≡ record { taken = 1; redone = 0 }
 unfolding opening
-lone_turns_are_taken_used law =
+single_turns_are_taken_used law =
     let made : 5 ≤ 7 = omega arith in
     let playable : IsPlayable only_four = record {
       valid = seven-sound.valid;

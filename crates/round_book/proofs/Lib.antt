@@ -15,7 +15,7 @@ pub mod SoloLemmas
 pub mod GuessLemmas
 -- Crews.
 pub mod LedLemmas
-pub mod LoneTurns
+pub mod SingleTurns
 -- Worked values.
 pub mod CountsWorked
 pub mod MachineWorked

@@ -14,8 +14,8 @@ abbrev pub CountsAddUp : Type 0
 CountsAddUp = (window : Window) → (counts_of window).taken + (counts_of window).redone ≡ window.to - window.from
 
 -- in a window of one turn the look is taken
-abbrev pub LoneTurnsAreTaken : Type 0
-LoneTurnsAreTaken = (window : Window) → IsPlayable window → window.to ≡ window.from + 1 → counts_of window ≡ record { taken = 1; redone = 0 }
+abbrev pub SingleTurnsAreTaken : Type 0
+SingleTurnsAreTaken = (window : Window) → IsPlayable window → window.to ≡ window.from + 1 → counts_of window ≡ record { taken = 1; redone = 0 }
 
 -- the test of a look is true exactly where the look holds, and a turn counts as taken exactly where its look holds when its turn comes
 pub record TakenWhereItHolds : Type 0 where

@@ -1,6 +1,6 @@
 // Laws of windows.
 ghost use Rattle.round_book.specs.BookLaws.{BooksAreReached, StandingBooksSettle};
-ghost use Rattle.round_book.specs.CountLaws.{CausesRefute, CountsAddUp, LoneTurnsAreTaken, TakenWhereItHolds};
+ghost use Rattle.round_book.specs.CountLaws.{CausesRefute, CountsAddUp, SingleTurnsAreTaken, TakenWhereItHolds};
 ghost use Rattle.round_book.specs.MachineLaws.{EveryInterleaving, PutTurnsSettle};
 
 /// Whatever workers do in whatever order, the turns that were settled did what the turns of the window do one after another, with their
@@ -36,8 +36,8 @@ pub fn counts_add_up()
 {}
 
 /// In a window of one turn the look is taken. The call does nothing: its clause is the law.
-pub fn lone_turns_are_taken()
-    ensures { LoneTurnsAreTaken }
+pub fn single_turns_are_taken()
+    ensures { SingleTurnsAreTaken }
 {}
 
 /// A turn counts as taken exactly where its look holds when its turn comes: no worker, ticket or order of events has a part in it. The call

@@ -25,8 +25,8 @@ pub use counts::Counts;
 pub use crew::Crew;
 pub use field::Field;
 pub use laws::{
-    books_are_reached, causes_refute, counts_add_up, every_interleaving, lone_turns_are_taken,
-    put_turns_settle, standing_books_settle, taken_where_it_holds,
+    books_are_reached, causes_refute, counts_add_up, every_interleaving, put_turns_settle,
+    single_turns_are_taken, standing_books_settle, taken_where_it_holds,
 };
 pub use led::Led;
 pub use one_turn::advance;

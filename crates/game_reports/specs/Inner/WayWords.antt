@@ -8,7 +8,7 @@ use Rattle.cell_world.specs.World.{World, place_in}
 use Rattle.dump_print.specs.declared.lines.CellWords.{CellWords}
 use Rattle.dump_print.specs.Texts.{cell_words}
 use Rattle.match_run.specs.Run.{world_after}
-use Rattle.match_run.specs.Sequential.{SequentialValue, standing}
+use Rattle.match_run.specs.Alone.{GameAloneValue, standing}
 use Rattle.game_reports.specs.declared.reports.trace.ToldRound.{ToldRound}
 use Rattle.game_reports.specs.Trace.{lives_in_first}
 
@@ -30,7 +30,7 @@ unfoldable pub broken_line : (ℕ → World) → ℕ → ℕ → ℕ → List �
 broken_line worlds id from i = if lives_in_first worlds id i then words_of (told_of (worlds i) (from + i) (place_in (worlds i) id)) else []
 
 -- the worlds of a game from where it stands on, a round after another
-unfoldable pub worlds_from : SequentialValue → ℕ → World
+unfoldable pub worlds_from : GameAloneValue → ℕ → World
 worlds_from game i = (after_rounds game.minds game.seed (standing game) i).world
 
 -- what stands behind the words of the seed, but for the last LF

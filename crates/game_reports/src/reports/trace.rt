@@ -13,7 +13,7 @@ use ant_base::{Failed, Layout, Sink, layout};
 use ant_turn::Brains;
 use cell_world::World;
 use dump_print::{CellWords, SeedWords};
-use match_run::SequentialGame;
+use match_run::GameAlone;
 
 /// What a trace is asked to do: whose way is told, in which rounds of which game.
 #[derive(Clone, Copy, Debug, PartialEq, Eq)]
@@ -73,7 +73,7 @@ fn push_end<K: Sink>(
     if plan.from > plan.rounds {
         return Ok(());
     }
-    let mut game = SequentialGame::begin(world, brains, plan.seed);
+    let mut game = GameAlone::begin(world, brains, plan.seed);
     game.play_on(plan.from);
     push_lines(&mut game, plan.id, plan.rounds, sink)
 }
@@ -87,7 +87,7 @@ fn push_unmade<K: Sink>(id: u32, sink: &mut K) -> Result<(), Failed>
 
 // Pushes the lines of an ant from the round that is done on, each behind an LF, and plays the rounds between them.
 fn push_lines<K: Sink>(
-    game: &mut SequentialGame<'_>,
+    game: &mut GameAlone<'_>,
     id: u32,
     rounds: u32,
     sink: &mut K,

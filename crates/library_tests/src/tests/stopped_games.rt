@@ -2,7 +2,7 @@
 use crate::tests::standing_workers::{Players, field_on, make_players, opened_world};
 use ant_base::{Calls, Failed, LONGEST, MemSink};
 use ant_turn::{Brains, Sheet};
-use match_run::{Dumps, Game, PlayFault, SequentialGame, play_on, play_on_alone};
+use match_run::{Dumps, Game, PlayFault, GameAlone, play_on, play_on_alone};
 use round_book::{Crew, SoloCrew};
 use std::alloc::Global;
 use std::process::Abort;
@@ -66,7 +66,7 @@ fn check_stop_alone<R: Abort>(
         black: &players.black,
         sheet: Sheet::contest(),
     };
-    let mut game = SequentialGame::begin(opened_world(alloc, bytes, brains)?, brains, 12345);
+    let mut game = GameAlone::begin(opened_world(alloc, bytes, brains)?, brains, 12345);
     let mut sink = MemSink::with_room(alloc, room, Calls::new(alloc))?;
     let played = play_on_alone(&mut game, 3, &Dumps::All, &mut sink);
     assert_eq!(rt;

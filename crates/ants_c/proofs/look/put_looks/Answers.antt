@@ -3,7 +3,7 @@ use Rattle.std.proofs.Common.{◌<◌, ◌-◌, ◌∙◌, ℕ, length, ap, subs
 use Rattle.ant_turn.proofs.FitLemmas.{Fits-opening}
 use Rattle.cell_world.specs.Grid.{world_of}
 use Rattle.cell_world.specs.Score.{score_of}
-use Rattle.match_run.specs.Sequential.{IsPlayedOn}
+use Rattle.match_run.specs.Alone.{IsPlayedOn}
 use Rattle.ants_c.specs.Looked.{seen_ants}
 use Rattle.ants_c.specs.Played.{game_score, seen_score}
 use Rattle.ants_c.proofs.Looks.{ids_kept, look_more, looked_on, room_for, score_more}

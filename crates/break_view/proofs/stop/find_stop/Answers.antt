@@ -1,6 +1,6 @@
 use Rattle.std.proofs.Common.{◌≡◌, ◌+◌, List, sym, ◌∙◌, subst, arith}
 use Rattle.ant_turn.specs.Minds.{minds_of}
-use Rattle.match_run.specs.Inner.Sequential.{moment_from}
+use Rattle.match_run.specs.Inner.Alone.{moment_from}
 use Rattle.break_view.specs.declared.breaks.Break.{Break}
 use Rattle.break_view.specs.Inner.Rounds.{RoundEnds}
 use Rattle.break_view.proofs.WatchedRounds.{watched-none, watched-more, ends_stopped, ends_passed, ends_without}

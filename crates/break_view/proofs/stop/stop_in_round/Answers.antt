@@ -1,7 +1,7 @@
 use Rattle.std.proofs.Common.{◌≡◌, ◌+◌, ◌-◌, ℕ, sym, ◌∙◌, subst, refl, arith}
 use Rattle.ant_turn.specs.Minds.{minds_of}
-use Rattle.match_run.specs.Inner.Sequential.{moment_from}
-use Rattle.match_run.proofs.SequentialLemmas.{IsTaken, IsTaken-none, IsTaken-place, IsTaken-ids, IsTaken-more, IsTaken-all}
+use Rattle.match_run.specs.Inner.Alone.{moment_from}
+use Rattle.match_run.proofs.AloneLemmas.{IsTaken, IsTaken-none, IsTaken-place, IsTaken-ids, IsTaken-more, IsTaken-all}
 use Rattle.cell_world.specs.Grid.{world_of}
 use Rattle.break_view.specs.Inner.Rounds.{IsQuiet}
 use Rattle.break_view.proofs.WatchedRounds.{quiet-none, quiet-more, met-taken}

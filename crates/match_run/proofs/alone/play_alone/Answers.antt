@@ -10,7 +10,7 @@ use Rattle.cell_world.specs.Score.{score_of}
 use Rattle.match_run.specs.Dumps.{chooses}
 use Rattle.match_run.specs.Later.{plain_later_text}
 use Rattle.match_run.specs.Run.{ended}
-use Rattle.match_run.specs.Sequential.{SequentialValue, standing}
+use Rattle.match_run.specs.Alone.{GameAloneValue, standing}
 use Rattle.cell_world.specs.declared.score.Score.{Score}
 use Rattle.match_run.proofs.LaterLaws.{run_text-start, score-later}
 use Rattle.match_run.proofs.alone.play_alone.Goals as goal
@@ -34,11 +34,11 @@ returns-clause-text g c =
     rw (run_text-start (minds_of c.args.brains) plan.seed (world_of c.args.world) plan.rounds (chooses plan.dumps))
     (pushed_then _ _ _ _ _ (ended c.play_on_alone.result) c.in_ok-push_seed.ensures
     (pushed_then _ _ _ _ _ (ended c.play_on_alone.result) c.in_ok-push_chosen.ensures
-    (subst (λ (game : SequentialValue). Pushed (g.K.Sink.state c.push_chosen.new.sink) (g.K.Sink.state c.play_on_alone.new.sink) (plain_later_text game.minds game.seed (standing game) game.done plan.rounds (chooses plan.dumps)) (ended c.play_on_alone.result))
+    (subst (λ (game : GameAloneValue). Pushed (g.K.Sink.state c.push_chosen.new.sink) (g.K.Sink.state c.play_on_alone.new.sink) (plain_later_text game.minds game.seed (standing game) game.done plan.rounds (chooses plan.dumps)) (ended c.play_on_alone.result))
     c.begin-game.ensures c.play_on_alone.ensures.text)))
 
 pub returns-clause-score : goal.returns-clause-score
 returns-clause-score g c =
     let plan = c.args.plan.now in
     subst (λ (score : Score). IfOk c.play_on_alone.result (λ s. s ≡ score)) (score-later (minds_of c.args.brains) plan.seed (world_of c.args.world) plan.rounds)
-    (subst (λ (game : SequentialValue). IfOk c.play_on_alone.result (λ s. s ≡ score_of (after_rounds game.minds game.seed (standing game) (plan.rounds - game.done)).world)) c.begin-game.ensures c.play_on_alone.ensures.score)
+    (subst (λ (game : GameAloneValue). IfOk c.play_on_alone.result (λ s. s ≡ score_of (after_rounds game.minds game.seed (standing game) (plan.rounds - game.done)).world)) c.begin-game.ensures c.play_on_alone.ensures.score)

@@ -6,9 +6,9 @@ use Rattle.cell_world.specs.Grid.{world_of}
 use Rattle.cell_world.specs.Score.{score_of}
 use Rattle.dump_print.specs.Texts.{score_text}
 use Rattle.match_run.specs.Dumps.{chooses}
-use Rattle.match_run.specs.Sequential.{standing}
+use Rattle.match_run.specs.Alone.{standing}
 use Rattle.match_run.proofs.LaterLaws.{plain_later_text-parts}
-use Rattle.match_run.proofs.SequentialLemmas.{IsPlayedOn-world}
+use Rattle.match_run.proofs.AloneLemmas.{IsPlayedOn-world}
 use Rattle.match_run.proofs.alone.play_on_alone.Goals as goal
 
 pub returns-in_err-play_rounds-clause-text : goal.returns-in_err-play_rounds-clause-text

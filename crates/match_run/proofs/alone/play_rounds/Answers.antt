@@ -5,9 +5,9 @@ use Rattle.ant_base.proofs.Pushes.{all_of_nothing, all_then, front_then, front_m
 use Rattle.cell_world.specs.Grid.{Grid, world_of}
 use Rattle.match_run.specs.Dumps.{chooses}
 use Rattle.match_run.specs.Run.{chosen_dump}
-use Rattle.match_run.specs.Sequential.{IsPlayedOn, standing}
+use Rattle.match_run.specs.Alone.{IsPlayedOn, standing}
 use Rattle.match_run.proofs.PlayLemmas.{later_dumps-front, later_dumps-more, later_dumps-none}
-use Rattle.match_run.proofs.SequentialLemmas.{IsPlayedOn-none, IsPlayedOn-then, IsPlayedOn-world}
+use Rattle.match_run.proofs.AloneLemmas.{IsPlayedOn-none, IsPlayedOn-then, IsPlayedOn-world}
 use Rattle.match_run.proofs.alone.play_rounds.Goals as goal
 
 pub loop-more-init : goal.loop-more-init

@@ -1,7 +1,7 @@
 use Rattle.ant_base.specs.Sink.{PushedAll}
 use Rattle.match_run.specs.Dumps.{chooses}
 use Rattle.match_run.specs.Later.{later_dumps}
-use Rattle.match_run.specs.Sequential.{IsPlayedOn, standing}
+use Rattle.match_run.specs.Alone.{IsPlayedOn, standing}
 use Rattle.match_run.proofs.alone.play_rounds.Given as goal
 
 -- these rounds are played, and their dumps are pushed

@@ -4,7 +4,7 @@ use Rattle.ant_base.specs.Sink.{Pushed, PushedAll, PushedFront}
 use Rattle.ant_base.proofs.Numbered.{numbered-front, numbered-none}
 use Rattle.ant_base.proofs.Pushes.{all_of_nothing, all_then, front_more, front_then, pushed_then}
 use Rattle.cell_world.specs.World.{place_in}
-use Rattle.match_run.proofs.SequentialLemmas.{IsPlayedOn-none, IsPlayedOn-then}
+use Rattle.match_run.proofs.AloneLemmas.{IsPlayedOn-none, IsPlayedOn-then}
 use Rattle.game_reports.specs.Inner.WayWords.{broken_line, told_of, words_of, worlds_from}
 use Rattle.game_reports.specs.declared.reports.trace.ToldRound.{ToldRound}
 use Rattle.game_reports.specs.Trace.{lives_in_first}

@@ -1,7 +1,7 @@
 use Rattle.std.proofs.Common.{◌≡◌, true}
 use Rattle.ant_base.specs.Layout.{numbered}
 use Rattle.ant_base.specs.Sink.{PushedAll}
-use Rattle.match_run.specs.Sequential.{IsPlayedOn}
+use Rattle.match_run.specs.Alone.{IsPlayedOn}
 use Rattle.game_reports.specs.Inner.WayWords.{broken_line, worlds_from}
 use Rattle.game_reports.specs.Trace.{lives_in_first}
 use Rattle.game_reports.proofs.reports.trace.push_lines.Given as goal

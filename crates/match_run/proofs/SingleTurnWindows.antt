@@ -8,9 +8,9 @@ use Rattle.ant_turn.proofs.KeptByRounds.{Keeps-after_rounds, Keeps-after_turns, 
 use Rattle.dump_print.specs.declared.totals.Totals.{Totals}
 use Rattle.round_book.specs.Counts.{Counted}
 use Rattle.round_book.specs.Window.{IsPlayable, Window}
-use Rattle.round_book.proofs.LoneTurns.{lone_turns_are_taken}
+use Rattle.round_book.proofs.SingleTurns.{single_turns_are_taken}
 use Rattle.match_run.specs.Counts.{both, round_totals, sum_windows, totals_of, window_at, window_totals}
-use Rattle.match_run.specs.CountLaws.{LoneWindowsAreTaken}
+use Rattle.match_run.specs.CountLaws.{SingleTurnWindowsAreTaken}
 use Rattle.match_run.proofs.CountLemmas.{totals-same, windows_of-is}
 
 abbrev all_taken : ℕ → Totals
@@ -21,7 +21,7 @@ window_totals-lone : (window : Window) → IsPlayable window → window.to ≡ w
 unfolding window_totals
 window_totals-lone window playable lone =
     let one : window.to - window.from ≡ 1 = omega arith in
-    ap₂ (λ turns (counted : Counted). record { turns = turns; taken = counted.taken; redone = counted.redone }) one (lone_turns_are_taken window playable lone)
+    ap₂ (λ turns (counted : Counted). record { turns = turns; taken = counted.taken; redone = counted.redone }) one (single_turns_are_taken window playable lone)
 
 module _ (minds : Minds) (seed : ℕ) (m : Moment) (sound : AreSound minds) (valid : Valid m.world) (fits : Fits m.world minds) (lasting : m.place + m.world.ids < 2 ^ 63) where
   playable : (j : ℕ) → j < m.world.ids → IsPlayable (window_at minds seed 1 m 0 j)
@@ -59,13 +59,13 @@ module _ (minds : Minds) (seed : ℕ) (m : Moment) (sound : AreSound minds) (val
       ap (sum_windows minds seed 1 m 0) (windows_of-is 1 m.world.ids m.world.ids (omega arith) (omega arith) (omega arith))
       ∙ sum_windows-lone m.world.ids (omega arith)
 
-pub lone_windows_are_taken : LoneWindowsAreTaken
-lone_windows_are_taken minds seed m zero sound valid fits lasting = totals-same (totals_of minds seed 1 m zero) (all_taken (m.world.ids * 0)) (omega arith) (omega arith) refl
-lone_windows_are_taken minds seed m (suc r) sound valid fits lasting =
+pub single_turn_windows_are_taken : SingleTurnWindowsAreTaken
+single_turn_windows_are_taken minds seed m zero sound valid fits lasting = totals-same (totals_of minds seed 1 m zero) (all_taken (m.world.ids * 0)) (omega arith) (omega arith) refl
+single_turn_windows_are_taken minds seed m (suc r) sound valid fits lasting =
     let kept : Keeps minds m.world (after_rounds minds seed m r).world = Keeps-after_rounds minds seed m r sound valid fits in
     let ids = after_rounds-ids minds seed m r in
     let place = after_rounds-place minds seed m r in
     let most = place.to in
-    ap₂ both (lone_windows_are_taken minds seed m r sound valid fits (omega (arith, lasting)))
+    ap₂ both (single_turn_windows_are_taken minds seed m r sound valid fits (omega (arith, lasting)))
     (round_totals-lone minds seed (after_rounds minds seed m r) sound kept.valid kept.fits (omega (arith, lasting, ids, most)) ∙ ap all_taken ids)
     ∙ totals-same (both (all_taken (m.world.ids * r)) (all_taken m.world.ids)) (all_taken (m.world.ids * suc r)) (omega arith) (omega arith) refl

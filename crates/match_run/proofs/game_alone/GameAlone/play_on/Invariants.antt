@@ -1,5 +1,5 @@
-use Rattle.match_run.specs.Sequential.{IsPlayedOn}
-use Rattle.match_run.proofs.sequential_game.SequentialGame.play_on.Given as goal
+use Rattle.match_run.specs.Alone.{IsPlayedOn}
+use Rattle.match_run.proofs.game_alone.GameAlone.play_on.Given as goal
 
 -- these rounds are played
 abbrev pub invariant-loop : goal.invariant-loop

@@ -9,7 +9,7 @@ use std::sync::Wait;
 // A worker's two channels, whether both are open as far as the crew knows, whether an answer is due, the job that is ready for it, its last
 // answer, and the room of older looks. One answer is kept in the line itself, so that no list grows in a window.
 #[derive(Drop)]
-pub struct Line {
+pub struct WorkerChannels {
     jobs: Sender<Job>,
     answers: Receiver<Found>,
     is_open: bool,
@@ -19,10 +19,10 @@ pub struct Line {
     room: Option<Vec<Look>>,
 }
 
-impl Line {
+impl WorkerChannels {
     // A line of these channels.
-    pub fn of(jobs: Sender<Job>, answers: Receiver<Found>) -> Line {
-        Line {
+    pub fn of(jobs: Sender<Job>, answers: Receiver<Found>) -> WorkerChannels {
+        WorkerChannels {
             jobs,
             answers,
             is_open: true,

@@ -4,7 +4,7 @@ ghost use Rattle.ant_turn.specs.Minds.{Fits, minds_of};
 ghost use Rattle.cell_world.specs.Grid.{world_of};
 ghost use Rattle.cell_world.specs.Limits.{most_ants};
 ghost use Rattle.match_run.specs.Run.{most_rounds};
-ghost use Rattle.match_run.specs.Sequential.{IsPlayedOn, IsSequential};
+ghost use Rattle.match_run.specs.Alone.{IsPlayedOn, IsGameAlone};
 
 use crate::watch::Nobody;
 use crate::watched::watch_round;
@@ -17,18 +17,18 @@ use std::mem;
 /// A game that is just played, round after round and each turn after turn (the task's game play): no look is made ahead, nothing is counted, and
 /// it takes no memory. It knows its world, its brains, its stream of random numbers, and how many rounds are done.
 #[derive(Drop)]
-pub struct SequentialGame<'b> {
+pub struct GameAlone<'b> {
     world: World,
     brains: Brains<'b>,
     stream: Stream,
     done: u32,
 }
 
-impl<'b> Model for SequentialGame<'b> {
+impl<'b> Model for GameAlone<'b> {
     ghost use Rattle.ant_turn.specs.Minds.{minds_of};
-    ghost use Rattle.match_run.specs.Sequential.{IsSequential, SequentialValue};
+    ghost use Rattle.match_run.specs.Alone.{IsGameAlone, GameAloneValue};
 
-    ghost Value = { SequentialValue };
+    ghost Value = { GameAloneValue };
 
     ghost view = { λ game. record {
       world = game.world;
@@ -38,7 +38,7 @@ impl<'b> Model for SequentialGame<'b> {
       done = game.done;
     } };
 
-    ghost invariant = { λ game. IsSequential (record {
+    ghost invariant = { λ game. IsGameAlone (record {
       world = game.world;
       minds = minds_of game.brains;
       seed = game.stream.seed;
@@ -47,14 +47,14 @@ impl<'b> Model for SequentialGame<'b> {
     }) };
 }
 
-impl<'b> SequentialGame<'b> {
+impl<'b> GameAlone<'b> {
     /// A game that begins on a world, with the random numbers of a seed from place 0 on (the task's game play). Each ant's state is below the
     /// length of its colour's brain, as in every opening world.
-    pub fn begin(world: World, brains: Brains<'b>, seed: u32) -> SequentialGame<'b>
+    pub fn begin(world: World, brains: Brains<'b>, seed: u32) -> GameAlone<'b>
         requires fit { Fits (world_of world) (minds_of brains) }
         ensures { result ≡ record { world = world; minds = minds_of brains.entry; seed = seed; place = 0; done = 0 } }
     {
-        SequentialGame::at_round(world, brains, seed, 0, 0)
+        GameAlone::at_round(world, brains, seed, 0, 0)
     }
 
     /// A game that stands at the end of a round: its world is this one, so many random numbers of its seed were drawn, and so many rounds are
@@ -66,13 +66,13 @@ impl<'b> SequentialGame<'b> {
         seed: u32,
         place: u64,
         done: u32,
-    ) -> SequentialGame<'b>
+    ) -> GameAlone<'b>
         requires fit { Fits (world_of world) (minds_of brains) }
         requires few { done ≤ most_rounds }
         requires place { place ≤ done * most_ants }
         ensures { result ≡ record { world = world; minds = minds_of brains.entry; seed = seed; place = place; done = done } }
     {
-        SequentialGame {
+        GameAlone {
             world,
             brains,
             stream: Stream::at_place_uncounted(seed, place),
@@ -122,7 +122,7 @@ impl<'b> SequentialGame<'b> {
     #[inline]
     pub fn done(&self) -> u32
         ensures done { result ≡ self.now.done }
-        ensures game { IsSequential self.now }
+        ensures game { IsGameAlone self.now }
     {
         self.done
     }

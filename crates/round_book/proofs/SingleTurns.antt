@@ -4,7 +4,7 @@ use Rattle.cell_world.specs.Cell.{one_if}
 use Rattle.ant_turn.specs.Rounds.{Moment}
 use Rattle.spec_record.specs.Holds.{Holds}
 use Rattle.spec_record.proofs.WritesAlone.{Holds-itself}
-use Rattle.round_book.specs.CountLaws.{LoneTurnsAreTaken}
+use Rattle.round_book.specs.CountLaws.{SingleTurnsAreTaken}
 use Rattle.round_book.specs.Counts.{Counted, counts_of, is_taken, taken_among}
 use Rattle.round_book.specs.Window.{HoldsIn, Window, moment_before}
 use Rattle.round_book.proofs.CountLemmas.{is_taken-test}
@@ -17,9 +17,9 @@ first-holds window =
     subst (λ (m : Moment). HoldsIn window m window.from) (sym (moment_before-from window))
     (subst (λ g. Holds window.minds window.base g window.base window.place window.from) (sym (guess_for-from window)) (Holds-itself window.minds window.base window.place window.from))
 
-pub lone_turns_are_taken : LoneTurnsAreTaken
+pub single_turns_are_taken : SingleTurnsAreTaken
 unfolding counts_of
-lone_turns_are_taken window playable lone =
+single_turns_are_taken window playable lone =
     let one : window.to - window.from ≡ 1 = omega arith in
     let here : window.from + 0 ≡ window.from = omega arith in
     let taken : is_taken window (window.from + 0) ≡ true = ap (is_taken window) here ∙ (is_taken-test window window.from).1 (first-holds window) in

@@ -2,7 +2,7 @@ use Rattle.std.proofs.Common.{◌≡◌, sym, ◌∙◌, subst, arith}
 use Rattle.ant_turn.specs.Minds.{Fits, Minds, minds_of}
 use Rattle.cell_world.specs.Grid.{Grid, world_of}
 use Rattle.match_save.proofs.ResumedGames.{Fits-saved, few-saved, place-saved, sequential-is}
-use Rattle.match_save.proofs.going_on.sequential_of.Goals as goal
+use Rattle.match_save.proofs.going_on.game_alone_of.Goals as goal
 
 pub at_round-requires : goal.at_round-requires
 at_round-requires c =

@@ -9,8 +9,8 @@ use Rattle.ant_turn.specs.Rounds.{Moment, after_turn, after_turns, after_round, 
 use Rattle.ant_turn.specs.Turn.{turn}
 use Rattle.ant_turn.proofs.KeptByRounds.{after_turns-ids, after_turns-more, after_turns-place, after_rounds-then}
 use Rattle.round_book.proofs.BookLemmas.{moment_at}
-use Rattle.match_run.specs.Sequential.{IsPlayedOn, SequentialValue, standing}
-use Rattle.match_run.specs.Inner.Sequential.{moment_from}
+use Rattle.match_run.specs.Alone.{IsPlayedOn, GameAloneValue, standing}
+use Rattle.match_run.specs.Inner.Alone.{moment_from}
 
 -- a world and a stream are those after so many turns of a round that starts with others
 pub record IsTaken (minds : Minds) (first : Grid) (start : SeedAndPlace) (turns : ℕ) (grid : Grid) (stream : SeedAndPlace) : Type 0 where
@@ -66,11 +66,11 @@ unfolding after_round
 IsTaken-all {minds} {first} {start} taken all = taken.moment ∙ ap (after_turns minds start.seed (moment_from first start) 0) all
 
 -- no round is played
-pub IsPlayedOn-none : (game : SequentialValue) → IsPlayedOn game game 0
+pub IsPlayedOn-none : (game : GameAloneValue) → IsPlayedOn game game 0
 IsPlayedOn-none game = record { now = refl; done = omega arith; minds = refl; seed = refl }
 
 -- some rounds, and then some more
-pub IsPlayedOn-then : {old mid : SequentialValue} {rounds : ℕ} → IsPlayedOn old mid rounds → (new : SequentialValue) (more : ℕ) → IsPlayedOn mid new more → IsPlayedOn old new (rounds + more)
+pub IsPlayedOn-then : {old mid : GameAloneValue} {rounds : ℕ} → IsPlayedOn old mid rounds → (new : GameAloneValue) (more : ℕ) → IsPlayedOn mid new more → IsPlayedOn old new (rounds + more)
 IsPlayedOn-then {old} {mid} {rounds} played new more later =
     let so_far : mid.done ≡ old.done + rounds = played.done in
     let since : new.done ≡ mid.done + more = later.done in
@@ -86,5 +86,5 @@ IsPlayedOn-then {old} {mid} {rounds} played new more later =
     }
 
 -- the world then is that after these rounds
-pub IsPlayedOn-world : {old new : SequentialValue} {rounds : ℕ} → IsPlayedOn old new rounds → world_of new.world ≡ (after_rounds old.minds old.seed (standing old) rounds).world
+pub IsPlayedOn-world : {old new : GameAloneValue} {rounds : ℕ} → IsPlayedOn old new rounds → world_of new.world ≡ (after_rounds old.minds old.seed (standing old) rounds).world
 IsPlayedOn-world played = ap (λ (m : Moment). m.world) played.now

@@ -8,7 +8,7 @@ use Rattle.match_run.specs.Run.{most_rounds}
 
 -- what a contract sees of such a game at the end of a round: its world, brains and seed, how many random numbers were drawn, and how many
 -- rounds are done
-pub record SequentialValue : Type 0 where
+pub record GameAloneValue : Type 0 where
   pub world : Grid
   pub minds : Minds
   pub seed : ℕ
@@ -16,17 +16,17 @@ pub record SequentialValue : Type 0 where
   pub done : ℕ
 
 -- where it stands
-abbrev pub standing : SequentialValue → Moment
+abbrev pub standing : GameAloneValue → Moment
 standing game = record { world = world_of game.world; place = game.place }
 
 -- what every such game keeps: its ants fit its brains, few rounds are done, and each turn drew one random number at most
-pub record IsSequential (game : SequentialValue) : Type 0 where
+pub record IsGameAlone (game : GameAloneValue) : Type 0 where
   pub fit : Fits (world_of game.world) game.minds
   pub few : game.done ≤ most_rounds
   pub place : game.place ≤ game.done * most_ants
 
 -- it was played for so many rounds: it stands where the rules' rounds lead from where it stood
-pub record IsPlayedOn (old new : SequentialValue) (rounds : ℕ) : Type 0 where
+pub record IsPlayedOn (old new : GameAloneValue) (rounds : ℕ) : Type 0 where
   pub now : standing new ≡ after_rounds old.minds old.seed (standing old) rounds
   pub done : new.done ≡ old.done + rounds
   pub minds : new.minds ≡ old.minds
