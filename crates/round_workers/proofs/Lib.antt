@@ -20,3 +20,5 @@ pub mod ShareLemmas
 pub mod PieceLemmas
 -- Worked values.
 pub mod WorkedBoard
+-- Each law, used.
+pub mod LawsUsed
