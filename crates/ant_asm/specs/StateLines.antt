@@ -77,8 +77,8 @@ abbrev pub state_lines_text : List StateLine → List ℕ
 state_lines_text [] = []
 state_lines_text (it ∷ others) = state_line_text it ++ state_lines_text others
 
--- The line of this number in the text says the instruction of the i-th of these addresses, where the main program has this text: each label of
--- the line stands for a label of its body, and the instruction has the number of the place to which that one leads.
+-- The line of this number in the text says the instruction of the i-th of these addresses. Each label of the line stands for
+-- a label of its body, and the instruction has the number of the place to which that one leads.
 pub record SaysInstruction (text : List ℕ) (list : List Address) (i number : ℕ) (instruction : Instr) : Type 0 where
   pub place : ℕ
   pub line : TokenLine
@@ -102,8 +102,8 @@ pub record SaysUse (text : List ℕ) (step : WayStep) : Type 0 where
   pub handed : List Named
   pub says : Says line.tokens (Uses step.name handed)
 
--- There is a line for each state of the brain to which the text is assembled, in order from 0. It says the state's instruction, and has a use
--- for each place of the state's address but the last.
+-- There is a line for each state of the brain to which the text is assembled, in order from 0. It says the state's
+-- instruction, and has a use for each place of the state's address but the last.
 pub record LineForEachState : Type 0 where
   pub as_many : (text : List ℕ) (brain : List Instr) (list : List Address) (lines : List StateLine) → IsAssembledText text brain list → AreStateLinesOf text lines → length lines ≡ length brain
   pub in_order : (text : List ℕ) (lines : List StateLine) (i : ℕ) (it : StateLine) → AreStateLinesOf text lines → slice_get lines i ≡ Some it → it.state ≡ i
