@@ -61,13 +61,13 @@ module _ (main : Items) where
 
   -- the body that a path leads to, its frame, and its numbers
   pub record Stands (body : Items) (frame : Frame) (numbers : Numbers) : Type 0 where
-    walks : (k : ℕ) (rest : Address) → placed_at main (frame.path ++ k ∷ rest) ≡ placed_from rest body frame k (from_place k body)
+    pub walks : (k : ℕ) (rest : Address) → placed_at main (frame.path ++ k ∷ rest) ≡ placed_from rest body frame k (from_place k body)
     counts : (k : ℕ) (rest : Address) → number_of main (frame.path ++ k ∷ rest) ≡ number_walk rest (numbers.base + offset k body) (from_place k body)
 
-  Stands-main : Stands main (main_frame main) main_numbers
+  pub Stands-main : Stands main (main_frame main) main_numbers
   Stands-main = record { walks = λ k rest. refl; counts = λ k rest. ap (λ (n : ℕ). number_walk rest n (from_place k main)) (let e : offset k main ≡ 0 + offset k main = omega arith in e) }
 
-  Stands-inner : (body : Items) (frame : Frame) (numbers : Numbers) (k : ℕ) (handed : List Label) (block others : Items) →
+  pub Stands-inner : (body : Items) (frame : Frame) (numbers : Numbers) (k : ℕ) (handed : List Label) (block others : Items) →
       Stands body frame numbers → from_place k body ≡ Use handed block others →
       Stands block (inner body frame k handed) (inner_numbers body numbers k handed)
   Stands-inner body frame numbers k handed block others stands is = record {

@@ -40,3 +40,5 @@ pub mod LineInstructions
 -- Worked values.
 pub mod Worked
 mod WorkedLabels
+-- Each law, used.
+pub mod LawsUsed

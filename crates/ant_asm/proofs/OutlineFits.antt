@@ -1,17 +1,18 @@
 -- The outline of a program is that of its items.
-use Rattle.std.proofs.Common.{◌≡◌, ℕ, suc, ◌+◌, Bool, true, false, cond, List, [], ◌∷◌, ◌++◌, Option, Some, None, refl, sym, ap, ap₂, ◌∙◌, subst, append_assoc, append-nil}
-use Rattle.std.specs.Prelude.{bytes_eq}
+use Rattle.std.proofs.Common.{◌≡◌, ℕ, suc, ◌+◌, ◌≤◌, Bool, true, false, cond, List, [], ◌∷◌, ◌++◌, length, map, Option, Some, None, refl, sym, ap, ap₂, ◌∙◌, subst, arith, append_assoc, append-nil}
+use Rattle.std.specs.Prelude.{bytes_eq, if◌then◌else◌, ◌==◌}
 use Rattle.std.specs.List.{AllByRecursion}
 use Rattle.line_tokens.specs.TokenLines.{TokenLine, lines_with_tokens}
 use Rattle.ant_asm.specs.declared.action.Action.{Action}
 use Rattle.ant_asm.specs.declared.action.Label.{Label}
-use Rattle.ant_asm.specs.declared.fault.AsmFault.TheVariants.{Misplaced, NoBlock}
+use Rattle.ant_asm.specs.declared.fault.AsmFault.TheVariants.{EmptyBlock, Misplaced, NoBlock}
 use Rattle.ant_asm.specs.Program.{Items, size_of}
 use Rattle.ant_asm.specs.Program.Items.{End, Do, Use}
 use Rattle.ant_asm.specs.Names.{Named}
 use Rattle.ant_asm.specs.Lines.{Line}
 use Rattle.ant_asm.specs.Lines.Line.{Marks, Begins, Ends, Uses, Instructs}
 use Rattle.ant_asm.specs.Standing.{Begun, Block, Draft, ItemLine, Standing, below, earlier, items_by, items_of, mapped, new_draft, nothing_yet, place_fault, unknown_of, use_fault, used, way_or_next, with_line, with_mark, with_name}
+use Rattle.ant_asm.specs.Standing.{Item, with_item}
 use Rattle.ant_asm.specs.Standing.Item.{Instruction, Call}
 use Rattle.ant_asm.specs.Text.{IsAsmText, Leads, last_fault}
 use Rattle.ant_asm.specs.Labels.{AreSaid, NumberedLine, Outline, block_outline, main_outline, outline_of, with_use}
@@ -21,17 +22,18 @@ use Rattle.ant_asm.specs.Inner.Outlines.{lines_said, outline_size, said_before, 
 use Rattle.ant_asm.specs.Inner.Reading.{Read}
 use Rattle.ant_asm.proofs.LineLemmas.{line_again, lines_decide}
 
--- an outline is that of items, and a fact holds of each instruction and its line
-abbrev pub Tells : (ℕ → Action Label → Type 0) → Outline → Items → Type 0
-Tells P Closed End = Unit {0}
-Tells P (Labelled name outline) items = Tells P outline items
-Tells P (Instructed line outline) (Do action others) = P line action × Tells P outline others
-Tells P (Used line name inside outline) (Use handed block others) = Tells P inside block × Tells P outline others
-Tells P it items = ⊥
+-- an outline is that of items; a fact holds of each instruction and its line, and another of each use's line and name; and each block that is used
+-- has an instruction
+abbrev pub Tells : (ℕ → Action Label → Type 0) → (ℕ → List ℕ → Type 0) → Outline → Items → Type 0
+Tells P Q Closed End = Unit {0}
+Tells P Q (Labelled name outline) items = Tells P Q outline items
+Tells P Q (Instructed line outline) (Do action others) = P line action × Tells P Q outline others
+Tells P Q (Used line name inside outline) (Use handed block others) = Tells P Q inside block × Tells P Q outline others × (1 ≤ size_of block) × Q line name
+Tells P Q it items = ⊥
 
 -- an outline is that of items
 abbrev pub Fits : Outline → Items → Type 0
-Fits = Tells (λ line action. Unit {0})
+Fits = Tells (λ line action. Unit {0}) (λ line name. Unit {0})
 
 pub fits-size : (outline : Outline) (items : Items) → Fits outline items → outline_size outline ≡ size_of items
 fits-size Closed End fits = refl
@@ -86,21 +88,22 @@ use-known : (size : ℕ) (found : Option Block) (handed : List Named) (number : 
 use-known size None handed number free = let never : Some (NoBlock number) ≡ None = free in absurd (cc)
 use-known size (Some block) handed number free = (block, refl)
 
--- a fact holds of what a line says, if it is an instruction, whatever its labels stand for
-abbrev pub IsTold : (ℕ → Action Label → Type 0) → NumberedLine → Type 0
-IsTold P (At number (Instructs action)) = (way : Named → Label) → P number (mapped way action)
-IsTold P (At number says) = Unit {0}
+-- a fact holds of what a line says, if it is an instruction, whatever its names stand for, or another, if it is a use
+abbrev pub IsTold : (ℕ → Action Label → Type 0) → (ℕ → List ℕ → Type 0) → NumberedLine → Type 0
+IsTold P Q (At number (Instructs action)) = (meaning : List ℕ → Option Label) → P number (mapped (way_or_next meaning) action)
+IsTold P Q (At number (Uses name handed)) = Q number name
+IsTold P Q (At number says) = Unit {0}
 
-module _ (P : ℕ → Action Label → Type 0) where
+module _ (P : ℕ → Action Label → Type 0) (Q : ℕ → List ℕ → Type 0) where
   -- that of a block's items, where there is the block
   abbrev FitsBlock : Option Outline → Option Block → Type 0
   FitsBlock outline None = Unit {0}
   FitsBlock None (Some block) = ⊥
-  FitsBlock (Some outline) (Some block) = Tells P outline block.items
+  FitsBlock (Some outline) (Some block) = Tells P Q outline block.items × (1 ≤ size_of block.items)
 
   -- that of items by names, whatever these stand for
   abbrev FitsLines : Outline → List ItemLine → Type 0
-  FitsLines outline lines = (way : Named → Label) → Tells P outline (items_by way lines)
+  FitsLines outline lines = (meaning : List ℕ → Option Label) → Tells P Q outline (items_by (way_or_next meaning) lines)
 
   -- what main's items become
   record HasMore (draft last : Draft) (outline : Outline) : Type 0 where
@@ -120,12 +123,31 @@ module _ (P : ℕ → Action Label → Type 0) where
   abbrev AllFit : Named-blocks → Blocks → Type 0
   AllFit named blocks = (name : List ℕ) → FitsBlock (named name) (blocks name)
 
-  fits-known : (named : Option Outline) (block : Block) → FitsBlock named (Some block) → (outline : Outline) × (named ≡ Some outline) × Tells P outline block.items
+  fits-known : (named : Option Outline) (block : Block) → FitsBlock named (Some block) → (outline : Outline) × (named ≡ Some outline) × Tells P Q outline block.items × (1 ≤ size_of block.items)
   fits-known None block fits = absurd fits
-  fits-known (Some outline) block fits = (outline, refl, fits)
+  fits-known (Some outline) block fits = (outline, refl, fits.0, fits.1)
+
+  -- a block that ends has an item, and so an instruction
+  some-items : (items : List ItemLine) (number : ℕ) → (if length items == 0 then Some (EmptyBlock number) else None) ≡ None → 1 ≤ length items
+  some-items [] number free = (let never : Some (EmptyBlock number) ≡ None = free in absurd (cc))
+  some-items (item ∷ items) number free = omega arith
+
+  tells-some : (outline : Outline) (items : List ItemLine) (way : Named → Label) → 1 ≤ length items → Tells P Q outline (items_by way items) → 1 ≤ size_of (items_by way items)
+  tells-some outline [] way some tells = absurd (omega (arith, some))
+  tells-some outline (item ∷ items) way some tells = one item.item tells
+    where
+      used : (outline : Outline) (handed : List Label) (block others : Items) → Tells P Q outline (Use handed block others) → 1 ≤ size_of block
+      used Closed handed block others tells = absurd tells
+      used (Labelled name rest) handed block others tells = used rest handed block others tells
+      used (Instructed line rest) handed block others tells = absurd tells
+      used (Used line name inside rest) handed block others tells = tells.2
+
+      one : (it : Item) → Tells P Q outline (with_item way it (items_by way items)) → 1 ≤ size_of (with_item way it (items_by way items))
+      one (Instruction action) told = omega arith
+      one (Call handed block) told = let inside = used outline (map way handed) block (items_by way items) told in omega (arith, inside)
 
   -- one block more
-  AllFit-with : (named : Named-blocks) (blocks : Blocks) (name : List ℕ) (outline : Outline) (block : Block) → AllFit named blocks → Tells P outline block.items → AllFit (with_name name outline named) (with_name name block blocks)
+  AllFit-with : (named : Named-blocks) (blocks : Blocks) (name : List ℕ) (outline : Outline) (block : Block) → AllFit named blocks → Tells P Q outline block.items × (1 ≤ size_of block.items) → AllFit (with_name name outline named) (with_name name block blocks)
   AllFit-with named blocks name outline block all fits other = go (bytes_eq name other)
     where
       go : (b : Bool) → FitsBlock (cond b (Some outline) (named other)) (cond b (Some block) (blocks other))
@@ -134,7 +156,7 @@ module _ (P : ℕ → Action Label → Type 0) where
 
   mutual
     fits-outside : (lines : List NumberedLine) (named : Named-blocks) (main : Draft) (count : ℕ) (blocks : Blocks) (unknown : Option ℕ) (last : Standing) → AllFit named blocks →
-        LeadsSaid (outside main count blocks unknown) lines last → last.begun ≡ None → AllByRecursion (IsTold P) lines → HasMore main last.main (main_outline lines false named)
+        LeadsSaid (outside main count blocks unknown) lines last → last.begun ≡ None → AllByRecursion (IsTold P Q) lines → HasMore main last.main (main_outline lines false named)
     fits-outside [] named main count blocks unknown last all leads closed each = record {
       more = [];
       are = ap (λ (s : Standing). s.main.items) (sym leads) ∙ sym (append-nil main.items);
@@ -154,7 +176,7 @@ module _ (P : ℕ → Action Label → Type 0) where
         (with_line main number (Call handed known.0.items)) refl
         (fits-outside lines named (with_line main number (Call handed known.0.items)) count blocks unknown last all
         (subst (λ (b : Option Block). LeadsSaid (used b (outside main count blocks unknown) number handed) lines last) known.1 leads.1) closed each.1)
-        (λ more fits way. (there.2, fits way)))
+        (λ more fits way. (there.2, fits way, there.3, each.0)))
     fits-outside (At number (Instructs action) ∷ lines) named main count blocks unknown last all leads closed each =
         one-more main last.main (record { line = number; item = Instruction action }) (main_outline lines false named) (Instructed number (main_outline lines false named))
         (with_line main number (Instruction action)) refl
@@ -163,7 +185,7 @@ module _ (P : ℕ → Action Label → Type 0) where
 
     fits-inside : (lines : List NumberedLine) (named : Named-blocks) (main : Draft) (count : ℕ) (blocks : Blocks) (unknown : Option ℕ) (name : List ℕ) (line : ℕ) (draft : Draft) (whole : Outline) (last : Standing) → AllFit named blocks →
         ((tail : List ItemLine) → FitsLines (block_outline lines named) tail → FitsLines whole (draft.items ++ tail)) →
-        LeadsSaid (inside main count blocks unknown name line draft) lines last → last.begun ≡ None → AllByRecursion (IsTold P) lines → HasMore main last.main (main_outline lines true (with_name name whole named))
+        LeadsSaid (inside main count blocks unknown name line draft) lines last → last.begun ≡ None → AllByRecursion (IsTold P Q) lines → HasMore main last.main (main_outline lines true (with_name name whole named))
     fits-inside [] named main count blocks unknown name line draft whole last all grow leads closed each =
         (let never : Some (let b : Begun = record { name = name; line = line; draft = draft } in b) ≡ None = ap (λ (s : Standing). s.begun) leads ∙ closed in absurd (cc))
     fits-inside (At number (Marks label) ∷ lines) named main count blocks unknown name line draft whole last all grow leads closed each =
@@ -173,7 +195,8 @@ module _ (P : ℕ → Action Label → Type 0) where
     fits-inside (At number Ends ∷ lines) named main count blocks unknown name line draft whole last all grow leads closed each =
         fits-outside lines (with_name name whole named) main (suc count) (with_name name (record { parameters = draft.parameters; items = items_of draft }) blocks) (earlier unknown (unknown_of draft)) last
         (AllFit-with named blocks name whole (record { parameters = draft.parameters; items = items_of draft }) all
-        (subst (λ (l : List ItemLine). Tells P whole (items_by (way_or_next draft.meaning) l)) (append-nil draft.items) (grow [] (λ way. tt) (way_or_next draft.meaning))))
+        (let fits = subst (λ (l : List ItemLine). Tells P Q whole (items_by (way_or_next draft.meaning) l)) (append-nil draft.items) (grow [] (λ way. tt) draft.meaning) in
+        (fits, tells-some whole draft.items (way_or_next draft.meaning) (some-items draft.items number leads.0) fits)))
         leads.1 closed each.1
     fits-inside (At number (Uses label handed) ∷ lines) named main count blocks unknown name line draft whole last all grow leads closed each =
         let known = use-known draft.size (blocks label) handed number leads.0 in
@@ -181,7 +204,7 @@ module _ (P : ℕ → Action Label → Type 0) where
         let item : ItemLine = record { line = number; item = Call handed known.0.items } in
         fits-inside lines named main count blocks unknown name line (with_line draft number (Call handed known.0.items)) whole last all
         (λ tail fits. subst (FitsLines whole) (sym (append_assoc draft.items (item ∷ []) tail))
-        (grow (item ∷ tail) (subst (λ (o : Option Outline). FitsLines (with_use number label o (block_outline lines named)) (item ∷ tail)) (sym there.1) (λ way. (there.2, fits way)))))
+        (grow (item ∷ tail) (subst (λ (o : Option Outline). FitsLines (with_use number label o (block_outline lines named)) (item ∷ tail)) (sym there.1) (λ way. (there.2, fits way, there.3, each.0)))))
         (subst (λ (b : Option Block). LeadsSaid (used b (inside main count blocks unknown name line draft) number handed) lines last) known.1 leads.1) closed each.1
     fits-inside (At number (Instructs action) ∷ lines) named main count blocks unknown name line draft whole last all grow leads closed each =
         let item : ItemLine = record { line = number; item = Instruction action } in
@@ -197,16 +220,16 @@ last-closed standing (Some begun) free = (let never : Some (Misplaced begun.line
 pub text-said : (text : List ℕ) (main : Items) → IsAsmText text main → AreSaid (lines_with_tokens text) (lines_said text)
 text-said text main is = are-said (lines_with_tokens text) nothing_yet is.standing is.leads
 
-pub text-tells : (P : ℕ → Action Label → Type 0) (text : List ℕ) (main : Items) → IsAsmText text main → AllByRecursion (IsTold P) (lines_said text) → Tells P (outline_of (lines_said text)) main
-text-tells P text main is each =
-    let more = fits-outside P (lines_said text) (λ name. None) (new_draft []) 0 (λ name. None) None is.standing (λ name. tt) (leads-said (lines_with_tokens text) nothing_yet is.standing is.leads)
+pub text-tells : (P : ℕ → Action Label → Type 0) (Q : ℕ → List ℕ → Type 0) (text : List ℕ) (main : Items) → IsAsmText text main → AllByRecursion (IsTold P Q) (lines_said text) → Tells P Q (outline_of (lines_said text)) main
+text-tells P Q text main is each =
+    let more = fits-outside P Q (lines_said text) (λ name. None) (new_draft []) 0 (λ name. None) None is.standing (λ name. tt) (leads-said (lines_with_tokens text) nothing_yet is.standing is.leads)
     (last-closed is.standing is.standing.begun is.good) each in
-    subst (Tells P (outline_of (lines_said text))) (sym (is.is ∙ ap (items_by (way_or_next is.standing.main.meaning)) more.are)) (more.fits (way_or_next is.standing.main.meaning))
+    subst (Tells P Q (outline_of (lines_said text))) (sym (is.is ∙ ap (items_by (way_or_next is.standing.main.meaning)) more.are)) (more.fits is.standing.main.meaning)
 
 pub text-fits : (text : List ℕ) (main : Items) → IsAsmText text main → Fits (outline_of (lines_said text)) main
-text-fits text main is = text-tells (λ line action. Unit {0}) text main is (none (lines_said text))
+text-fits text main is = text-tells (λ line action. Unit {0}) (λ line name. Unit {0}) text main is (none (lines_said text))
   where
-    none : (lines : List NumberedLine) → AllByRecursion (IsTold (λ line action. Unit {0})) lines
+    none : (lines : List NumberedLine) → AllByRecursion (IsTold (λ line action. Unit {0}) (λ line name. Unit {0})) lines
     none [] = tt
     none (At number (Instructs action) ∷ lines) = ((λ way. tt), none lines)
     none (At number (Marks name) ∷ lines) = (tt, none lines)

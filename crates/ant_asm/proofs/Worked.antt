@@ -23,7 +23,7 @@ use Rattle.ant_asm.specs.FaultText.{asm_fault_text}
 use Rattle.ant_asm.specs.declared.fault.AsmFault.TheVariants as fault
 
 -- what stands below some lines, the first of which has this number
-abbrev below_all : Standing → ℕ → List Line → Standing
+abbrev pub below_all : Standing → ℕ → List Line → Standing
 below_all standing number [] = standing
 below_all standing number (line ∷ lines) = below_all (below standing number line) (suc number) lines
 
@@ -107,7 +107,7 @@ worked_order : (place_fault (record nothing_yet { count = 256 }) 1 (Begins (code
 worked_order = (refl, refl, refl, refl)
 
 -- use a / foo: a line that stands wrongly counts before one below it that is spelled wrongly
-worked_lines : HasLineFault (codes "use a\nfoo\n") (NoBlock 1)
+pub worked_lines : HasLineFault (codes "use a\nfoo\n") (NoBlock 1)
 unfolding is_name is_next
 worked_lines = record {
   before = [];

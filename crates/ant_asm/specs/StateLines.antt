@@ -1,15 +1,19 @@
 -- In which line of its text the instruction of each state stands (this project's own).
-use Rattle.std.specs.Prelude.{◌≡◌, ℕ, zero, suc, List, [], ◌∷◌, ◌++◌, length, slice_get, Some, codes, decimal}
+use Rattle.std.specs.Prelude.{◌≡◌, ℕ, zero, suc, List, [], ◌∷◌, ◌++◌, length, slice_get, Option, Some, codes, decimal}
+use Rattle.std.specs.List.{AllByRecursion}
 use Rattle.ant_base.specs.Layout.{◌+++◌}
 use Rattle.line_tokens.specs.TokenLines.{TokenLine, lines_with_tokens}
 use Rattle.brain_read.specs.declared.instr.Instr.{Instr}
 use Rattle.ant_asm.specs.declared.action.Action.{Action}
 use Rattle.ant_asm.specs.Program.{Items}
-use Rattle.ant_asm.specs.Places.{Address, places}
+use Rattle.ant_asm.specs.declared.action.Label.{Label}
+use Rattle.ant_asm.specs.Places.{Address, placed, places}
+use Rattle.ant_asm.specs.Assembled.{number_in}
 use Rattle.ant_asm.specs.LabelGame.{instruction_by}
 use Rattle.ant_asm.specs.Names.{Named}
 use Rattle.ant_asm.specs.Lines.{Says}
-use Rattle.ant_asm.specs.Lines.Line.{Instructs}
+use Rattle.ant_asm.specs.Lines.Line.{Instructs, Uses}
+use Rattle.ant_asm.specs.Standing.{way_or_next}
 use Rattle.ant_asm.specs.Labels.{AreSaid, NumberedLine, Outline, WayStep, outline_of}
 use Rattle.ant_asm.specs.Labels.Outline.{Closed, Labelled, Instructed, Used}
 use Rattle.ant_asm.specs.Text.{IsAsmText}
@@ -73,20 +77,37 @@ abbrev pub state_lines_text : List StateLine → List ℕ
 state_lines_text [] = []
 state_lines_text (it ∷ others) = state_line_text it ++ state_lines_text others
 
--- the line of this number in the text says this instruction, with a state for each of its labels
-pub record SaysInstruction (text : List ℕ) (number : ℕ) (instruction : Instr) : Type 0 where
+-- The line of this number in the text says the instruction of the i-th of these addresses. Each label of the line stands for
+-- a label of its body, and the instruction has the number of the place to which that one leads.
+pub record SaysInstruction (text : List ℕ) (list : List Address) (i number : ℕ) (instruction : Instr) : Type 0 where
   pub place : ℕ
   pub line : TokenLine
   pub stands : slice_get (lines_with_tokens text) place ≡ Some line
   pub numbered : line.number ≡ number
   pub action : Action Named
   pub says : Says line.tokens (Instructs action)
-  pub state : Named → ℕ
-  pub is : instruction ≡ instruction_by state action
+  pub main : Items
+  pub program : IsAsmText text main
+  pub address : Address
+  pub at : slice_get list i ≡ Some address
+  pub meaning : List ℕ → Option Label
+  pub is : instruction ≡ instruction_by (λ label. number_in list ((placed main address).target (way_or_next meaning label))) action
 
--- there is a line for each state of the brain to which the text is assembled, in order from 0, and it says the state's instruction
+-- the line of this number in the text is a use of the block of this name
+pub record SaysUse (text : List ℕ) (step : WayStep) : Type 0 where
+  pub place : ℕ
+  pub line : TokenLine
+  pub stands : slice_get (lines_with_tokens text) place ≡ Some line
+  pub numbered : line.number ≡ step.line
+  pub handed : List Named
+  pub says : Says line.tokens (Uses step.name handed)
+
+-- There is a line for each state of the brain to which the text is assembled, in order from 0. It says the state's
+-- instruction, and has a use for each place of the state's address but the last.
 pub record LineForEachState : Type 0 where
   pub as_many : (text : List ℕ) (brain : List Instr) (list : List Address) (lines : List StateLine) → IsAssembledText text brain list → AreStateLinesOf text lines → length lines ≡ length brain
   pub in_order : (text : List ℕ) (lines : List StateLine) (i : ℕ) (it : StateLine) → AreStateLinesOf text lines → slice_get lines i ≡ Some it → it.state ≡ i
   pub says : (text : List ℕ) (brain : List Instr) (list : List Address) (lines : List StateLine) (i : ℕ) (it : StateLine) (instruction : Instr) → IsAssembledText text brain list → AreStateLinesOf text lines →
-      slice_get lines i ≡ Some it → slice_get brain i ≡ Some instruction → SaysInstruction text it.line instruction
+      slice_get lines i ≡ Some it → slice_get brain i ≡ Some instruction → SaysInstruction text list i it.line instruction
+  pub uses : (text : List ℕ) (brain : List Instr) (list : List Address) (lines : List StateLine) (i : ℕ) (it : StateLine) (address : Address) → IsAssembledText text brain list → AreStateLinesOf text lines →
+      slice_get lines i ≡ Some it → slice_get list i ≡ Some address → (length address ≡ suc (length it.way)) × AllByRecursion (SaysUse text) it.way

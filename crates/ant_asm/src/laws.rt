@@ -15,9 +15,9 @@ pub fn one_brain()
     ensures { OneBrain }
 {}
 
-/// A law: by any opening world, other brain, numbers of the rules, seed, side and number of rounds, the game with an assembled brain is the
-/// labelled game of its program, with the number of its place for each address, and it stands at an equal place of the stream (the task's
-/// kinetics and number generation).
+/// A law: by any opening world, other brain, numbers of the rules, seed, side and number of rounds, the game with an
+/// assembled brain is the labelled game of its program, with the number of its place for each address, and it stands at
+/// an equal place of the stream (the task's kinetics and number generation).
 #[tactic(auto, using(crate::proofs::LabelGames::game_labelled))]
 pub fn plays_labelled()
     ensures { PlaysLabelled }
@@ -29,8 +29,9 @@ pub fn scores_labelled()
     ensures { ScoresLabelled }
 {}
 
-/// A law: where the instructions of a text's program stand is told for each state of the brain to which it is assembled, in order from 0, and the
-/// line that is told of a state is one of the text that says the state's instruction.
+/// A law: there is a line for each state of the brain to which a text is assembled, in order from 0. The text's line of
+/// that number says the state's instruction, whose labels lead where the line's labels lead in its body. Each of the
+/// uses that it tells is a line of the text, and there is one for each place of the state's address but the last.
 #[tactic(auto, using(crate::proofs::LineInstructions::line_for_each))]
 pub fn line_for_each_state()
     ensures { LineForEachState }
