@@ -14,7 +14,7 @@ ghost use Rattle.match_run.specs.Run.{most_rounds};
 
 use crate::executed::executed_by;
 use crate::tally::{Tallies, Tally};
-use ant_base::{Each, Failed, Layout, Parts, PushFault, Sink, layout};
+use ant_base::{Each, Failed, Layout, NumberedTexts, PushFault, Sink, layout};
 use ant_random::Stream;
 use ant_turn::{Brains, act};
 use brain_read::{Brain, Instr};
@@ -184,7 +184,7 @@ struct BrainLines<'b> {
     ghost states: { length tallies.now ≡ length brain.now },
 }
 
-impl Parts for BrainLines<'_> {
+impl NumberedTexts for BrainLines<'_> {
     ghost count = { λ lines. length lines.brain.now };
 
     ghost part = { λ lines state. counted_line lines.colour lines.brain.now lines.tallies.now state };
