@@ -2,7 +2,7 @@
 use crate::tests::standing_workers::{Players, field_on, make_players, opened_world};
 use ant_base::{Calls, Failed, LONGEST, MemSink};
 use ant_turn::{Brains, Sheet};
-use match_run::{Dumps, Game, PlayFault, GameAlone, play_on, play_on_alone};
+use match_run::{Dumps, Game, GameAlone, PlayFault, play_on, play_on_alone};
 use round_book::{Crew, SoloCrew};
 use std::alloc::Global;
 use std::process::Abort;
