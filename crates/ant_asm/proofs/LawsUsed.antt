@@ -1,5 +1,5 @@
 -- Each law, used at a program of three blocks, one inside another: a weaker law would not do.
-use Rattle.std.proofs.Common.{◌≡◌, inl, inr, ℕ, suc, List, [], ◌∷◌, length, codes, Some, Ok, refl, arith}
+use Rattle.std.proofs.Common.{◌≡◌, ℕ, suc, List, [], ◌∷◌, length, codes, Ok, refl, arith}
 use Rattle.std.specs.Prelude.{◌⊎◌}
 use Rattle.std.specs.List.{AllByRecursion}
 use Rattle.cell_world.specs.declared.ant.Colour.TheVariants.{Red}
@@ -28,7 +28,7 @@ use Rattle.ant_asm.specs.Places.{Address, beginning}
 use Rattle.ant_asm.specs.Assembled.{IsAssembled}
 use Rattle.ant_asm.specs.Answers.{IsAssembledText, OneBrain}
 use Rattle.ant_asm.specs.Match.{PlaysLabelled, ScoresLabelled, label_game, numbered_moment}
-use Rattle.ant_asm.specs.Standing.{Standing, items_of, nothing_yet}
+use Rattle.ant_asm.specs.Standing.{Standing, nothing_yet}
 use Rattle.ant_asm.specs.Text.{IsAsmFault, IsAsmText, OneProgramOrOneFault}
 use Rattle.ant_asm.specs.Text.IsAsmFault.{OfLine}
 use Rattle.ant_asm.specs.Labels.{WayStep}

@@ -11,8 +11,7 @@ use Rattle.ant_asm.specs.Program.Items.{End, Do, Use}
 use Rattle.ant_asm.specs.Names.{Named}
 use Rattle.ant_asm.specs.Lines.{Line}
 use Rattle.ant_asm.specs.Lines.Line.{Marks, Begins, Ends, Uses, Instructs}
-use Rattle.ant_asm.specs.Standing.{Begun, Block, Draft, ItemLine, Standing, below, earlier, items_by, items_of, mapped, new_draft, nothing_yet, place_fault, unknown_of, use_fault, used, way_or_next, with_line, with_mark, with_name}
-use Rattle.ant_asm.specs.Standing.{Item, with_item}
+use Rattle.ant_asm.specs.Standing.{Begun, Block, Draft, Item, ItemLine, Standing, below, earlier, items_by, items_of, mapped, new_draft, nothing_yet, place_fault, unknown_of, use_fault, used, way_or_next, with_item, with_line, with_mark, with_name}
 use Rattle.ant_asm.specs.Standing.Item.{Instruction, Call}
 use Rattle.ant_asm.specs.Text.{IsAsmText, Leads, last_fault}
 use Rattle.ant_asm.specs.Labels.{AreSaid, NumberedLine, Outline, block_outline, main_outline, outline_of, with_use}

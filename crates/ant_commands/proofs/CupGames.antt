@@ -1,9 +1,8 @@
 -- A game of a cup is a run.
-use Rattle.std.proofs.Common.{Bool, List, [], ap, refl, ℕ, ◌∙◌, ◌≡◌}
+use Rattle.std.proofs.Common.{Bool, [], ap, ◌∙◌}
 use Rattle.std.specs.Prelude.{slice_index_or}
 use Rattle.ant_turn.specs.Minds.{Minds}
 use Rattle.ant_turn.specs.Sheet.{Sheet}
-use Rattle.brain_read.specs.declared.instr.Instr.{Instr}
 use Rattle.cell_world.specs.Grid.{world_of}
 use Rattle.cell_world.specs.World.{World}
 use Rattle.command_words.specs.Slots.{DumpChoice}

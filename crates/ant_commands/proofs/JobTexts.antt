@@ -19,8 +19,8 @@ use Rattle.brain_same.specs.Text.{comparison_text, way_text}
 use Rattle.break_view.proofs.ViewLaws.{one_first_stop}
 use Rattle.break_view.specs.Texts.{view_of}
 use Rattle.cell_world.specs.Grid.{Grid, world_of}
-use Rattle.ant_commands.specs.Setups.{CupWithin, ResumeSetup, RunSetup, ShapeWithin, resume_of, save_setup_of, setup_of, shape_of, told_of, trace_of}
-use Rattle.ant_commands.specs.Jobs.{advance_job, asm_job, brain_job, cup_job, gen_job, help_job, job_by, job_of, minimise_job, resume_job, run_job, same_job, save_job, show_job, version_job, view_job, workload_job}
+use Rattle.ant_commands.specs.Setups.{CupWithin, RunSetup, ShapeWithin, resume_of, save_setup_of, setup_of, shape_of, told_of, trace_of}
+use Rattle.ant_commands.specs.Jobs.{asm_job, brain_job, cup_job, gen_job, help_job, job_by, job_of, minimise_job, same_job, version_job, view_job, workload_job}
 use Rattle.ant_commands.specs.declared.commands.setups.GenShape.{GenShape}
 use Rattle.match_run.specs.Counts.{whole_text}
 use Rattle.tournament.proofs.LawsLemmas.{standing_law}

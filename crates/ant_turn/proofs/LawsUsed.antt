@@ -4,7 +4,6 @@ use Rattle.std.specs.List.{AllPairs, Contains}
 use Rattle.std.specs.Prelude.{IsSome}
 use Rattle.hex_geometry.proofs.Places.{at}
 use Rattle.hex_geometry.specs.declared.position.Pos.{Pos}
-use Rattle.cell_world.specs.declared.ant.Ant.{Ant}
 use Rattle.cell_world.specs.declared.ant.Colour.TheVariants.{Red, Black}
 use Rattle.cell_world.specs.Cell.{holds_id, rock}
 use Rattle.cell_world.specs.Grid.{Grid, cell_in, world_of}

@@ -11,7 +11,6 @@ use Rattle.brain_read.specs.Canonical.{brain_text, instruction_text}
 use Rattle.brain_read.specs.Faulty.{IsBrainFault}
 use Rattle.brain_read.specs.Grammar.{IsBrainText}
 use Rattle.brain_read.specs.Laws.{CanonicalTextIsRead, NoTextWantsMemory, OneBrainOrOneFault, TextsMakeBrains}
-use Rattle.brain_read.specs.Soundness.{IsBrain}
 use Rattle.brain_read.proofs.SoundnessLemmas.{brain_of}
 use Rattle.brain_read.proofs.Worked.{marker_6}
 

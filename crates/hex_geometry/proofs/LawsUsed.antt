@@ -1,7 +1,7 @@
 -- Each law of the geometry, used at a few places: a weaker law would not do.
 use Rattle.hex_geometry.proofs.Places.{at}
 use Rattle.hex_geometry.proofs.Worked.{across_and_down, place, two_rows_down}
-use Rattle.hex_geometry.specs.Direction.{dir_of, directions, number_of, opposite, turned_by}
+use Rattle.hex_geometry.specs.Direction.{dir_of, number_of, opposite, turned_by}
 use Rattle.hex_geometry.specs.Distance.{IsAdjacent, IsDistance, ListsBall}
 use Rattle.hex_geometry.specs.DistanceLaws.{BallsAreCounted, DistanceIsMetric, StepsChangeByOne}
 use Rattle.hex_geometry.specs.Laws.{NeighboursAreMutual, NeighboursAreTheTables, TurnsGoRound}

@@ -6,7 +6,6 @@ use Rattle.hex_geometry.proofs.Places.{at}
 use Rattle.hex_geometry.specs.Position.{same_pos}
 use Rattle.hex_geometry.specs.declared.position.Pos.{Pos}
 use Rattle.cell_world.specs.declared.ant.Colour.TheVariants.{Red}
-use Rattle.cell_world.specs.declared.cell.Cell.{Cell}
 use Rattle.cell_world.specs.declared.part.Part.TheVariants as part
 use Rattle.cell_world.specs.Cell.{holds_id, rock}
 use Rattle.cell_world.specs.Grid.{cell_in}

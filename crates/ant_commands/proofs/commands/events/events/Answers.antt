@@ -1,9 +1,5 @@
 -- the files were accepted, and their game's events were written
-use Rattle.std.proofs.Common.{subst}
-use Rattle.ant_base.specs.Sink.{Pushed}
-use Rattle.ant_turn.specs.Sheet.{Sheet, sheet_of}
-use Rattle.cell_world.specs.Grid.{world_of}
-use Rattle.game_reports.specs.Events.{events_text}
+use Rattle.ant_turn.specs.Sheet.{sheet_of}
 use Rattle.ant_commands.specs.Jobs.{events_job}
 use Rattle.ant_commands.specs.Setups.{plain_told}
 use Rattle.ant_commands.specs.Inner.Plans.{game_read, setting_contents}

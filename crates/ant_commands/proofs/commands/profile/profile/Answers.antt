@@ -1,10 +1,5 @@
 -- the files were accepted, and their game's profile was written
-use Rattle.std.proofs.Common.{subst}
-use Rattle.ant_base.specs.Sink.{PushedAll}
-use Rattle.ant_turn.specs.Sheet.{Sheet, sheet_of}
-use Rattle.cell_world.specs.Grid.{world_of}
-use Rattle.game_reports.specs.Profile.{profile_text}
-use Rattle.game_reports.specs.Pushes.{StoppedBefore}
+use Rattle.ant_turn.specs.Sheet.{sheet_of}
 use Rattle.ant_commands.specs.Jobs.{profile_job}
 use Rattle.ant_commands.specs.Setups.{plain_told}
 use Rattle.ant_commands.specs.Inner.Plans.{game_read, setting_contents}

@@ -1,9 +1,5 @@
 -- the files were accepted, and an ant's way through their game was written
-use Rattle.std.proofs.Common.{subst}
-use Rattle.ant_base.specs.Sink.{Pushed}
-use Rattle.game_reports.specs.Trace.{trace_text}
-use Rattle.ant_turn.specs.Sheet.{Sheet, sheet_of}
-use Rattle.cell_world.specs.Grid.{world_of}
+use Rattle.ant_turn.specs.Sheet.{sheet_of}
 use Rattle.ant_commands.specs.Jobs.{trace_job}
 use Rattle.ant_commands.specs.Setups.{plain_told}
 use Rattle.ant_commands.specs.Inner.Plans.{game_read, setting_contents}
