@@ -196,8 +196,8 @@ says_its_words_used law =
       law.has (words_of (codes "gen 7 --width 5")) generated gen_is Width refl,
       law.given (words_of (codes "gen 7 --width 5")) generated gen_is Width (0, lit< tt, refl),
     ) where
-  word_is : (word other : List ℕ) → Some other ≡ Some word → other ≡ word
-  word_is word other same = cc
+      word_is : (word other : List ℕ) → Some other ≡ Some word → other ≡ word
+      word_is word other same = cc
 
-  value_is : (word other : List ℕ) → (other ∷ []) ∷ [] ≡ (word ∷ []) ∷ [] → other ≡ word
-  value_is word other same = cc
+      value_is : (word other : List ℕ) → (other ∷ []) ∷ [] ≡ (word ∷ []) ∷ [] → other ≡ word
+      value_is word other same = cc
