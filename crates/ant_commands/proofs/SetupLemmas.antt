@@ -1,14 +1,16 @@
 -- What a command line says to a command is within its limits.
-use Rattle.std.proofs.Common.{◌≡◌, refl, sym, subst, lit<}
+use Rattle.std.proofs.Common.{Bool, ℕ, ◌≡◌, ap, refl, sym, subst, lit<}
 use Rattle.std.specs.List.{Contains}
-use Rattle.command_words.specs.Command.{AskedWithin, PlainAsked}
+use Rattle.command_words.specs.Command.{AreWithin, AskedWithin, PlainAsked}
+use Rattle.command_words.specs.Limits.{IsWithin}
+use Rattle.command_words.specs.Slots.{DumpChoice}
 use Rattle.command_words.specs.Table.{places_of}
 use Rattle.command_words.specs.declared.limits.NumberKind.TheVariants.{SeedNumber, RoundCount, WorkerCount, WindowSize, FoeCount, CorpseFood, RestRounds, SideLength, ElementCount}
 use Rattle.command_words.specs.declared.slot.Place.TheVariants.{Names}
 use Rattle.command_words.specs.declared.table.CommandKind.TheVariants.{Cup}
 use Rattle.command_words.specs.declared.table.Choice.TheVariants.{Seed, Rounds, Workers, Window, Surround, Corpse, Rest, Width, Height, Rocks, Blobs}
 use Rattle.command_words.specs.declared.table.NameList.TheVariants.{Worlds, Brains}
-use Rattle.ant_commands.specs.Setups.{CupWithin, SetupWithin, ShapeWithin, save_setup_of, setup_of, shape_of}
+use Rattle.ant_commands.specs.Setups.{CupWithin, SetupWithin, ShapeWithin, ToldSetup, setup_of, shape_of, told_of}
 
 pub setup-within : (a : PlainAsked) → AskedWithin a → SetupWithin (setup_of a)
 setup-within a within = record {
@@ -22,10 +24,21 @@ setup-within a within = record {
   rest = within.option Rest RestRounds refl;
 }
 
-pub save-within : (a : PlainAsked) → AskedWithin a → SetupWithin (save_setup_of a)
-save-within a within =
+-- the words of a run are within the limits, since those of its game and its other options are
+pub words-within : (a : PlainAsked) → AskedWithin a → (told : ToldSetup) → told ≡ told_of a → (dumps : DumpChoice) → AreWithin dumps → (workers window : ℕ) → workers ≡ a.option Workers → window ≡ a.option Window → (stats far : Bool)
+    → SetupWithin (record { seed = told.seed; rounds = told.rounds; dumps = dumps; workers = workers; window = window; surround = told.surround; corpse = told.corpse; rest = told.rest; stats = stats; far = far })
+words-within a within told is dumps are workers window of_workers of_window stats far =
     let w = setup-within a within in
-    record { seed = w.seed; rounds = w.rounds; dumps = tt; workers = w.workers; window = w.window; surround = w.surround; corpse = w.corpse; rest = w.rest }
+    record {
+      seed = subst (IsWithin SeedNumber) (sym (ap (λ (t : ToldSetup). t.seed) is)) w.seed;
+      rounds = subst (IsWithin RoundCount) (sym (ap (λ (t : ToldSetup). t.rounds) is)) w.rounds;
+      dumps = are;
+      workers = subst (IsWithin WorkerCount) (sym of_workers) w.workers;
+      window = subst (IsWithin WindowSize) (sym of_window) w.window;
+      surround = subst (IsWithin FoeCount) (sym (ap (λ (t : ToldSetup). t.surround) is)) w.surround;
+      corpse = subst (IsWithin CorpseFood) (sym (ap (λ (t : ToldSetup). t.corpse) is)) w.corpse;
+      rest = subst (IsWithin RestRounds) (sym (ap (λ (t : ToldSetup). t.rest) is)) w.rest;
+    }
 
 pub shape-within : (a : PlainAsked) → AskedWithin a → ShapeWithin (shape_of a)
 shape-within a within = record {
