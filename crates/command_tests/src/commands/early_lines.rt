@@ -67,11 +67,11 @@ const EARLY: [(&str, &str); 3] = [
 ];
 
 // Asserts that the output of a command over these worlds fails after this text.
-fn check_early<R: Threads + Wait + Sync + Abort>(
+fn check_early<'w, R: Threads + Wait + Sync + Abort>(
     rt: &R,
     alloc: Global,
-    world: &str,
-    line: &str,
+    world: &'w str,
+    line: &'w str,
     held: &str,
 ) -> Result<(), Fail> {
     let mut job = game_of(line, world, "Flip 2 0 0", "Move 0 0");
