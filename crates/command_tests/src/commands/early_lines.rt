@@ -1,6 +1,6 @@
 // Lines that are written while a game is played: once the output fails at one, nothing more is played. Each game has a
 // million rounds of 16,361 turns, which take longer than a test has.
-use crate::commands::{CLOSED, check, cut, game_of};
+use crate::commands::{CLOSED, check, cut, game_with};
 use std::alloc::Global;
 use std::process::Abort;
 use std::sync::Wait;
@@ -72,10 +72,10 @@ fn check_early<'w, R: Threads + Wait + Sync + Abort>(
     alloc: Global,
     world: &'w str,
     line: &'w str,
+    more: &'w [(&'w str, &'w str)],
     held: &str,
 ) -> Result<(), Fail> {
-    let mut job = game_of(line, world, "Flip 2 0 0", "Move 0 0");
-    job.more = &MORE;
+    let mut job = game_with(line, world, "Flip 2 0 0", "Move 0 0", more);
     job.room = held.len() as u64;
     check(rt, alloc, &job, cut(held, "ants: output failed\n"))
 }
@@ -84,7 +84,7 @@ fn check_early<'w, R: Threads + Wait + Sync + Abort>(
 fn no_more_is_played_once_the_output_fails(rt: HostRuntime) -> Result<(), Fail> {
     let world = crowd(rt.alloc())?;
     for (line, held) in EARLY {
-        check_early(&rt, rt.alloc(), &world, line, held)?;
+        check_early(&rt, rt.alloc(), &world, line, &MORE, held)?;
     }
     Ok(())
 }
