@@ -75,23 +75,23 @@ static EMPTY_JOB: Job<'static> = NO_JOB;
 
 // The command of these words, over a world and two brains.
 fn game_of<'t>(line: &'t str, world: &'t str, red: &'t str, black: &'t str) -> Job<'t> {
-    game_with(line, world, red, black, &[])
+    game_with(line, world, red, black, "")
 }
 
-// The same with more files.
+// The same with a text in k.
 fn game_with<'t>(
     line: &'t str,
     world: &'t str,
     red: &'t str,
     black: &'t str,
-    more: &'t [(&'t str, &'t str)],
+    breaks: &'t str,
 ) -> Job<'t> {
     let mut job = EMPTY_JOB;
     job.line = line;
     job.world = world;
     job.red = red;
     job.black = black;
-    job.more = more;
+    job.breaks = breaks;
     job
 }
 

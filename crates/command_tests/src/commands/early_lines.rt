@@ -45,9 +45,6 @@ fn crowd(alloc: Global) -> Result<String, Fail> {
     Ok(text)
 }
 
-// A small world.
-static MORE: [(&str, &str); 1] = [("v", CLOSED)];
-
 // Words, and the text up to where the output fails: in the line of the death in round 1; in the line of round 1; and in
 // the line of the second game on the small world, before a game on the other one. Above black ant 245 are 122 red ants
 // in row 1, and a black and 122 red ones in row 2.
@@ -61,21 +58,21 @@ const EARLY: [(&str, &str); 3] = [
         "random seed: 12345\nround 0: cell (7, 1): red hill; red ant of id 0, dir 0, food 0, state 0, resting 0\nround 1: ",
     ),
     (
-        "cup --worlds v w --brains r b --games --seed 12345 --rounds 1000000",
-        "game 1: red 0 black 0, v, r, b\ngame 2: ",
+        "cup --worlds k w --brains r b --games --seed 12345 --rounds 1000000",
+        "game 1: red 0 black 0, k, r, b\ngame 2: ",
     ),
 ];
 
-// Asserts that the output of a command over these worlds fails after this text.
+// Asserts that the output of a command over these worlds, the small one in k, fails after this text.
 fn check_early<'w, R: Threads + Wait + Sync + Abort>(
     rt: &R,
     alloc: Global,
     world: &'w str,
     line: &'w str,
-    more: &'w [(&'w str, &'w str)],
+    small: &'w str,
     held: &str,
 ) -> Result<(), Fail> {
-    let mut job = game_with(line, world, "Flip 2 0 0", "Move 0 0", more);
+    let mut job = game_with(line, world, "Flip 2 0 0", "Move 0 0", small);
     job.room = held.len() as u64;
     check(rt, alloc, &job, cut(held, "ants: output failed\n"))
 }
@@ -84,7 +81,7 @@ fn check_early<'w, R: Threads + Wait + Sync + Abort>(
 fn no_more_is_played_once_the_output_fails(rt: HostRuntime) -> Result<(), Fail> {
     let world = crowd(rt.alloc())?;
     for (line, held) in EARLY {
-        check_early(&rt, rt.alloc(), &world, line, &MORE, held)?;
+        check_early(&rt, rt.alloc(), &world, line, CLOSED, held)?;
     }
     Ok(())
 }
