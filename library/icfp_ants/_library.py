@@ -139,12 +139,12 @@ def number_of(name: str, value: int, least: int = 0, most: int = MOST_NUMBER) ->
 
 def whole_numbers(name: str, values: Iterable[int], most: int = MOST_NUMBER) -> List[int]:
     """Numbers, each within its limits."""
+    if isinstance(values, memoryview) and values.ndim != 1:
+        raise TypeError("%s: whole numbers are wanted, as a list, and not a memoryview of %d dimensions" % (name, values.ndim))
     try:
         given = iter(values)
     except TypeError:
         raise TypeError("%s: whole numbers are wanted, as a list, and not %s" % (name, type(values).__name__)) from None
-    if isinstance(values, memoryview) and values.ndim != 1:
-        raise TypeError("%s: whole numbers are wanted, as a list, and not a memoryview of %d dimensions" % (name, values.ndim))
     return [number_of(name, it, most=most) for it in given]
 
 
