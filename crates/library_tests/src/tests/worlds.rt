@@ -68,6 +68,9 @@ fn a_copy_is_an_equal_world(rt: HostRuntime) {
 // Compiles only for a type whose values may be handed to threads and shared by them.
 fn may_go_to_threads<T: Send + Sync>() {}
 
+// Compiles only for a type whose values may be handed to threads.
+fn may_be_sent<T: Send>() {}
+
 #[test]
 fn what_workers_share_and_own_may_go_to_threads(_rt: HostRuntime) {
     may_go_to_threads::<World>();
@@ -76,8 +79,8 @@ fn what_workers_share_and_own_may_go_to_threads(_rt: HostRuntime) {
     may_go_to_threads::<Field<'static>>();
     may_go_to_threads::<Book>();
     may_go_to_threads::<Board>();
-    may_go_to_threads::<Seat>();
-    may_go_to_threads::<Worker>();
+    may_be_sent::<Seat>();
+    may_be_sent::<Worker>();
 }
 
 // Asserts whether two cells agree in a part, each with the other.
