@@ -11,7 +11,7 @@ Lemma = collections.namedtuple("Lemma", "crate name file")
 
 
 class Row:
-    """A wrong rule: where it is in the file, its section, the names of its lemmas and their crate, and the lines of its edits."""
+    """A wrong rule: its line in the file, its section, the names of its lemmas and their crate, and the lines of its edits."""
 
     def __init__(self, number, section, line):
         it = re.fullmatch(r"- (.+) \| (\S+(?:, \S+)*) of (\w+)", line)
@@ -28,7 +28,7 @@ class Row:
 
 
 class Change(collections.namedtuple("Change", "row lemmas texts")):
-    """An edit of a row: the lemmas, of which one has to refuse it, and the texts of the files that it changes."""
+    """An edit of a row: its lemmas, at least one of which has to refuse it, and the texts of the files that it changes."""
 
     crate = property(lambda self: self.row.crate)
 

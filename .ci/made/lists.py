@@ -79,6 +79,6 @@ def gate_page():
         "search takes seconds, and split a function that owns many values: what it costs grows faster than their number. A test that hands a table to a helper costs 1 to 5 seconds, one with assertions of its own\n"
         "10 to 30, an example of `examples/` nothing here. A table of structs is a `static`. Texts cost by their number times their length.\n\n" + cost_table()
         + "\n## Planted bugs and changed definitions\n\n" + mutants_text()
-        + "\n## Bugs that were tried\n\n`rt plant` tries wrong bodies of its own making against the clauses of a function: in how many functions, how many bodies were refused, how many were not run for want of time. By hand: bugs in the real\n"
+        + "\n## Bugs that were tried\n\n`rt plant` tries wrong bodies of its own making against the clauses of a function: in how many functions, how many bodies were refused, how many were not run because time ran out. By hand: bugs in the real\n"
         "code, one at a time. A body that answers out of memory in place of its work passes every clause, since that may be answered at any time; tests call each such function once where there is memory.\n\n" + planted_table()
     )

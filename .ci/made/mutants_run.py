@@ -25,7 +25,7 @@ def last():
 
 
 def is_of_this_tree():
-    """Whether the run's commit has the crates and the changed definitions as they are now."""
+    """Whether the crates and the changed definitions are unchanged since the run's commit."""
     run = last()
     return run is not None and git("diff", "--quiet", run.commit, "--", *TRIED).returncode == 0
 
@@ -38,7 +38,7 @@ def clean_commit():
 
 
 def record(*run):
-    """Writes a run in place of the one before."""
+    """Writes a run over the one before."""
     head = [line for line in read(FILE).split("\n") if line.startswith("#")]
     with open(os.path.join(ROOT, FILE), "w", encoding="utf-8") as file:
         file.write("\n".join([*head, " ".join(map(str, run))]) + "\n")

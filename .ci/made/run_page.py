@@ -1,4 +1,4 @@
-"""docs/RUN.md: docs/run_page.txt, with the sources of a run's promise where that page asks for them, byte for byte.
+"""docs/RUN.md: docs/run_page.txt, with the sources of a run's promise at the lines that name them, byte for byte.
 
     @ FILE            what the promise reaches of this file: definitions or types, whole, in the order of the file
     @ FILE: NAMES     only these
@@ -83,7 +83,7 @@ class RunPage:
         return "[%s](../%s)%s\n\n```\n%s\n```" % (re.sub("^crates/", "", file), file, skip, "\n\n".join("\n".join(it.source) for it in parts))
 
     def note_words(self, it):
-        """Notes which words of the library stand in a definition."""
+        """Notes which words of the library a definition uses."""
         for line in it.source if not isinstance(it, CodeType) else ():
             for text, to in self.tree.tokens(it, line):
                 if isinstance(to, str) or to is None and text in self.told and not text[0].isalnum() and not isinstance(it, Call):

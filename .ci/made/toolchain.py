@@ -1,6 +1,6 @@
-"""What this repository knows of the inside of the toolchain, of which `rt` itself says nothing: how the checker
-beside `rt` is called, and the names of its folders. It stands here alone, so a toolchain of another layout needs no
-other change.
+"""What this repository knows about the inside of the toolchain: how to call the checker that lies beside `rt`, and the
+names of its folders. `rt` itself doesn't say this. No other file knows it, so for a toolchain of another layout only
+this file changes.
 """
 import os
 import shutil
