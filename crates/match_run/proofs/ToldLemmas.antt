@@ -1,7 +1,10 @@
 -- What is told of turns and rounds, one after another.
-use Rattle.std.proofs.Common.{◌≡◌, ℕ, zero, suc, ◌+◌, ◌-◌, ◌≤◌, List, [], ◌++◌, refl, sym, ◌∙◌, ap, append_assoc, append-nil, add-one, le-ltb, arith}
+use Rattle.std.proofs.Common.{◌≡◌, ℕ, zero, suc, ◌+◌, ◌-◌, ◌<◌, ◌≤◌, List, [], ◌++◌, refl, sym, ◌∙◌, ap, ap₂, append_assoc, append-nil, add-one, lt-ltb, le-ltb, arith}
+use Rattle.std.specs.Prelude.{if◌then◌else◌, nat_lt}
+use Rattle.std.specs.List.{flat_map}
 use Rattle.std.proofs.Math.Path.{fun_ext}
-use Rattle.std.proofs.lemmas.Bool.{cond-false}
+use Rattle.std.proofs.lemmas.Bool.{cond-false, cond-true, cond_both}
+use Rattle.std.proofs.lemmas.Grind.{flat_map-append}
 use Rattle.ant_turn.specs.Minds.{Minds}
 use Rattle.ant_turn.specs.Rounds.{Moment, after_rounds, after_turns}
 use Rattle.match_run.specs.Told.{Telling, from_round, told_in_round, told_in_rounds, told_in_turns}
@@ -42,6 +45,74 @@ module _ {A : Type 0} (minds : Minds) (seed : ℕ) where
   pub told_in_rounds-front : (telling : ℕ → Telling A) (m : Moment) (i n : ℕ) → i ≤ n → (rest : List A) × (told_in_rounds telling minds seed m n ≡ told_in_rounds telling minds seed m i ++ rest)
   told_in_rounds-front telling m i n early =
       grown-front (told_in_rounds telling minds seed m) (λ k. told_in_round (telling (k + 1)) minds seed (after_rounds minds seed m k)) (told_in_rounds-more telling m) i n early
+
+-- before the first round nothing is told
+told-before : {A : Type 0} (from : ℕ) (telling : ℕ → Telling A) (round : ℕ) → round < from → from_round from telling round ≡ (λ m t. [])
+told-before from telling round early = fun_ext λ m. fun_ext λ t. cond-true _ _ _ (lt-ltb round from early)
+
+-- from it on all is
+told-after : {A : Type 0} (from : ℕ) (telling : ℕ → Telling A) (round : ℕ) → from ≤ round → from_round from telling round ≡ telling round
+told-after from telling round late = fun_ext λ m. fun_ext λ t. cond-false _ _ _ (le-ltb round from late)
+
+module _ {A : Type 0} (minds : Minds) (seed : ℕ) where
+  abbrev nothing : Telling A
+  nothing m t = []
+
+  nothing-in_turns : (m : Moment) (first n : ℕ) → told_in_turns nothing minds seed m first n ≡ []
+  nothing-in_turns m first zero = refl
+  nothing-in_turns m first (suc n) = ap (λ (told : List A). told ++ []) (nothing-in_turns m first n)
+
+  -- of rounds before the first one nothing is told
+  pub told_in_rounds-before : (telling : ℕ → Telling A) (m : Moment) (from n : ℕ) → n < from → told_in_rounds (from_round from telling) minds seed m n ≡ []
+  told_in_rounds-before telling m from zero early = refl
+  told_in_rounds-before telling m from (suc n) early =
+      let mid : Moment = after_rounds minds seed m n in
+      ap₂ (λ (front last : List A). front ++ last)
+      (told_in_rounds-before telling m from n (omega (arith, early)))
+      (ap (λ (one : Telling A). told_in_round one minds seed mid) (told-before from telling (suc n) early) ∙ nothing-in_turns mid 0 mid.world.ids)
+
+  -- what is told of the first rounds, and then from the next one on, is all
+  pub told_in_rounds-split : (telling : ℕ → Telling A) (m : Moment) (first more : ℕ)
+      → told_in_rounds telling minds seed m first ++ told_in_rounds (from_round (first + 1) telling) minds seed m (first + more) ≡ told_in_rounds telling minds seed m (first + more)
+  told_in_rounds-split telling m first zero =
+      ap (λ (rest : List A). told_in_rounds telling minds seed m first ++ rest) (told_in_rounds-before telling m (first + 1) (first + 0) (omega arith))
+      ∙ append-nil (told_in_rounds telling minds seed m first)
+      ∙ ap (told_in_rounds telling minds seed m) (let e : first ≡ first + 0 = omega arith in e)
+  told_in_rounds-split telling m first (suc more) =
+      let n : ℕ = first + more in
+      let next : first + suc more ≡ n + 1 = omega arith in
+      let last : List A = told_in_round (telling (n + 1)) minds seed (after_rounds minds seed m n) in
+      ap (λ k. told_in_rounds telling minds seed m first ++ told_in_rounds (from_round (first + 1) telling) minds seed m k) next
+      ∙ ap (λ (rest : List A). told_in_rounds telling minds seed m first ++ rest)
+      (told_in_rounds-more minds seed (from_round (first + 1) telling) m n
+      ∙ ap (λ (one : Telling A). told_in_rounds (from_round (first + 1) telling) minds seed m n ++ told_in_round one minds seed (after_rounds minds seed m n))
+      (told-after (first + 1) telling (n + 1) (omega arith)))
+      ∙ sym (append_assoc (told_in_rounds telling minds seed m first) (told_in_rounds (from_round (first + 1) telling) minds seed m n) last)
+      ∙ ap (λ (front : List A). front ++ last) (told_in_rounds-split telling m first more)
+      ∙ sym (told_in_rounds-more minds seed telling m n)
+      ∙ ap (told_in_rounds telling minds seed m) (sym next)
+
+-- what is told of what is told is told of all of it, turn by turn
+module _ {A B : Type 0} (f : A → List B) (minds : Minds) (seed : ℕ) where
+  told_in_turns-mapped : (telling : Telling A) (m : Moment) (first n : ℕ) → told_in_turns (λ m t. flat_map f (telling m t)) minds seed m first n ≡ flat_map f (told_in_turns telling minds seed m first n)
+  told_in_turns-mapped telling m first zero = refl
+  told_in_turns-mapped telling m first (suc n) =
+      let last : List A = telling (after_turns minds seed m first n) (first + n) in
+      ap (λ (front : List B). front ++ flat_map f last) (told_in_turns-mapped telling m first n)
+      ∙ sym (flat_map-append f (told_in_turns telling minds seed m first n) last)
+
+  pub told_in_rounds-mapped : (telling : ℕ → Telling A) (m : Moment) (n : ℕ) → told_in_rounds (λ round m t. flat_map f (telling round m t)) minds seed m n ≡ flat_map f (told_in_rounds telling minds seed m n)
+  told_in_rounds-mapped telling m zero = refl
+  told_in_rounds-mapped telling m (suc n) =
+      let mid : Moment = after_rounds minds seed m n in
+      ap₂ (λ (front last : List B). front ++ last) (told_in_rounds-mapped telling m n) (told_in_turns-mapped (telling (suc n)) mid 0 mid.world.ids)
+      ∙ sym (flat_map-append f (told_in_rounds telling minds seed m n) (told_in_round (telling (suc n)) minds seed mid))
+
+-- what is told from a round on of what is told is that from this round on
+pub from_round-mapped : {A B : Type 0} (f : A → List B) (from : ℕ) (telling : ℕ → Telling A) → from_round from (λ round m t. flat_map f (telling round m t)) ≡ (λ round m t. flat_map f (from_round from telling round m t))
+from_round-mapped f from telling =
+    fun_ext λ round. fun_ext λ m. fun_ext λ t. cond_both (nat_lt round from) [] (telling round m t) (λ told. (if nat_lt round from then [] else flat_map f (telling round m t)) ≡ flat_map f told)
+    (λ early. cond-true _ _ _ early) (λ late. cond-false _ _ _ late)
 
 -- from round 0 on all is told
 pub from_round-all : {A : Type 0} (telling : ℕ → Telling A) → from_round 0 telling ≡ telling

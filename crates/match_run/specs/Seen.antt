@@ -12,6 +12,7 @@ use Rattle.ant_turn.specs.Turn.{Outcome, instruction_at, is_blocked, turn}
 use Rattle.brain_read.specs.declared.instr.Instr.{Instr}
 use Rattle.brain_read.specs.declared.instr.Instr.TheVariants.{Sense, Mark, Unmark, PickUp, Drop, Turn, Move, Flip}
 use Rattle.cell_world.specs.declared.ant.Ant.{Ant}
+use Rattle.cell_world.specs.declared.ant.Colour.{Colour}
 use Rattle.cell_world.specs.declared.ant.PlacedAnt.{PlacedAnt}
 use Rattle.cell_world.specs.declared.score.Score.{Score}
 use Rattle.cell_world.specs.Score.{score_of}
@@ -25,11 +26,13 @@ pub record Killed : Type 0 where
   pub ant : Option Ant
   pub place : Option Pos
 
--- what is seen of a turn: its round; the ant as it stood before it, and where; what it executed, and whether its
--- answer was the first; the killed in the order of the checks; the scores before and after
+-- what is seen of a turn: its round; the ant as it stood before it, and where, and the hill that its cell belongs to;
+-- what it executed, and whether its answer was the first; the killed in the order of the checks; the scores before and
+-- after
 pub record Seen : Type 0 where
   pub round : ℕ
   pub place : Pos
+  pub hill : Option Colour
   pub ant : Ant
   pub instruction : Instr
   pub met : Bool
@@ -105,6 +108,7 @@ abbrev pub seen_of : ℕ → ℕ → World → ℕ → ℕ → Pos → Ant → I
 seen_of seed round w place t p ant instruction outcome = record {
   round = round;
   place = p;
+  hill = (w.cells p).hill;
   ant = ant;
   instruction = instruction;
   met = is_met seed w.cells place p ant instruction;
