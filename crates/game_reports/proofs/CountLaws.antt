@@ -22,6 +22,7 @@ use Rattle.match_run.specs.Seen.{ant_in}
 use Rattle.game_reports.specs.Laws.{CountsAddUp, acting_turns, sum_below, up_by, up_for}
 use Rattle.game_reports.specs.Profile.{executed_at, executed_by, executed_from, executed_in, executed_in_rounds, is_of, times_of}
 use Rattle.match_run.specs.Told.{Telling, told_in_rounds, told_in_turns}
+use Rattle.match_run.proofs.ToldLemmas.{from_round-all}
 
 -- tellings of as many things for each turn
 turns-as_many : {A B : Type 0} (f : Telling A) (g : Telling B) (minds : Minds) (seed : ℕ) → ((m : Moment) (t : ℕ) → length (f m t) ≡ length (g m t)) → (m : Moment) (from n : ℕ) → length (told_in_turns f minds seed m from n) ≡ length (told_in_turns g minds seed m from n)
@@ -159,5 +160,6 @@ counted minds (e ∷ list) inside =
 pub counts_add_up : CountsAddUp
 unfolding executed_in_rounds acting_turns
 counts_add_up minds seed w rounds sound valid fits =
-    counted minds (told_in_rounds (λ round. executed_in minds seed) minds seed (start_of w) rounds) (rounds-fit minds seed (start_of w) rounds sound valid fits)
-    ∙ rounds-as_many (executed_in minds seed) (λ m t. up_by t (ant_in m.world t)) minds seed (executed-up minds seed) (start_of w) rounds
+    rw (from_round-all (λ round. executed_in minds seed))
+    (counted minds (told_in_rounds (λ round. executed_in minds seed) minds seed (start_of w) rounds) (rounds-fit minds seed (start_of w) rounds sound valid fits)
+    ∙ rounds-as_many (executed_in minds seed) (λ m t. up_by t (ant_in m.world t)) minds seed (executed-up minds seed) (start_of w) rounds)

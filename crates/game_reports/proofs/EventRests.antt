@@ -1,5 +1,5 @@
 -- The lines of a turn don't tell how long an ant rests, and there are none of an idle turn.
-use Rattle.std.proofs.Common.{◌≡◌, ℕ, zero, suc, append-nil, arith, ◌+◌, true, slice_get, List, [], ◌++◌, Option, Some, None, map, option_map, codes, decimal, refl, sym, ap, ap₂, ◌∙◌}
+use Rattle.std.proofs.Common.{◌≡◌, ℕ, zero, suc, append-nil, arith, ◌+◌, false, true, slice_get, List, [], ◌++◌, Option, Some, None, map, option_map, codes, decimal, refl, sym, ap, ap₂, ◌∙◌}
 use Rattle.std.specs.Prelude.{IfSome}
 use Rattle.std.proofs.Math.Path.{fun_ext}
 use Rattle.std.proofs.lemmas.Option.{same_Some}
@@ -118,7 +118,7 @@ module _ (round : ℕ) (w : World) (t : ℕ) (ant : Ant) (own : ant_in w t ≡ S
   unrested-words None = refl
   unrested-words (Some ant) = refl
 
-  death-seen : (u : ℕ) → death_words round w t u ≡ death_line round ant (killed_as w t u)
+  pub death-seen : (u : ℕ) → death_words round w t u ≡ death_line round ant (killed_as w t u)
   unfolding death_words
   death-seen u =
       ap₂ (λ a b. (codes "round " +++ decimal round +++ codes ", " +++ ant_words a +++ codes ": ") +++ b +++ codes " dies on " +++ place_words (death_place w t u)) own (unrested-words (ant_in w u))
@@ -128,20 +128,20 @@ module _ (round : ℕ) (w : World) (t : ℕ) (ant : Ant) (own : ant_in w t ≡ S
   score-seen score = ap (λ a. (codes "round " +++ decimal round +++ codes ", " +++ ant_words a +++ codes ": ") +++ codes "score: red " +++ decimal score.red +++ codes " black " +++ decimal score.black) own
 
 -- the lines of a turn are those of what is seen of it
-lines-seen : (minds : Minds) (seed round : ℕ) (m : Moment) (t : ℕ) → turn_lines minds seed round m t ≡ flat_map event_lines (seen minds seed round m t)
+lines-seen : (minds : Minds) (seed round : ℕ) (m : Moment) (t : ℕ) → turn_lines minds seed round m t ≡ flat_map (event_lines false) (seen minds seed round m t)
 lines-seen minds seed round m t = go (place_in m.world t) refl
   where
-    go : (place : Option Pos) → place_in m.world t ≡ place → turn_lines minds seed round m t ≡ flat_map event_lines (seen minds seed round m t)
-    go None dead = lines-dead minds seed round m t dead ∙ ap (flat_map event_lines) (sym (seen-dead minds seed round m t dead))
+    go : (place : Option Pos) → place_in m.world t ≡ place → turn_lines minds seed round m t ≡ flat_map (event_lines false) (seen minds seed round m t)
+    go None dead = lines-dead minds seed round m t dead ∙ ap (flat_map (event_lines false)) (sym (seen-dead minds seed round m t dead))
     go (Some p) found = by_rest it.ant.resting refl
       where
         it : Holder t (m.world.cells p).ant
         it = place_in-ant m.world t p found
 
-        by_rest : (n : ℕ) → it.ant.resting ≡ n → turn_lines minds seed round m t ≡ flat_map event_lines (seen minds seed round m t)
+        by_rest : (n : ℕ) → it.ant.resting ≡ n → turn_lines minds seed round m t ≡ flat_map (event_lines false) (seen minds seed round m t)
         by_rest (suc left) tired =
             let more : it.ant.resting ≡ left + 1 = omega (arith, tired) in
-            lines-resting minds seed round m t p it.ant left found it.is more ∙ ap (flat_map event_lines) (sym (seen-rests minds seed round m t p it.ant left found it.is more))
+            lines-resting minds seed round m t p it.ant left found it.is more ∙ ap (flat_map (event_lines false)) (sym (seen-rests minds seed round m t p it.ant left found it.is more))
         by_rest zero up =
             let outcome : Outcome = turn minds seed m.world m.place t in
             let own : ant_in m.world t ≡ Some it.ant = ant_in-at m.world t p it.ant found it.is in
@@ -150,16 +150,16 @@ lines-seen minds seed round m t = go (place_in m.world t) refl
             (ap (λ line. map line outcome.killed) (fun_ext (death-seen round m.world t it.ant own)) ∙ sym (map-map (death_line round it.ant) (killed_as m.world t) outcome.killed))
             (ap (λ line. map line (changed_score (score_of m.world) (score_of (with_cells m.world outcome.cells)))) (fun_ext (score-seen round m.world t it.ant own)))
             ∙ sym (append-nil _)
-            ∙ ap (flat_map event_lines) (sym (seen-there minds seed round m t p it.ant found it.is ∙ ap (λ n. seen_by n minds seed round m t p it.ant) up))
+            ∙ ap (flat_map (event_lines false)) (sym (seen-there minds seed round m t p it.ant found it.is ∙ ap (λ n. seen_by n minds seed round m t p it.ant) up))
 
 -- so the text of events is a report, from the first round on
-pub events-report : (minds : Minds) (seed : ℕ) (w : World) (rounds : ℕ) → report_text event_lines 0 minds seed w rounds ≡ events_text minds seed w rounds
+pub events-report : (minds : Minds) (seed : ℕ) (w : World) (rounds : ℕ) → report_text (event_lines false) 0 minds seed w rounds ≡ events_text minds seed w rounds
 unfolding report_text report_lines events_text
 events-report minds seed w rounds =
     ap (λ telling. seed_text seed +++ flat_map (λ words. words +++ codes "\n") (told_in_rounds telling minds seed (start_of w) rounds))
-    (from_round-all (told_of event_lines minds seed) ∙ fun_ext λ round. fun_ext λ m. fun_ext λ t. sym (lines-seen minds seed round m t))
+    (from_round-all (told_of (event_lines false) minds seed) ∙ fun_ext λ round. fun_ext λ m. fun_ext λ t. sym (lines-seen minds seed round m t))
 
 -- and of an acting ant they are those of what is seen here
 pub lines-here : (minds : Minds) (seed round : ℕ) (m : Moment) (it : PlacedAnt) → place_in m.world it.ant.id ≡ Some it.place → (m.world.cells it.place).ant ≡ Some it.ant → it.ant.resting ≡ 0
-    → turn_lines minds seed round m it.ant.id ≡ event_lines (seen_here minds seed round m it)
-lines-here minds seed round m it found is up = lines-seen minds seed round m it.ant.id ∙ ap (flat_map event_lines) (seen-acts minds seed round m it found is up) ∙ append-nil _
+    → turn_lines minds seed round m it.ant.id ≡ event_lines false (seen_here minds seed round m it)
+lines-here minds seed round m it found is up = lines-seen minds seed round m it.ant.id ∙ ap (flat_map (event_lines false)) (seen-acts minds seed round m it found is up) ∙ append-nil _

@@ -51,7 +51,7 @@ ambush =
     ∷ Rock ∷ Rock ∷ Rock ∷ Rock ∷ Rock ∷ Rock ∷ Rock ∷ []
 
 -- the black ant that can move steps beside the red one of the next hill, and is its fifth foe
-ambush_told : events_text (contest_minds (Flip 2 0 0 ∷ []) (Move 0 0 ∷ [])) 12345 (world_of (opening 7 6 ambush)) 1 ≡
+pub ambush_told : events_text (contest_minds (Flip 2 0 0 ∷ []) (Move 0 0 ∷ [])) 12345 (world_of (opening 7 6 ambush)) 1 ≡
     codes "random seed: 12345\n"
     +++ codes "round 1, black ant 1: red ant 2 dies on (3, 3)\n"
     +++ codes "round 1, black ant 1: score: red 3 black 0\n"
@@ -75,7 +75,7 @@ two_beset =
     ∷ Rock ∷ Clear ∷ Clear ∷ Clear ∷ RedHill ∷ Clear ∷ Rock
     ∷ Rock ∷ Rock ∷ Rock ∷ Rock ∷ Rock ∷ Rock ∷ Rock ∷ []))
 
-abbrev stepping : Minds
+abbrev pub stepping : Minds
 stepping = contest_minds (Move 0 0 ∷ []) (Move 0 0 ∷ [])
 
 -- both die, in the order of the checks, which isn't that of ids: the one to the east first; and each leaves its corpse on its hill
@@ -95,7 +95,7 @@ unfolding dead_in dead_at stepped check_at is_surrounded places_around neighbour
 two_noted = (refl, refl)
 
 -- the particle that one of them carried falls on the hill with its corpse
-abbrev one_laden : World
+abbrev pub one_laden : World
 one_laden = put two_beset (at 3 2) (record floor { hill = Some Black; ant = Some (record { id = 3; colour = Black; state = 0; resting = 5; facing = East; laden = true }) })
 
 laden_dies : turn_lines stepping 0 7 (start_of one_laden) 6 ≡
@@ -123,7 +123,7 @@ within a b c d e f g h i j k l m n o p =
 --      + . - .
 --     - - . .
 -- and the red one steps into the middle of five foes: it dies there, on its new cell, which is no hill
-abbrev own_death : World
+abbrev pub own_death : World
 own_death = within BlackHill BlackHill Clear Clear RedHill Clear BlackHill Clear BlackHill BlackHill Clear Clear Clear Clear Clear Clear
 
 walks_into_death : turn_lines stepping 0 1 (start_of own_death) 2 ≡ codes "round 1, red ant 2: red ant 2 dies on (2, 2)" ∷ []
@@ -136,7 +136,7 @@ unfolding dead_in dead_at stepped check_at is_surrounded places_around neighbour
 own_noted = refl
 
 -- the one clear cell of a world, of this hill and with so much food, on which a red ant stands that is laden or not
-abbrev alone_on : Colour → ℕ → Bool → World
+abbrev pub alone_on : Colour → ℕ → Bool → World
 alone_on hill food laden =
     put (world_of (opening 3 3 one_hill)) (at 1 1) (record floor { hill = Some hill; food = food; ant = Some (record { id = 0; colour = Red; state = 0; resting = 0; facing = East; laden = laden }) })
 

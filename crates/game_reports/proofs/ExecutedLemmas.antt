@@ -37,10 +37,10 @@ executed-acts minds seed m t p ant instruction found is ready at =
     ∙ ap (λ i. let e : Executed = record { colour = ant.colour; state = ant.state; met = is_met seed m.world.cells m.place p ant i } in e ∷ []) (get_or_from_slice_get (mind_of minds ant.colour) ant.state instruction (Drop 0) at)
 
 -- what is executed is told of what is seen
-abbrev executed_of : Seen → List Executed
+abbrev pub executed_of : Seen → List Executed
 executed_of it = record { colour = it.ant.colour; state = it.ant.state; met = it.met } ∷ []
 
-executed-seen : (minds : Minds) (seed round : ℕ) (m : Moment) (t : ℕ) → executed_in minds seed m t ≡ flat_map executed_of (seen minds seed round m t)
+pub executed-seen : (minds : Minds) (seed round : ℕ) (m : Moment) (t : ℕ) → executed_in minds seed m t ≡ flat_map executed_of (seen minds seed round m t)
 executed-seen minds seed round m t = go (place_in m.world t) refl
   where
     by_rest : (n : ℕ) (p : Pos) (ant : Ant) → executed_by n minds seed m.world.cells m.place p ant ≡ flat_map executed_of (seen_by n minds seed round m t p ant)

@@ -1,10 +1,11 @@
--- What is told of turns, one after another.
-pub mod FlatMaps
 -- Whom a turn kills.
 pub mod DeathLines
 -- The lines of events.
 pub mod EventLemmas
 pub mod EventRests
+pub mod EventText
+-- The lines of what ants execute.
+pub mod ActText
 pub mod SeenFair
 -- Counts of states.
 pub mod TallyLemmas
@@ -21,8 +22,11 @@ pub mod DeathLaws
 pub mod ScoreLaws
 pub mod CountLaws
 pub mod DumpedLines
+pub mod ActLaws
 -- Worked values.
 pub mod EventsWorked
+pub mod ActsWorked
+pub mod FoodWorked
 pub mod ProfileWorked
 pub mod TraceWorked
 -- Laws, used.

@@ -24,11 +24,11 @@ lines-tallied colour brain list tallies counted =
     (λ state below. ap (λ (t : Tally). tally_line colour state (instruction_at brain state) t.times t.met) (counted.are state below))
 
 -- the text of a profile in the parts in which it is pushed
-pub profile_text-parts : (minds : Minds) (seed : ℕ) (w : World) (rounds : ℕ) (tallies : Tallies) → AreTallied minds (executed_in_rounds minds seed w rounds) tallies
-    → profile_text minds seed w rounds ≡ seed_text seed ++ (tally_lines Red minds.red tallies.red.items ++ tally_lines Black minds.black tallies.black.items)
+pub profile_text-parts : (minds : Minds) (seed : ℕ) (w : World) (rounds from : ℕ) (tallies : Tallies) → AreTallied minds (executed_in_rounds minds seed w rounds from) tallies
+    → profile_text minds seed w rounds from ≡ seed_text seed ++ (tally_lines Red minds.red tallies.red.items ++ tally_lines Black minds.black tallies.black.items)
 unfolding profile_text
-profile_text-parts minds seed w rounds tallies counted =
-    let list = executed_in_rounds minds seed w rounds in
+profile_text-parts minds seed w rounds from tallies counted =
+    let list = executed_in_rounds minds seed w rounds from in
     sym
     (ap₂ (λ (red black : List ℕ). seed_text seed ++ (red ++ black))
     (lines-tallied Red minds.red list tallies.red.items (counted Red))

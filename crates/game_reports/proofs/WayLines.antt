@@ -1,5 +1,5 @@
 -- The lines of an ant, as they are told and as they are pushed.
-use Rattle.std.proofs.Common.{◌≡◌, ℕ, zero, suc, ◌+◌, ◌-◌, ◌&&◌, Bool, true, false, cond, List, [], ◌++◌, Option, Some, None, is_some, is_none, codes, refl, ◌∙◌, ap, ap₂, append_assoc, append-nil, add-one, arith}
+use Rattle.std.proofs.Common.{◌≡◌, ℕ, zero, suc, ◌+◌, ◌&&◌, Bool, true, false, cond, List, [], ◌++◌, Option, Some, None, is_some, is_none, codes, refl, ◌∙◌, ap, ap₂, append_assoc, append-nil, add-one, arith}
 use Rattle.std.proofs.lemmas.Bool.{cond-true, cond-false}
 use Rattle.hex_geometry.specs.declared.position.Pos.{Pos}
 use Rattle.ant_base.specs.Layout.{numbered}

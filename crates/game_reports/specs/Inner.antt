@@ -1,4 +1,5 @@
 -- Stepping stones between the definitions and the code: no public clause cites them.
+pub mod ActWords
 pub mod Broken
 pub mod Chunks
 pub mod EventWords

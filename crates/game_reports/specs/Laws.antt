@@ -1,26 +1,30 @@
 -- What holds of all reports (this project's own).
-use Rattle.std.specs.Prelude.{◌≡◌, ◌≢◌, ℕ, zero, suc, ◌+◌, List, [], ◌∷◌, ◌++◌, length, Option, Some, None, IsSome, codes, decimal}
+use Rattle.std.specs.Prelude.{◌≡◌, ◌≢◌, ℕ, zero, suc, ◌+◌, ◌-◌, ◌≤◌, ◌==◌, ◌&&◌, Bool, false, List, [], ◌∷◌, ◌++◌, filter, length, map, Option, Some, None, IsSome, codes, decimal}
 use Rattle.std.specs.List.{AllPairs, Contains}
 use Rattle.hex_geometry.specs.declared.position.Pos.{Pos}
 use Rattle.ant_base.specs.Layout.{◌+++◌}
 use Rattle.ant_turn.specs.Minds.{AreSound, Fits, Minds}
 use Rattle.ant_turn.specs.Rounds.{start_of}
 use Rattle.cell_world.specs.declared.ant.Ant.{Ant}
+use Rattle.cell_world.specs.declared.ant.Colour.{Colour}
 use Rattle.cell_world.specs.declared.ant.Colour.TheVariants.{Red, Black}
 use Rattle.cell_world.specs.declared.kind.Kind.{Kind}
 use Rattle.cell_world.specs.declared.score.Score.{Score}
+use Rattle.cell_world.specs.Colour.{same_colour}
 use Rattle.cell_world.specs.Grid.{world_of}
 use Rattle.cell_world.specs.Opening.{opening}
 use Rattle.cell_world.specs.Score.{score_of}
 use Rattle.cell_world.specs.Valid.{Valid}
 use Rattle.cell_world.specs.World.{World, place_in}
 use Rattle.match_run.specs.Run.{world_after}
-use Rattle.match_run.specs.Seen.{ant_in}
+use Rattle.match_run.specs.Seen.{Seen, ant_in, seen}
 use Rattle.dump_print.specs.Texts.{cell_line, dump_text}
-use Rattle.game_reports.specs.Events.{deaths_in, scores_in}
-use Rattle.game_reports.specs.Profile.{executed_in_rounds, times_of}
+use Rattle.game_reports.specs.Acts.{act_line, act_lines}
+use Rattle.game_reports.specs.Events.{deaths_in, event_lines, events_text, scores_in}
+use Rattle.game_reports.specs.Profile.{executed_in_rounds, met_of, times_of}
+use Rattle.game_reports.specs.Report.{report_lines, report_text}
 use Rattle.game_reports.specs.Trace.{way_line}
-use Rattle.match_run.specs.Told.{told_in_rounds}
+use Rattle.match_run.specs.Told.{from_round, told_in_rounds}
 
 -- all ants that are killed in the rounds of a game, turn after turn: those of the lines
 unfoldable pub all_deaths : Minds → ℕ → World → ℕ → List ℕ
@@ -78,8 +82,42 @@ sum_below f (suc n) = sum_below f n + f n
 -- the counts of all states of both brains come to the number of those turns
 abbrev pub CountsAddUp : Type 0
 CountsAddUp = (minds : Minds) (seed : ℕ) (w : World) (rounds : ℕ) → AreSound minds → Valid w → Fits w minds →
-    let list = executed_in_rounds minds seed w rounds in
+    let list = executed_in_rounds minds seed w rounds 0 in
     sum_below (times_of list Red) (length minds.red) + sum_below (times_of list Black) (length minds.black) ≡ length (acting_turns minds seed w rounds)
+
+-- a profile of the rounds before one and a profile from this one on add up to that of all rounds, state by state
+abbrev pub ProfilesAddUp : Type 0
+ProfilesAddUp = (minds : Minds) (seed : ℕ) (w : World) (rounds from : ℕ) (colour : Colour) (state : ℕ) → 1 ≤ from → from ≤ rounds + 1 →
+    let before = executed_in_rounds minds seed w (from - 1) 0 in
+    let later = executed_in_rounds minds seed w rounds from in
+    let whole = executed_in_rounds minds seed w rounds 0 in
+    (times_of before colour state + times_of later colour state ≡ times_of whole colour state)
+    × (met_of before colour state + met_of later colour state ≡ met_of whole colour state)
+
+-- what is seen of all turns of the rounds from `from` on
+unfoldable pub seen_in_rounds : Minds → ℕ → World → ℕ → ℕ → List Seen
+seen_in_rounds minds seed w rounds from = told_in_rounds (from_round from (seen minds seed)) minds seed (start_of w) rounds
+
+-- whether a turn is one of a colour's ant in a state, and whether its answer is the first too
+abbrev pub is_in : Colour → ℕ → Seen → Bool
+is_in colour state it = same_colour it.ant.colour colour && (it.ant.state == state)
+
+abbrev pub is_met_in : Colour → ℕ → Seen → Bool
+is_met_in colour state it = is_in colour state it && it.met
+
+-- the lines of what every ant executes are those of these turns, one each; and these turns, counted by colour and state,
+-- and by their answer, are the counts of a profile
+pub record LinesAreCounted (minds : Minds) (seed : ℕ) (w : World) (rounds from : ℕ) : Type 0 where
+  pub lines : report_lines (act_lines None) from minds seed w rounds ≡ map act_line (seen_in_rounds minds seed w rounds from)
+  pub times : (colour : Colour) (state : ℕ) → length (filter (is_in colour state) (seen_in_rounds minds seed w rounds from)) ≡ times_of (executed_in_rounds minds seed w rounds from) colour state
+  pub met : (colour : Colour) (state : ℕ) → length (filter (is_met_in colour state) (seen_in_rounds minds seed w rounds from)) ≡ met_of (executed_in_rounds minds seed w rounds from) colour state
+
+abbrev pub ActsAreCounted : Type 0
+ActsAreCounted = (minds : Minds) (seed : ℕ) (w : World) (rounds from : ℕ) → LinesAreCounted minds seed w rounds from
+
+-- from round 0 on and without food, the text of events is that of the deaths and scores of all turns, by ids
+abbrev pub AllEventsById : Type 0
+AllEventsById = (minds : Minds) (seed : ℕ) (w : World) (rounds : ℕ) → report_text (event_lines false) 0 minds seed w rounds ≡ events_text minds seed w rounds
 
 -- the line of a cell stands in the dump of a world, behind some of its lines and before others
 pub record StandsInDump (w : World) (round : ℕ) (line : List ℕ) : Type 0 where

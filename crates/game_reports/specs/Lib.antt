@@ -1,3 +1,4 @@
+pub mod Acts
 pub mod Events
 pub mod Inner
 pub mod Laws

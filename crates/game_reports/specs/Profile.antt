@@ -17,7 +17,7 @@ use Rattle.dump_print.specs.Content.{colour_text}
 use Rattle.dump_print.specs.Texts.{seed_text}
 use Rattle.game_reports.specs.declared.executed.Executed.{Executed}
 use Rattle.match_run.specs.Seen.{is_met}
-use Rattle.match_run.specs.Told.{told_in_rounds}
+use Rattle.match_run.specs.Told.{from_round, told_in_rounds}
 
 -- what the ant of p executes, which rests for so many more turns: its state, if it doesn't rest
 abbrev pub executed_by : ℕ → Minds → ℕ → Cells → ℕ → Pos → Ant → List Executed
@@ -43,9 +43,9 @@ executed_from minds seed cells place (Some p) = executed_at minds seed cells pla
 unfoldable pub executed_in : Minds → ℕ → Moment → ℕ → List Executed
 executed_in minds seed m t = executed_from minds seed m.world.cells m.place (place_in m.world t)
 
--- what is executed in the rounds of a game, turn after turn
-unfoldable pub executed_in_rounds : Minds → ℕ → World → ℕ → List Executed
-executed_in_rounds minds seed w rounds = told_in_rounds (λ round. executed_in minds seed) minds seed (start_of w) rounds
+-- what is executed in the rounds of a game from round `from` on, turn after turn
+unfoldable pub executed_in_rounds : Minds → ℕ → World → ℕ → ℕ → List Executed
+executed_in_rounds minds seed w rounds from = told_in_rounds (from_round from (λ round. executed_in minds seed)) minds seed (start_of w) rounds
 
 -- whether this state of a colour's brain was executed
 abbrev pub is_of : Colour → ℕ → Executed → Bool
@@ -84,8 +84,9 @@ state_line colour brain list state = tally_line colour state (instruction_at bra
 unfoldable pub brain_lines : Colour → List Instr → List Executed → List ℕ
 brain_lines colour brain list = numbered (state_line colour brain list) (length brain)
 
--- the text of a profile: the line of the seed, the lines of the red brain, and those of the black one
-unfoldable pub profile_text : Minds → ℕ → World → ℕ → List ℕ
-profile_text minds seed w rounds =
-    let list = executed_in_rounds minds seed w rounds in
+-- the text of a profile from round `from` on: the line of the seed, the lines of the red brain, and those of the black
+-- one
+unfoldable pub profile_text : Minds → ℕ → World → ℕ → ℕ → List ℕ
+profile_text minds seed w rounds from =
+    let list = executed_in_rounds minds seed w rounds from in
     seed_text seed +++ brain_lines Red minds.red list +++ brain_lines Black minds.black list

@@ -20,6 +20,17 @@ use dump_print::SeedWords;
 use match_run::{Board, Watch, watch_rounds};
 use std::marker::PhantomData;
 
+/// What a report of a game is asked to do: which game is played, and which of its rounds are told.
+#[derive(Clone, Copy, Debug, PartialEq, Eq)]
+pub struct ReportPlan {
+    /// The seed of the random numbers, from 0 to 4,294,967,295.
+    pub seed: u32,
+    /// How many rounds are played, from 0 to 1,000,000. Rounds are counted from 1.
+    pub rounds: u32,
+    /// The first round that is told; 0 and 1 tell all. If it is above the last one, none is told.
+    pub from: u32,
+}
+
 // A kind of report: the lines of what is seen of a turn.
 pub(crate) trait Report {
     // What the game is played on.
@@ -54,23 +65,21 @@ pub(crate) trait Report {
             (broken (lines self.now (seen_here (minds_of brains.now) stream.old.seed round (moment_of (Self.On.world board.old) stream.old) standing))) result };
 }
 
-// Plays a game and pushes its report: the line of the seed, and the lines of each turn from round `from` on.
+// Plays a game and pushes its report: the line of the seed, and the lines of each turn from the plan's first round on.
 pub(crate) fn push_report<R: Report, K: Sink>(
     report: &R,
-    from: u32,
+    plan: ReportPlan,
     board: &mut R::On,
     brains: Brains<'_>,
-    seed: u32,
-    rounds: u32,
     sink: &mut K,
 ) -> Result<(), Failed>
     requires fit { Fits (R.On.world board.old) (minds_of brains) }
-    requires few_rounds { rounds ≤ most_rounds }
+    requires few_rounds { plan.rounds ≤ most_rounds }
     ensures { Pushed (K.state sink.old) (K.state sink.new)
-        (report_text (R.lines report.now) from (minds_of brains.entry) seed (R.On.world board.old) rounds) result }
+        (report_text (R.lines report.now) plan.from (minds_of brains.entry) plan.seed (R.On.world board.old) plan.rounds) result }
 {
-    SeedWords(seed).push_to(sink)?;
-    push_rounds(report, from, board, brains, seed, rounds, sink)?;
+    SeedWords(plan.seed).push_to(sink)?;
+    push_rounds(report, plan, board, brains, sink)?;
     "\n".push_to(sink)
 }
 
@@ -78,25 +87,23 @@ pub(crate) fn push_report<R: Report, K: Sink>(
 // flushed at each piece that ends in LF.
 fn push_rounds<R: Report, K: Sink>(
     report: &R,
-    from: u32,
+    plan: ReportPlan,
     board: &mut R::On,
     brains: Brains<'_>,
-    seed: u32,
-    rounds: u32,
     sink: &mut K,
 ) -> Result<(), Failed>
     requires fit { Fits (R.On.world board.old) (minds_of brains) }
-    requires few_rounds { rounds ≤ most_rounds }
+    requires few_rounds { plan.rounds ≤ most_rounds }
     ensures { Pushed (K.state sink.old) (K.state sink.new)
-        (broken (report_lines (R.lines report.now) from (minds_of brains.entry) seed (R.On.world board.old) rounds)) result }
+        (broken (report_lines (R.lines report.now) plan.from (minds_of brains.entry) plan.seed (R.On.world board.old) plan.rounds)) result }
 {
-    let mut stream = Stream::from_seed(seed);
+    let mut stream = Stream::from_seed(plan.seed);
     let watch = Reporting::<R, K> {
         report,
-        from,
+        from: plan.from,
         sink: PhantomData,
     };
-    watch_rounds(&watch, board, &brains, &mut stream, rounds, sink)
+    watch_rounds(&watch, board, &brains, &mut stream, plan.rounds, sink)
 }
 
 // It pushes the lines of each turn from a round on.

@@ -1,64 +1,75 @@
 // The text of a game's events.
-ghost use Rattle.std.specs.Prelude.{◌≡◌, ◌+◌, ◌<◌, ◌≤◌, ◌^◌, flat_map};
+ghost use Rattle.std.specs.Prelude.{◌≡◌, ◌+◌, ◌<◌, ◌≤◌, ◌^◌, flat_map, Some};
 ghost use Rattle.ant_base.specs.Layout.{text_of_option};
 ghost use Rattle.ant_base.specs.Sink.{Pushed};
 ghost use Rattle.ant_turn.specs.Listed.{IsUp};
-ghost use Rattle.ant_turn.specs.Minds.{Fits, minds_of};
-ghost use Rattle.ant_turn.specs.Turn.{turn};
+ghost use Rattle.ant_turn.specs.Minds.{Fits, mind_of, minds_of};
+ghost use Rattle.ant_turn.specs.Turn.{instruction_at, turn};
 ghost use Rattle.cell_world.specs.Cell.{one_if};
 ghost use Rattle.cell_world.specs.Grid.{world_of};
 ghost use Rattle.cell_world.specs.World.{with_cells};
 ghost use Rattle.match_run.specs.Run.{most_rounds};
-ghost use Rattle.game_reports.specs.Events.{changed_score, events_text, turn_lines};
+ghost use Rattle.game_reports.specs.Events.{changed_score, event_lines};
 ghost use Rattle.game_reports.specs.Inner.Broken.{broken};
-ghost use Rattle.game_reports.specs.Inner.EventWords.{broken_death, broken_score, broken_turn, told_death};
+ghost use Rattle.game_reports.specs.Inner.EventWords.{broken_death, broken_food, broken_score, broken_turn, carry_of, moved_by, told_death, verb_of};
 ghost use Rattle.game_reports.specs.Inner.Chunks.{is_quiet};
+ghost use Rattle.game_reports.specs.Report.{report_text};
+ghost use Rattle.hex_geometry.specs.Position.{IsInside};
+ghost use Rattle.match_run.specs.Seen.{seen};
 ghost use Rattle.match_run.specs.Watch.{moment_of};
 
-use crate::report::{Report, push_report};
+use crate::report::{Report, ReportPlan, push_report};
+use crate::words::{AntWords, HillWords, PlaceWords};
 use ant_base::{Failed, Layout, Sink, layout};
 use ant_random::Stream;
 use ant_turn::{Brains, act, take_turn_noting_kills};
 use arrayvec::ArrayVec;
 use brain_read::Instr;
-use cell_world::{Ant, Ground, PlacedAnt, Score, World};
-use dump_print::ColourWord;
+use cell_world::{Ant, Colour, Ground, PlacedAnt, Score, World};
+use hex_geometry::Pos;
 use match_run::ScoredWorld;
 
 /// Plays a game and pushes its events: the line of the seed, and then the lines of each turn. Each ant that is killed
 /// in the turn has a line, as `round 1, black ant 1: red ant 2 dies on (3, 3)`: the acting ant, the killed ant and the
 /// place of its death, which is the new cell of an ant that dies by its own Move. These lines are in the order of the
 /// checks. A turn that changes the score has a line with the new score after them, as `round 1, black ant 1: score:
-/// red 3 black 0` (the task's martial arts and game play; the lines are this project's own).
+/// red 3 black 0`. With `food`, a turn in which the ant takes a particle, or drops the one that it carries, has a line
+/// before that of the score, as `round 7, red ant 3: state 4 drops food on (3, 3), red hill`: the state that the ant
+/// executes, its cell, and the hill to which the cell belongs, if it does (the task's martial arts and game play; the
+/// lines are this project's own). Turns before the plan's first round have no lines.
 ///
-/// Each ant's state is below the length of its colour's brain, as in every opening world; rounds are counted from 1,
-/// and are at most 1,000,000. The turns are those of a run. Each line is pushed after its turn and before the next
+/// Each ant's state is below the length of its colour's brain, as in every opening world, and the plan has at most
+/// 1,000,000 rounds. The turns are those of a run. Each line is pushed after its turn and before the next
 /// one. It fails only if the sink failed, whose count of faults rose then: a prefix of the text was pushed. It makes
 /// no looks and takes no memory. The score is counted over the cells once, at the start.
 pub fn events<K: Sink>(
     world: World,
     brains: Brains<'_>,
-    seed: u32,
-    rounds: u32,
+    plan: ReportPlan,
+    food: bool,
     sink: &mut K,
 ) -> Result<(), Failed>
     requires fit { Fits (world_of world) (minds_of brains) }
-    requires few_rounds { rounds ≤ most_rounds }
-    ensures { Pushed (K.state sink.old) (K.state sink.new) (events_text (minds_of brains.entry) seed (world_of world) rounds) result }
+    requires few_rounds { plan.rounds ≤ most_rounds }
+    ensures { Pushed (K.state sink.old) (K.state sink.new)
+        (report_text (event_lines food) plan.from (minds_of brains.entry) plan.seed (world_of world) plan.rounds) result }
 {
     let mut ground = ScoredWorld::of(world);
-    push_report(&EventReport, 0, &mut ground, brains, seed, rounds, sink)
+    push_report(&EventReport { food }, plan, &mut ground, brains, sink)
 }
 
-// The lines of each turn.
-struct EventReport;
+// The lines of each turn, with those of food or without them.
+#[derive(Drop)]
+struct EventReport {
+    food: bool,
+}
 
 impl Report for EventReport {
     ghost use Rattle.game_reports.specs.Events.{event_lines};
 
     type On = ScoredWorld;
 
-    ghost lines = { λ _. event_lines };
+    ghost lines = { λ report. event_lines report.food };
 
     #[inline(always)]
     fn tell<K: Sink>(
@@ -75,7 +86,7 @@ impl Report for EventReport {
             let _deed = act(ground, *brains, stream, standing);
             return Ok(());
         }
-        push_deed(ground, brains, stream, ant.id, round, sink)
+        push_deed(self.food, ground, brains, stream, ant.id, round, sink)
     }
 }
 
@@ -95,6 +106,7 @@ fn is_quiet(instruction: &Instr) -> bool
 // copies of them would be made in each.
 #[inline(never)]
 fn push_deed<K: Sink>(
+    food: bool,
     ground: &mut ScoredWorld,
     brains: &Brains<'_>,
     stream: &mut Stream,
@@ -107,7 +119,7 @@ fn push_deed<K: Sink>(
     requires up { IsUp (world_of ground.old) id }
     requires place { stream.old.place + 1 < 2 ^ 63 }
     ensures text { Pushed (K.state sink.old) (K.state sink.new)
-        (broken (turn_lines (minds_of brains.now) stream.old.seed round (moment_of (world_of ground.old) stream.old) id)) result }
+        (broken (flat_map (event_lines food) (seen (minds_of brains.now) stream.old.seed round (moment_of (world_of ground.old) stream.old) id))) result }
     ensures world { world_of ground.new ≡ with_cells (world_of ground.old)
         (turn (minds_of brains.now) stream.old.seed (world_of ground.old) stream.old.place id).cells }
     ensures stream { stream.new ≡ record stream.old {
@@ -119,6 +131,7 @@ fn push_deed<K: Sink>(
         return Ok(());
     };
     let before = ground.score();
+    let moved = food_moved(food, ground, brains, standing);
     let mut dead = ArrayVec::new();
     let _deed = take_turn_noting_kills(ground, *brains, stream, standing, &mut dead);
     let turn = TurnWords {
@@ -126,7 +139,95 @@ fn push_deed<K: Sink>(
         actor: standing.ant,
     };
     push_deaths(turn, &dead, sink)?;
+    push_food(turn, standing.place, moved, sink)?;
     push_score(turn, before, ground.score(), sink)
+}
+
+// Which way a particle goes in a turn.
+#[derive(Clone, Copy)]
+enum Carry {
+    Takes,
+    Drops,
+}
+
+impl Carry {
+    // What the ant does.
+    fn verb(self) -> &'static str
+        ensures { result.now ≡ verb_of self }
+    {
+        match self {
+            Carry::Takes => " takes",
+            Carry::Drops => " drops",
+        }
+    }
+}
+
+// A particle that goes between an ant and its cell, and the hill of the cell.
+#[derive(Clone, Copy)]
+struct MovedFood {
+    carry: Carry,
+    hill: Option<Colour>,
+}
+
+// The particle that goes between this ant and its cell in its turn, if food is asked for.
+#[inline]
+fn food_moved(
+    food: bool,
+    ground: &mut ScoredWorld,
+    brains: &Brains<'_>,
+    standing: PlacedAnt,
+) -> Option<MovedFood>
+    requires fit { Fits (world_of ground.old) (minds_of brains.now) }
+    requires inside { IsInside (world_of ground.old).width (world_of ground.old).height standing.place }
+    requires here { ((world_of ground.old).cells standing.place).ant ≡ Some standing.ant }
+    ensures moved { result ≡ moved_by food ((world_of ground.old).cells standing.place) standing.ant
+        (instruction_at (mind_of (minds_of brains.now) standing.ant.colour) standing.ant.state) }
+    ensures world { world_of ground.new ≡ world_of ground.old }
+{
+    if !food {
+        return None;
+    }
+    let ant = standing.ant;
+    let cell = ground.cell_at(standing.place);
+    let carry = carry_of(ant.laden, cell.food, brains.of(ant.colour).at(ant.state))?;
+    Some(MovedFood {
+        carry,
+        hill: cell.hill,
+    })
+}
+
+// Which way a particle goes, by the ant's load and its cell's food.
+#[inline]
+fn carry_of(laden: bool, food: u32, instruction: Instr) -> Option<Carry>
+    ensures { result ≡ carry_of laden food instruction }
+{
+    match instruction {
+        Instr::PickUp { .. } => {
+            if laden || food == 0 {
+                None
+            } else {
+                Some(Carry::Takes)
+            }
+        }
+        Instr::Drop { .. } => { if laden { Some(Carry::Drops) } else { None } }
+        _ => None,
+    }
+}
+
+// Pushes the line of the particle that an ant took or dropped, if it did.
+#[inline]
+fn push_food<K: Sink>(
+    turn: TurnWords,
+    place: Pos,
+    moved: Option<MovedFood>,
+    sink: &mut K,
+) -> Result<(), Failed>
+    ensures { Pushed (K.state sink.old) (K.state sink.new) (text_of_option (broken_food turn.round turn.actor place) moved) result }
+{
+    let Some(moved) = moved else {
+        return Ok(());
+    };
+    FoodWords { turn, place, moved }.push_to(sink)
 }
 
 // Pushes the lines of the killed, if there are any.
@@ -193,21 +294,6 @@ fn push_new_score<K: Sink>(turn: TurnWords, score: Score, sink: &mut K) -> Resul
     layout!(turn, "score: red ", score.red, " black ", score.black).push_to(sink)
 }
 
-// An ant's colour and id.
-#[derive(Clone, Copy)]
-struct AntWords(Ant);
-
-impl Layout for AntWords {
-    ghost use Rattle.std.specs.Prelude.{Some};
-    ghost use Rattle.game_reports.specs.Events.{ant_words};
-
-    ghost text = { λ words. ant_words (Some words.0) };
-
-    fn push_to<K: Sink>(&self, sink: &mut K) -> Result<(), Failed> {
-        layout!(ColourWord(self.0.colour), " ant ", self.0.id).push_to(sink)
-    }
-}
-
 // The round and the ant whose turn it is, behind an LF.
 #[derive(Clone, Copy)]
 struct TurnWords {
@@ -234,15 +320,36 @@ impl Layout for DeathWords {
     ghost text = { λ words. broken_death words.turn.round words.turn.actor words.killed };
 
     fn push_to<K: Sink>(&self, sink: &mut K) -> Result<(), Failed> {
-        let place = self.killed.place;
         layout!(
             self.turn,
             AntWords(self.killed.ant),
-            " dies on (",
-            place.x,
-            ", ",
-            place.y,
-            ")"
+            " dies on ",
+            PlaceWords(self.killed.place)
+        )
+        .push_to(sink)
+    }
+}
+
+// The words of a particle that is taken or dropped on a cell.
+#[derive(Clone, Copy)]
+struct FoodWords {
+    turn: TurnWords,
+    place: Pos,
+    moved: MovedFood,
+}
+
+impl Layout for FoodWords {
+    ghost text = { λ words. broken_food words.turn.round words.turn.actor words.place words.moved };
+
+    fn push_to<K: Sink>(&self, sink: &mut K) -> Result<(), Failed> {
+        layout!(
+            self.turn,
+            "state ",
+            self.turn.actor.state,
+            self.moved.carry.verb(),
+            " food on ",
+            PlaceWords(self.place),
+            HillWords(self.moved.hill)
         )
         .push_to(sink)
     }

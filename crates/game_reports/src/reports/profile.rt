@@ -13,6 +13,7 @@ ghost use Rattle.game_reports.specs.Pushes.{PushedBefore};
 ghost use Rattle.match_run.specs.Run.{most_rounds};
 
 use crate::executed::executed_by;
+use crate::report::ReportPlan;
 use crate::tally::{Tallies, Tally};
 use ant_base::{Each, Failed, Layout, NumberedTexts, PushFault, Sink, layout};
 use ant_random::Stream;
@@ -28,55 +29,51 @@ use std::alloc::Global;
 /// times, 13 met: Move 9 3` if the instruction has two answers. The first number counts the turns in which an ant of
 /// that colour was alive, didn't rest and was in this state. The second one counts those in which the answer was the
 /// first: the condition held, a particle was taken, the ant moved, the number drawn was 0. The canonical text of the
-/// instruction comes last (the task's neurology and kinetics; the lines are this project's own).
+/// instruction comes last (the task's neurology and kinetics; the lines are this project's own). Turns before the
+/// plan's first round aren't counted.
 ///
-/// Each ant's state is below the length of its colour's brain, as in every opening world; rounds are at most
-/// 1,000,000. The turns are those of a run. It makes no looks, and takes memory for two counts a state. If there is
+/// Each ant's state is below the length of its colour's brain, as in every opening world, and the plan has at most
+/// 1,000,000 rounds. The turns are those of a run. It makes no looks, and takes memory for two counts a state. If there is
 /// none, nothing was pushed and no turn was played. If the sink failed, its count of faults rose then, and a prefix of
 /// the text was pushed.
 pub fn profile<K: Sink>(
     alloc: Global,
     world: World,
     brains: Brains<'_>,
-    seed: u32,
-    rounds: u32,
+    plan: ReportPlan,
     sink: &mut K,
 ) -> Result<(), PushFault>
     requires fit { Fits (world_of world) (minds_of brains) }
-    requires few_rounds { rounds ≤ most_rounds }
-    ensures { PushedBefore (K.state sink.old) (K.state sink.new) (profile_text (minds_of brains.entry) seed (world_of world) rounds) result }
+    requires few_rounds { plan.rounds ≤ most_rounds }
+    ensures { PushedBefore (K.state sink.old) (K.state sink.new)
+        (profile_text (minds_of brains.entry) plan.seed (world_of world) plan.rounds plan.from) result }
 {
     let none = Tallies::new(alloc, brains)?;
-    let tallies = count_rounds(world, brains, seed, rounds, none);
-    Ok(push_profile(brains, seed, &tallies, sink)?)
+    let tallies = count_rounds(world, brains, plan, none);
+    Ok(push_profile(brains, plan.seed, &tallies, sink)?)
 }
 
-// Plays so many rounds, and counts what is executed in them.
-fn count_rounds(
-    world: World,
-    brains: Brains<'_>,
-    seed: u32,
-    rounds: u32,
-    tallies: Tallies,
-) -> Tallies
+// Plays the rounds of a plan, and counts what is executed from its first one on.
+fn count_rounds(world: World, brains: Brains<'_>, plan: ReportPlan, tallies: Tallies) -> Tallies
     requires fit { Fits (world_of world) (minds_of brains) }
-    requires few_rounds { rounds ≤ most_rounds }
+    requires few_rounds { plan.rounds ≤ most_rounds }
     requires none { AreTallied (minds_of brains) [] tallies }
-    requires few { AreFew tallies (rounds * most_ants) }
-    ensures { AreTallied (minds_of brains.entry) (executed_in_rounds (minds_of brains.entry) seed (world_of world) rounds) result }
+    requires few { AreFew tallies (plan.rounds * most_ants) }
+    ensures { AreTallied (minds_of brains.entry)
+        (executed_in_rounds (minds_of brains.entry) plan.seed (world_of world) plan.rounds plan.from) result }
 {
     let mut world = world;
-    let mut stream = Stream::from_seed(seed);
+    let mut stream = Stream::from_seed(plan.seed);
     let mut counting = Counting {
         tallies,
-        ahead: Stream::from_seed(seed),
+        ahead: Stream::from_seed(plan.seed),
     };
     let _watched = watch_rounds(
-        &StateWatch { from: 0 },
+        &StateWatch { from: plan.from },
         &mut world,
         &brains,
         &mut stream,
-        rounds,
+        plan.rounds,
         &mut counting,
     );
     let Counting {
@@ -94,6 +91,7 @@ struct Counting {
 }
 
 // It counts what is executed in each turn from a round on.
+#[derive(Drop)]
 struct StateWatch {
     from: u32,
 }

@@ -1,12 +1,20 @@
 -- of a quiet turn nothing is told
-use Rattle.std.proofs.Common.{◌≡◌, ◌∙◌, ℕ, List, Some, slice_get, subst, sym}
+use Rattle.std.proofs.Common.{◌≡◌, ◌∙◌, ℕ, List, [], ◌++◌, Bool, Some, map, slice_get, subst, sym, ap, append-nil, true}
+use Rattle.std.specs.List.{flat_map}
+use Rattle.std.proofs.lemmas.Option.{get_or_from_slice_get}
 use Rattle.ant_base.specs.Sink.{Pushed, PushedAll}
 use Rattle.ant_base.proofs.Pushes.{all_of_nothing}
 use Rattle.ant_turn.specs.Minds.{mind_of, minds_of}
+use Rattle.brain_read.specs.declared.instr.Instr.TheVariants.{Drop}
 use Rattle.cell_world.specs.Grid.{world_of}
+use Rattle.match_run.specs.Seen.{Seen, seen_here}
 use Rattle.match_run.specs.Watch.{moment_of}
+use Rattle.match_run.proofs.SeenLemmas.{seen-acts}
+use Rattle.game_reports.specs.Events.{changed_score, death_line, event_lines, score_line}
 use Rattle.game_reports.specs.Inner.Broken.{broken}
+use Rattle.game_reports.specs.Inner.Chunks.{is_quiet}
 use Rattle.game_reports.proofs.EventRests.{found-up, lines-here, lines-quiet}
+use Rattle.game_reports.proofs.EventText.{food-quiet}
 use Rattle.game_reports.proofs.reports.events.EventReportReport.tell.Goals as goal
 
 pub instruction-requires : goal.instruction-requires
@@ -18,10 +26,18 @@ returns-then-is_quiet-clause-told g c =
     let s = c.args.stream.now in
     let it = c.args.standing in
     let m = moment_of (world_of c.args.ground.now) s in
+    let food : Bool = c.args.self.now.food in
+    let seen : Seen = seen_here minds s.seed c.args.round m it in
     let at : slice_get (mind_of minds it.ant.colour) it.ant.state ≡ Some c.instruction.result.now = rw (← c.of.ensures) c.instruction.ensures.instruction in
+    let is : seen.instruction ≡ c.instruction.result.now = get_or_from_slice_get (mind_of minds it.ant.colour) it.ant.state c.instruction.result.now (Drop 0) at in
+    let quiet : is_quiet c.instruction.result.now ≡ true = sym c.is_quiet.ensures ∙ c.if-is_quiet.true in
+    let none : event_lines food seen ≡ [] =
+    ap (λ (lines : List (List ℕ)). map (death_line seen.round seen.ant) seen.killed ++ (lines ++ map (score_line seen.round seen.ant) (changed_score seen.before seen.after)))
+    (food-quiet food seen (ap is_quiet is ∙ quiet))
+    ∙ sym (lines-here minds s.seed c.args.round m it c.requires.found c.requires.here c.requires.up)
+    ∙ lines-quiet minds s.seed c.args.round m it.ant.id it.place it.ant c.instruction.result.now c.requires.found c.requires.here c.requires.up at quiet in
     subst (λ (lines : List (List ℕ)). PushedAll (g.K.Sink.state c.args.sink.now) (g.K.Sink.state c.args.sink.now) (broken lines))
-    (sym (lines-quiet minds s.seed c.args.round m it.ant.id it.place it.ant c.instruction.result.now c.requires.found c.requires.here c.requires.up at (sym c.is_quiet.ensures ∙ c.if-is_quiet.true))
-    ∙ lines-here minds s.seed c.args.round m it c.requires.found c.requires.here c.requires.up)
+    (sym none)
     (all_of_nothing (g.K.Sink.state c.args.sink.now))
 
 pub push_deed-requires-clause-id : goal.push_deed-requires-clause-id
@@ -34,5 +50,7 @@ pub returns-clause-told : goal.returns-clause-told
 returns-clause-told g c =
     let s = c.args.stream.now in
     subst (λ (lines : List (List ℕ)). Pushed (g.K.Sink.state c.args.sink.now) (g.K.Sink.state c.push_deed.new.sink) (broken lines) c.push_deed.result)
-    (lines-here (minds_of c.args.brains.now) s.seed c.args.round (moment_of (world_of c.args.ground.now) s) c.args.standing c.requires.found c.requires.here c.requires.up)
+    (ap (λ (list : List Seen). flat_map (event_lines c.args.self.now.food) list)
+    (seen-acts (minds_of c.args.brains.now) s.seed c.args.round (moment_of (world_of c.args.ground.now) s) c.args.standing c.requires.found c.requires.here c.requires.up)
+    ∙ append-nil _)
     c.push_deed.ensures.text
