@@ -15,6 +15,8 @@ use Rattle.command_words.specs.declared.table.Choice.{Choice}
 use Rattle.command_words.specs.declared.table.Choice.TheVariants.{Blobs, Height, Labels, Lines, Rocks, Width, Window}
 use Rattle.command_words.specs.declared.table.CommandKind.TheVariants.{Asm, Brain, Cup, Gen, Run, Show}
 use Rattle.command_words.specs.declared.table.NameList.TheVariants.{Brains, Worlds}
+use Rattle.command_words.specs.Inner.Walk.{command_kind_of}
+use Rattle.command_words.proofs.TableLemmas.{command_kind_of-known}
 use Rattle.command_words.proofs.WorkedLines.{brain_command, cup_command, greatest_seed, run_all_greatest, run_other_order, states_with_a_value, words_of}
 
 -- a line is one command: no other number is its seed
@@ -58,9 +60,9 @@ asm_needs_none given choice known needed = go known.0 known.1 known.2 where
   go (suc (suc k)) less at = absurd (let no : ⊥ = omega (arith, less) in no)
 
 labels_first : IsCommandOf Asm ((codes "p" ∷ []) ∷ []) (labels ∷ lines ∷ []) (words_of (codes "asm p --labels --lines"))
-unfolding is_file_name
+unfolding is_file_name command_kind_of
 labels_first = record {
-  known = (15, lit< tt, refl);
+  known = command_kind_of-known (codes "asm") Asm refl;
   whole = refl;
   places = (refl, tt);
   options = (record { known = (0, lit< tt, refl); fit = tt }, (record { known = (1, lit< tt, refl); fit = tt }, tt));
@@ -69,9 +71,9 @@ labels_first = record {
 }
 
 lines_first : IsCommandOf Asm ((codes "p" ∷ []) ∷ []) (lines ∷ labels ∷ []) (words_of (codes "asm p --lines --labels"))
-unfolding is_file_name
+unfolding is_file_name command_kind_of
 lines_first = record {
-  known = (15, lit< tt, refl);
+  known = command_kind_of-known (codes "asm") Asm refl;
   whole = refl;
   places = (refl, tt);
   options = (record { known = (1, lit< tt, refl); fit = tt }, (record { known = (0, lit< tt, refl); fit = tt }, tt));
@@ -122,9 +124,9 @@ refuses_far_used law = (λ asked is. law.refused (words_of (codes "run w r b --f
 
 -- `show` of a world, and `gen` with one option
 show_form : IsCommandOf Show ((codes "w" ∷ []) ∷ (codes "7" ∷ []) ∷ []) [] (words_of (codes "show w 7"))
-unfolding is_file_name decimal_value
+unfolding is_file_name decimal_value command_kind_of
 show_form = record {
-  known = (10, lit< tt, refl);
+  known = command_kind_of-known (codes "show") Show refl;
   whole = refl;
   places = (refl, (refl, tt));
   options = tt;
@@ -151,9 +153,9 @@ gen_needs_none choice known needed = go known.0 known.1 known.2 where
   go (suc (suc (suc (suc k)))) less at = absurd (let no : ⊥ = omega (arith, less) in no)
 
 gen_form : IsCommandOf Gen ((codes "7" ∷ []) ∷ []) (width ∷ []) (words_of (codes "gen 7 --width 5"))
-unfolding decimal_value
+unfolding decimal_value command_kind_of
 gen_form = record {
-  known = (11, lit< tt, refl);
+  known = command_kind_of-known (codes "gen") Gen refl;
   whole = refl;
   places = (refl, tt);
   options = (record { known = (0, lit< tt, refl); fit = (refl, tt) }, tt);

@@ -9,9 +9,9 @@ use Rattle.command_words.specs.declared.slot.Slot.TheVariants.{FileName, Number,
 use Rattle.command_words.specs.declared.slot.Place.{Place}
 use Rattle.command_words.specs.declared.slot.Place.TheVariants.{Word, Names}
 use Rattle.command_words.specs.declared.table.Choice.{Choice}
-use Rattle.command_words.specs.declared.table.Choice.TheVariants.{Blobs, Dump, Far, From, Games, Height, Lines, Rest, Rocks, Rounds, Seed, States, Stats, Surround, Way, Width, Window, Workers}
+use Rattle.command_words.specs.declared.table.Choice.TheVariants.{Ant, Blobs, Dump, Far, Food, From, Games, Height, Lines, Rest, Rocks, Rounds, Seed, States, Stats, Surround, Way, Width, Window, Workers}
 use Rattle.command_words.specs.declared.table.CommandKind.{CommandKind}
-use Rattle.command_words.specs.declared.table.CommandKind.TheVariants.{Advance, Asm, Brain, Cup, Events, Gen, Help, Minimise, Profile, Resume, Run, Same, Save, Show, Trace, View}
+use Rattle.command_words.specs.declared.table.CommandKind.TheVariants.{Acts, Advance, Asm, Brain, Cup, Events, Gen, Help, Minimise, Profile, Resume, Run, Same, Save, Show, Trace, View}
 use Rattle.command_words.specs.Help.{command_text, free_texts, has_free, more_text, needed_texts, option_line, place_lines, takes_line}
 use Rattle.command_words.specs.Limits.{name_of}
 use Rattle.command_words.specs.Table.{help_row, keyword_of, list_name, options, places_of}
@@ -54,12 +54,17 @@ unfolding command_text needed_texts more_text place_lines has_free takes_line fr
 trace_help = refl
 
 pub events_help : command_text Events ≡ codes
-    "  events WORLD RED BLACK --seed N --rounds N [OPTION]..\n      plays a game, and prints who died, and how the score went\n      takes --surround --corpse --rest\n"
+    "  events WORLD RED BLACK --seed N --rounds N [OPTION]..\n      plays a game, and prints who died, and how the score went\n      takes --from --surround --corpse --rest --food\n"
 unfolding command_text needed_texts more_text place_lines has_free takes_line free_texts numbered digits
 events_help = refl
 
+pub acts_help : command_text Acts ≡ codes
+    "  acts WORLD RED BLACK --seed N --rounds N [OPTION]..\n      plays a game, and prints what every ant executed\n      takes --from --ant --surround --corpse --rest\n"
+unfolding command_text needed_texts more_text place_lines has_free takes_line free_texts numbered digits
+acts_help = refl
+
 pub profile_help : command_text Profile ≡ codes
-    "  profile WORLD RED BLACK --seed N --rounds N [OPTION]..\n      plays a game, and prints how often each state was executed\n      takes --surround --corpse --rest\n"
+    "  profile WORLD RED BLACK --seed N --rounds N [OPTION]..\n      plays a game, and prints how often each state was executed\n      takes --from --surround --corpse --rest\n"
 unfolding command_text needed_texts more_text place_lines has_free takes_line free_texts numbered digits
 profile_help = refl
 
@@ -84,6 +89,14 @@ seed_help = refl
 pub from_help : option_line From ≡ codes "  --from N      the first round that is told, 0 to 1000000; 0\n"
 unfolding option_line numbered digits
 from_help = refl
+
+pub ant_help : option_line Ant ≡ codes "  --ant N       the one ant that is told of, 0 to 16383; all\n"
+unfolding option_line numbered digits
+ant_help = refl
+
+pub food_help : option_line Food ≡ codes "  --food        adds who takes and who drops food\n"
+unfolding option_line numbered digits
+food_help = refl
 
 pub surround_help : option_line Surround ≡ codes "  --surround N  foes around an ant that kill it, 4 to 6; 5\n"
 unfolding option_line numbered digits

@@ -3,9 +3,9 @@ use Rattle.std.proofs.Common.{◌≡◌, ℕ, Bool, true, false, List, [], ◌�
 use Rattle.std.specs.List.{slice_split}
 use Rattle.ant_base.specs.Number.{decimal_value}
 use Rattle.command_words.specs.declared.table.CommandKind.{CommandKind}
-use Rattle.command_words.specs.declared.table.CommandKind.TheVariants.{Show, Brain, Minimise, Run, Gen, Cup, View, Workload, Help, HelpWord, Version, Asm, Save, Resume, Trace, Same, Events, Profile, Advance}
+use Rattle.command_words.specs.declared.table.CommandKind.TheVariants.{Acts, Show, Brain, Minimise, Run, Gen, Cup, View, Workload, Help, HelpWord, Version, Asm, Save, Resume, Trace, Same, Events, Profile, Advance}
 use Rattle.command_words.specs.declared.table.Choice.{Choice}
-use Rattle.command_words.specs.declared.table.Choice.TheVariants.{Seed, Rounds, Workers, Window, Surround, Corpse, Rest, Stats, Far, Width, Height, Rocks, Blobs, From, Labels, States, Games, Lines, Way}
+use Rattle.command_words.specs.declared.table.Choice.TheVariants.{Seed, Rounds, Workers, Window, Surround, Corpse, Rest, Stats, Far, Width, Height, Rocks, Blobs, From, Ant, Food, Labels, States, Games, Lines, Way}
 use Rattle.command_words.specs.declared.table.NameList.{NameList}
 use Rattle.command_words.specs.declared.table.NameList.TheVariants.{Worlds, Brains}
 use Rattle.command_words.specs.Slots.{is_file_name, is_dumps, dumps_of, DumpChoice}
@@ -346,14 +346,42 @@ trace_rounds_missing = read-refuses (words_of (codes "trace w r b 1 --seed 1")) 
 
 -- events and a profile are of a game by the contest's rules, where no option says otherwise
 pub events_defaults : Says Events (codes "events w r b --seed 1 --rounds 2")
-    (AtFile 0 (codes "w") ∷ AtFile 1 (codes "r") ∷ AtFile 2 (codes "b") ∷ OptionIs Seed 1 ∷ OptionIs Rounds 2 ∷ OptionIs Surround 5 ∷ OptionIs Corpse 3 ∷ OptionIs Rest 14 ∷ [])
+    (AtFile 0 (codes "w") ∷ AtFile 1 (codes "r") ∷ AtFile 2 (codes "b") ∷ OptionIs Seed 1 ∷ OptionIs Rounds 2 ∷ OptionIs From 0 ∷ OptionIs Surround 5 ∷ OptionIs Corpse 3 ∷ OptionIs Rest 14 ∷ IsGivenAs Food false ∷ [])
 unfolding command_kind_of choice_of is_among rest_after is_file_name is_dumps dumps_of decimal_value
-events_defaults = says _ _ _ refl (refl, (refl, (refl, (refl, (refl, (refl, (refl, (refl, tt))))))))
+events_defaults = says _ _ _ refl (refl, (refl, (refl, (refl, (refl, (refl, (refl, (refl, (refl, (refl, tt))))))))))
 
 pub profile_defaults : Says Profile (codes "profile w r b --rounds 2 --seed 1")
-    (AtFile 0 (codes "w") ∷ AtFile 1 (codes "r") ∷ AtFile 2 (codes "b") ∷ OptionIs Seed 1 ∷ OptionIs Rounds 2 ∷ OptionIs Surround 5 ∷ OptionIs Corpse 3 ∷ OptionIs Rest 14 ∷ [])
+    (AtFile 0 (codes "w") ∷ AtFile 1 (codes "r") ∷ AtFile 2 (codes "b") ∷ OptionIs Seed 1 ∷ OptionIs Rounds 2 ∷ OptionIs From 0 ∷ OptionIs Surround 5 ∷ OptionIs Corpse 3 ∷ OptionIs Rest 14 ∷ [])
 unfolding command_kind_of choice_of is_among rest_after is_file_name is_dumps dumps_of decimal_value
-profile_defaults = says _ _ _ refl (refl, (refl, (refl, (refl, (refl, (refl, (refl, (refl, tt))))))))
+profile_defaults = says _ _ _ refl (refl, (refl, (refl, (refl, (refl, (refl, (refl, (refl, (refl, tt)))))))))
+
+-- what ants execute is told of all of them, from round 0 on
+pub acts_defaults : Says Acts (codes "acts w r b --rounds 2 --seed 1")
+    (AtFile 0 (codes "w") ∷ AtFile 1 (codes "r") ∷ AtFile 2 (codes "b") ∷ OptionIs Seed 1 ∷ OptionIs Rounds 2 ∷ OptionIs From 0 ∷ IsGivenAs Ant false ∷ OptionIs Surround 5 ∷ OptionIs Corpse 3 ∷ OptionIs Rest 14 ∷ [])
+unfolding command_kind_of choice_of is_among rest_after is_file_name is_dumps dumps_of decimal_value
+acts_defaults = says _ _ _ refl (refl, (refl, (refl, (refl, (refl, (refl, (refl, (refl, (refl, (refl, tt))))))))))
+
+-- of one ant, with each number at its greatest; and of ant 0, which is said
+pub acts_greatest : Says Acts (codes "acts w r b --ant 16383 --rest 255 --corpse 9 --surround 6 --from 1000000 --rounds 999999 --seed 4294967295")
+    (AtFile 0 (codes "w") ∷ AtFile 1 (codes "r") ∷ AtFile 2 (codes "b") ∷ OptionIs Seed 4294967295 ∷ OptionIs Rounds 999999 ∷ OptionIs From 1000000 ∷ IsGivenAs Ant true ∷ OptionIs Ant 16383 ∷ OptionIs Surround 6 ∷ OptionIs Corpse 9 ∷ OptionIs Rest 255 ∷ [])
+unfolding command_kind_of choice_of is_among rest_after is_file_name is_dumps dumps_of decimal_value
+acts_greatest = says _ _ _ refl (refl, (refl, (refl, (refl, (refl, (refl, (refl, (refl, (refl, (refl, (refl, tt)))))))))))
+
+pub acts_least : Says Acts (codes "acts - r b --surround 4 --seed 0 --rest 0 --ant 0 --rounds 0 --corpse 0 --from 0")
+    (AtFile 0 (codes "-") ∷ AtFile 1 (codes "r") ∷ AtFile 2 (codes "b") ∷ OptionIs Seed 0 ∷ OptionIs Rounds 0 ∷ OptionIs From 0 ∷ IsGivenAs Ant true ∷ OptionIs Ant 0 ∷ OptionIs Surround 4 ∷ OptionIs Corpse 0 ∷ OptionIs Rest 0 ∷ [])
+unfolding command_kind_of choice_of is_among rest_after is_file_name is_dumps dumps_of decimal_value
+acts_least = says _ _ _ refl (refl, (refl, (refl, (refl, (refl, (refl, (refl, (refl, (refl, (refl, (refl, tt)))))))))))
+
+-- events with food, and a profile, from a round on
+pub events_food : Says Events (codes "events w r b --food --seed 1 --from 7 --rounds 2")
+    (OptionIs Seed 1 ∷ OptionIs Rounds 2 ∷ OptionIs From 7 ∷ IsGivenAs Food true ∷ [])
+unfolding command_kind_of choice_of is_among rest_after is_file_name is_dumps dumps_of decimal_value
+events_food = says _ _ _ refl (refl, (refl, (refl, (refl, tt))))
+
+pub profile_from : Says Profile (codes "profile w r b --from 1000000 --seed 1 --rounds 2")
+    (OptionIs Seed 1 ∷ OptionIs Rounds 2 ∷ OptionIs From 1000000 ∷ [])
+unfolding command_kind_of choice_of is_among rest_after is_file_name is_dumps dumps_of decimal_value
+profile_from = says _ _ _ refl (refl, (refl, (refl, tt)))
 
 -- each number of theirs at its greatest, and at its least
 pub events_greatest : Says Events (codes "events w r b --rest 255 --corpse 9 --surround 6 --rounds 1000000 --seed 4294967295")
@@ -382,6 +410,54 @@ profile_without_rounds = read-refuses (words_of (codes "profile w r b --seed 1 -
 pub profile_surround_too_great : IsRefusedAt (words_of (codes "profile w r b --surround 7")) 6
 unfolding command_kind_of choice_of is_among rest_after is_file_name is_dumps dumps_of decimal_value
 profile_surround_too_great = read-refuses (words_of (codes "profile w r b --surround 7")) 6 refl
+
+-- `--food` takes no value, and may stand once
+pub food_with_a_value : IsRefusedAt (words_of (codes "events w r b --food 1")) 6
+unfolding command_kind_of choice_of is_among rest_after is_file_name is_dumps dumps_of decimal_value
+food_with_a_value = read-refuses (words_of (codes "events w r b --food 1")) 6 refl
+
+pub food_twice : IsRefusedAt (words_of (codes "events w r b --food --food")) 6
+unfolding command_kind_of choice_of is_among rest_after is_file_name is_dumps dumps_of decimal_value
+food_twice = read-refuses (words_of (codes "events w r b --food --food")) 6 refl
+
+-- no ant has the id 16,384, and a number has at most ten digits
+pub acts_ant_too_great : IsRefusedAt (words_of (codes "acts w r b --ant 16384")) 6
+unfolding command_kind_of choice_of is_among rest_after is_file_name is_dumps dumps_of decimal_value
+acts_ant_too_great = read-refuses (words_of (codes "acts w r b --ant 16384")) 6 refl
+
+pub acts_ant_eleven_digits : IsRefusedAt (words_of (codes "acts w r b --ant 00000000001")) 6
+unfolding command_kind_of choice_of is_among rest_after is_file_name is_dumps dumps_of decimal_value
+acts_ant_eleven_digits = read-refuses (words_of (codes "acts w r b --ant 00000000001")) 6 refl
+
+-- 1,000,001 rounds before the first that is told
+pub acts_from_too_late : IsRefusedAt (words_of (codes "acts w r b --from 1000001")) 6
+unfolding command_kind_of choice_of is_among rest_after is_file_name is_dumps dumps_of decimal_value
+acts_from_too_late = read-refuses (words_of (codes "acts w r b --from 1000001")) 6 refl
+
+pub events_from_too_late : IsRefusedAt (words_of (codes "events w r b --from 1000001")) 6
+unfolding command_kind_of choice_of is_among rest_after is_file_name is_dumps dumps_of decimal_value
+events_from_too_late = read-refuses (words_of (codes "events w r b --from 1000001")) 6 refl
+
+pub profile_from_eleven_digits : IsRefusedAt (words_of (codes "profile w r b --from 00000000001")) 6
+unfolding command_kind_of choice_of is_among rest_after is_file_name is_dumps dumps_of decimal_value
+profile_from_eleven_digits = read-refuses (words_of (codes "profile w r b --from 00000000001")) 6 refl
+
+-- the id of an ant stands after its option, once; and a seed and rounds are needed
+pub acts_id_as_a_place : IsRefusedAt (words_of (codes "acts w r b 1 --seed 1 --rounds 2")) 5
+unfolding command_kind_of choice_of is_among rest_after is_file_name is_dumps dumps_of decimal_value
+acts_id_as_a_place = read-refuses (words_of (codes "acts w r b 1 --seed 1 --rounds 2")) 5 refl
+
+pub acts_ant_twice : IsRefusedAt (words_of (codes "acts w r b --ant 1 --ant 2")) 7
+unfolding command_kind_of choice_of is_among rest_after is_file_name is_dumps dumps_of decimal_value
+acts_ant_twice = read-refuses (words_of (codes "acts w r b --ant 1 --ant 2")) 7 refl
+
+pub acts_without_rounds : IsRefusedAt (words_of (codes "acts w r b --seed 1 --ant 3")) 9
+unfolding command_kind_of choice_of is_among rest_after is_file_name is_dumps dumps_of decimal_value
+acts_without_rounds = read-refuses (words_of (codes "acts w r b --seed 1 --ant 3")) 9 refl
+
+pub acts_two_files : IsRefusedAt (words_of (codes "acts w r --seed 1 --rounds 2")) 4
+unfolding command_kind_of choice_of is_among rest_after is_file_name is_dumps dumps_of decimal_value
+acts_two_files = read-refuses (words_of (codes "acts w r --seed 1 --rounds 2")) 4 refl
 
 -- two brains
 pub same_command : Says Same (codes "same a -")

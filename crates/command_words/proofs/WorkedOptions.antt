@@ -46,41 +46,45 @@ abbrev shared_options : List (List ℕ)
 shared_options = game_options ++ shape_options ++ common_options
 
 abbrev own_options : List (List ℕ)
-own_options = (codes "--from") ∷ (codes "--labels") ∷ (codes "--lines") ∷ (codes "--states") ∷ (codes "--way") ∷ (codes "--games") ∷ []
+own_options = (codes "--labels") ∷ (codes "--lines") ∷ (codes "--states") ∷ (codes "--way") ∷ (codes "--games") ∷ []
+
+-- the options of what is told of a game
+abbrev told_options : List (List ℕ)
+told_options = (codes "--from") ∷ (codes "--ant") ∷ (codes "--food") ∷ []
 
 -- all options
 abbrev all_options : List (List ℕ)
-all_options = shared_options ++ own_options
+all_options = shared_options ++ own_options ++ told_options
 
 -- `show` takes no option
 pub show_takes_none : AreRefusedAfter (codes "show w 1") 4 all_options
 unfolding command_kind_of choice_of is_among rest_after is_file_name is_dumps dumps_of decimal_value
 show_takes_none = refused_after (codes "show w 1") 4 all_options
-    (refl, (refl, (refl, (refl, (refl, (refl, (refl, (refl, (refl, (refl, (refl, (refl, (refl, (refl, (refl, (refl, (refl, (refl, (refl, (refl, tt))))))))))))))))))))
+    (refl, (refl, (refl, (refl, (refl, (refl, (refl, (refl, (refl, (refl, (refl, (refl, (refl, (refl, (refl, (refl, (refl, (refl, (refl, (refl, (refl, (refl, tt))))))))))))))))))))))
 
 -- `brain` takes no option
 pub brain_takes_none : AreRefusedAfter (codes "brain b") 3 all_options
 unfolding command_kind_of choice_of is_among rest_after is_file_name is_dumps dumps_of decimal_value
 brain_takes_none = refused_after (codes "brain b") 3 all_options
-    (refl, (refl, (refl, (refl, (refl, (refl, (refl, (refl, (refl, (refl, (refl, (refl, (refl, (refl, (refl, (refl, (refl, (refl, (refl, (refl, tt))))))))))))))))))))
+    (refl, (refl, (refl, (refl, (refl, (refl, (refl, (refl, (refl, (refl, (refl, (refl, (refl, (refl, (refl, (refl, (refl, (refl, (refl, (refl, (refl, (refl, tt))))))))))))))))))))))
 
 -- `minimise` takes `--states` alone
-pub minimise_takes_one : AreRefusedAfter (codes "minimise b") 3 (shared_options ++ (codes "--from") ∷ (codes "--labels") ∷ (codes "--lines") ∷ (codes "--way") ∷ (codes "--games") ∷ [])
+pub minimise_takes_one : AreRefusedAfter (codes "minimise b") 3 (shared_options ++ told_options ++ (codes "--labels") ∷ (codes "--lines") ∷ (codes "--way") ∷ (codes "--games") ∷ [])
 unfolding command_kind_of choice_of is_among rest_after is_file_name is_dumps dumps_of decimal_value
-minimise_takes_one = refused_after (codes "minimise b") 3 (shared_options ++ (codes "--from") ∷ (codes "--labels") ∷ (codes "--lines") ∷ (codes "--way") ∷ (codes "--games") ∷ [])
-    (refl, (refl, (refl, (refl, (refl, (refl, (refl, (refl, (refl, (refl, (refl, (refl, (refl, (refl, (refl, (refl, (refl, (refl, (refl, tt)))))))))))))))))))
+minimise_takes_one = refused_after (codes "minimise b") 3 (shared_options ++ told_options ++ (codes "--labels") ∷ (codes "--lines") ∷ (codes "--way") ∷ (codes "--games") ∷ [])
+    (refl, (refl, (refl, (refl, (refl, (refl, (refl, (refl, (refl, (refl, (refl, (refl, (refl, (refl, (refl, (refl, (refl, (refl, (refl, (refl, (refl, tt)))))))))))))))))))))
 
 -- `asm` takes `--labels` and `--lines` alone
-pub asm_takes_two : AreRefusedAfter (codes "asm p") 3 (shared_options ++ (codes "--from") ∷ (codes "--states") ∷ (codes "--way") ∷ (codes "--games") ∷ [])
+pub asm_takes_two : AreRefusedAfter (codes "asm p") 3 (shared_options ++ told_options ++ (codes "--states") ∷ (codes "--way") ∷ (codes "--games") ∷ [])
 unfolding command_kind_of choice_of is_among rest_after is_file_name is_dumps dumps_of decimal_value
-asm_takes_two = refused_after (codes "asm p") 3 (shared_options ++ (codes "--from") ∷ (codes "--states") ∷ (codes "--way") ∷ (codes "--games") ∷ [])
-    (refl, (refl, (refl, (refl, (refl, (refl, (refl, (refl, (refl, (refl, (refl, (refl, (refl, (refl, (refl, (refl, (refl, (refl, tt))))))))))))))))))
+asm_takes_two = refused_after (codes "asm p") 3 (shared_options ++ told_options ++ (codes "--states") ∷ (codes "--way") ∷ (codes "--games") ∷ [])
+    (refl, (refl, (refl, (refl, (refl, (refl, (refl, (refl, (refl, (refl, (refl, (refl, (refl, (refl, (refl, (refl, (refl, (refl, (refl, (refl, tt))))))))))))))))))))
 
 -- `workload` takes no option
 pub workload_takes_none : AreRefusedAfter (codes "workload 1 2 3") 5 all_options
 unfolding command_kind_of choice_of is_among rest_after is_file_name is_dumps dumps_of decimal_value
 workload_takes_none = refused_after (codes "workload 1 2 3") 5 all_options
-    (refl, (refl, (refl, (refl, (refl, (refl, (refl, (refl, (refl, (refl, (refl, (refl, (refl, (refl, (refl, (refl, (refl, (refl, (refl, (refl, tt))))))))))))))))))))
+    (refl, (refl, (refl, (refl, (refl, (refl, (refl, (refl, (refl, (refl, (refl, (refl, (refl, (refl, (refl, (refl, (refl, (refl, (refl, (refl, (refl, (refl, tt))))))))))))))))))))))
 
 -- `run` takes no option of a world
 pub run_takes_no_shape : AreRefusedAfter (codes "run w r b") 5 shape_options
@@ -104,10 +108,10 @@ resume_takes_four = refused_after (codes "resume k") 3 (held_options ++ (codes "
     (refl, (refl, (refl, (refl, (refl, (refl, (refl, (refl, (refl, (refl, tt))))))))))
 
 -- nor does `advance`, and it writes no dumps and no counts
-pub advance_takes_two : AreRefusedAfter (codes "advance k") 3 (held_options ++ (codes "--dump") ∷ (codes "--stats") ∷ (codes "--far") ∷ (shape_options ++ own_options))
+pub advance_takes_two : AreRefusedAfter (codes "advance k") 3 (held_options ++ (codes "--dump") ∷ (codes "--stats") ∷ (codes "--far") ∷ (shape_options ++ own_options ++ told_options))
 unfolding command_kind_of choice_of is_among rest_after is_file_name is_dumps dumps_of decimal_value
-advance_takes_two = refused_after (codes "advance k") 3 (held_options ++ (codes "--dump") ∷ (codes "--stats") ∷ (codes "--far") ∷ (shape_options ++ own_options))
-    (refl, (refl, (refl, (refl, (refl, (refl, (refl, (refl, (refl, (refl, (refl, (refl, (refl, (refl, (refl, (refl, (refl, (refl, tt))))))))))))))))))
+advance_takes_two = refused_after (codes "advance k") 3 (held_options ++ (codes "--dump") ∷ (codes "--stats") ∷ (codes "--far") ∷ (shape_options ++ own_options ++ told_options))
+    (refl, (refl, (refl, (refl, (refl, (refl, (refl, (refl, (refl, (refl, (refl, (refl, (refl, (refl, (refl, (refl, (refl, (refl, (refl, (refl, tt))))))))))))))))))))
 
 -- `gen` takes no option of a game
 pub gen_takes_no_game : AreRefusedAfter (codes "gen 1") 3 (game_options ++ common_options)
@@ -128,33 +132,38 @@ view_takes_two = refused_after (codes "view w r b k") 6 ((codes "--workers") ∷
     (refl, (refl, (refl, (refl, (refl, (refl, (refl, (refl, (refl, (refl, (refl, (refl, tt))))))))))))
 
 -- `trace` takes no dumps, no workers, no windows, no counts, and no option of a world
-pub trace_takes_few : AreRefusedAfter (codes "trace w r b 1") 6 ((codes "--dump") ∷ (codes "--workers") ∷ (codes "--window") ∷ (codes "--stats") ∷ (codes "--far") ∷ shape_options)
+pub trace_takes_few : AreRefusedAfter (codes "trace w r b 1") 6 ((codes "--dump") ∷ (codes "--workers") ∷ (codes "--window") ∷ (codes "--stats") ∷ (codes "--far") ∷ (codes "--ant") ∷ (codes "--food") ∷ shape_options)
 unfolding command_kind_of choice_of is_among rest_after is_file_name is_dumps dumps_of decimal_value
-trace_takes_few = refused_after (codes "trace w r b 1") 6 ((codes "--dump") ∷ (codes "--workers") ∷ (codes "--window") ∷ (codes "--stats") ∷ (codes "--far") ∷ shape_options)
-    (refl, (refl, (refl, (refl, (refl, (refl, (refl, (refl, (refl, tt)))))))))
+trace_takes_few = refused_after (codes "trace w r b 1") 6 ((codes "--dump") ∷ (codes "--workers") ∷ (codes "--window") ∷ (codes "--stats") ∷ (codes "--far") ∷ (codes "--ant") ∷ (codes "--food") ∷ shape_options)
+    (refl, (refl, (refl, (refl, (refl, (refl, (refl, (refl, (refl, (refl, (refl, tt)))))))))))
 
--- `events` and `profile` take what `trace` does, but for the first round that is told
-pub events_takes_few : AreRefusedAfter (codes "events w r b") 5 ((codes "--dump") ∷ (codes "--workers") ∷ (codes "--window") ∷ (codes "--stats") ∷ (codes "--far") ∷ (shape_options ++ own_options))
+-- `events`, `acts` and `profile` take what `trace` does, and `events` `--food`, and `acts` `--ant`
+pub events_takes_few : AreRefusedAfter (codes "events w r b") 5 ((codes "--dump") ∷ (codes "--workers") ∷ (codes "--window") ∷ (codes "--stats") ∷ (codes "--far") ∷ (shape_options ++ own_options ++ (codes "--ant") ∷ []))
 unfolding command_kind_of choice_of is_among rest_after is_file_name is_dumps dumps_of decimal_value
-events_takes_few = refused_after (codes "events w r b") 5 ((codes "--dump") ∷ (codes "--workers") ∷ (codes "--window") ∷ (codes "--stats") ∷ (codes "--far") ∷ (shape_options ++ own_options))
+events_takes_few = refused_after (codes "events w r b") 5 ((codes "--dump") ∷ (codes "--workers") ∷ (codes "--window") ∷ (codes "--stats") ∷ (codes "--far") ∷ (shape_options ++ own_options ++ (codes "--ant") ∷ []))
     (refl, (refl, (refl, (refl, (refl, (refl, (refl, (refl, (refl, (refl, (refl, (refl, (refl, (refl, (refl, tt)))))))))))))))
 
-pub profile_takes_few : AreRefusedAfter (codes "profile w r b") 5 ((codes "--dump") ∷ (codes "--workers") ∷ (codes "--window") ∷ (codes "--stats") ∷ (codes "--far") ∷ (shape_options ++ own_options))
+pub acts_takes_few : AreRefusedAfter (codes "acts w r b") 5 ((codes "--dump") ∷ (codes "--workers") ∷ (codes "--window") ∷ (codes "--stats") ∷ (codes "--far") ∷ (shape_options ++ own_options ++ (codes "--food") ∷ []))
 unfolding command_kind_of choice_of is_among rest_after is_file_name is_dumps dumps_of decimal_value
-profile_takes_few = refused_after (codes "profile w r b") 5 ((codes "--dump") ∷ (codes "--workers") ∷ (codes "--window") ∷ (codes "--stats") ∷ (codes "--far") ∷ (shape_options ++ own_options))
+acts_takes_few = refused_after (codes "acts w r b") 5 ((codes "--dump") ∷ (codes "--workers") ∷ (codes "--window") ∷ (codes "--stats") ∷ (codes "--far") ∷ (shape_options ++ own_options ++ (codes "--food") ∷ []))
     (refl, (refl, (refl, (refl, (refl, (refl, (refl, (refl, (refl, (refl, (refl, (refl, (refl, (refl, (refl, tt)))))))))))))))
+
+pub profile_takes_few : AreRefusedAfter (codes "profile w r b") 5 ((codes "--dump") ∷ (codes "--workers") ∷ (codes "--window") ∷ (codes "--stats") ∷ (codes "--far") ∷ (shape_options ++ own_options ++ (codes "--ant") ∷ (codes "--food") ∷ []))
+unfolding command_kind_of choice_of is_among rest_after is_file_name is_dumps dumps_of decimal_value
+profile_takes_few = refused_after (codes "profile w r b") 5 ((codes "--dump") ∷ (codes "--workers") ∷ (codes "--window") ∷ (codes "--stats") ∷ (codes "--far") ∷ (shape_options ++ own_options ++ (codes "--ant") ∷ (codes "--food") ∷ []))
+    (refl, (refl, (refl, (refl, (refl, (refl, (refl, (refl, (refl, (refl, (refl, (refl, (refl, (refl, (refl, (refl, tt))))))))))))))))
 
 -- `same` takes `--way` alone
-pub same_takes_one : AreRefusedAfter (codes "same a b") 4 (shared_options ++ (codes "--from") ∷ (codes "--labels") ∷ (codes "--lines") ∷ (codes "--states") ∷ (codes "--games") ∷ [])
+pub same_takes_one : AreRefusedAfter (codes "same a b") 4 (shared_options ++ told_options ++ (codes "--labels") ∷ (codes "--lines") ∷ (codes "--states") ∷ (codes "--games") ∷ [])
 unfolding command_kind_of choice_of is_among rest_after is_file_name is_dumps dumps_of decimal_value
-same_takes_one = refused_after (codes "same a b") 4 (shared_options ++ (codes "--from") ∷ (codes "--labels") ∷ (codes "--lines") ∷ (codes "--states") ∷ (codes "--games") ∷ [])
-    (refl, (refl, (refl, (refl, (refl, (refl, (refl, (refl, (refl, (refl, (refl, (refl, (refl, (refl, (refl, (refl, (refl, (refl, (refl, tt)))))))))))))))))))
+same_takes_one = refused_after (codes "same a b") 4 (shared_options ++ told_options ++ (codes "--labels") ∷ (codes "--lines") ∷ (codes "--states") ∷ (codes "--games") ∷ [])
+    (refl, (refl, (refl, (refl, (refl, (refl, (refl, (refl, (refl, (refl, (refl, (refl, (refl, (refl, (refl, (refl, (refl, (refl, (refl, (refl, (refl, tt)))))))))))))))))))))
 
 -- nor does `run` take an option of one other command
-pub run_takes_no_own : AreRefusedAfter (codes "run w r b") 5 own_options
+pub run_takes_no_own : AreRefusedAfter (codes "run w r b") 5 (own_options ++ told_options)
 unfolding command_kind_of choice_of is_among rest_after is_file_name is_dumps dumps_of decimal_value
-run_takes_no_own = refused_after (codes "run w r b") 5 own_options
-    (refl, (refl, (refl, (refl, (refl, (refl, tt))))))
+run_takes_no_own = refused_after (codes "run w r b") 5 (own_options ++ told_options)
+    (refl, (refl, (refl, (refl, (refl, (refl, (refl, (refl, tt))))))))
 
 -- the greatest seed of a game
 pub run_greatest_seed : Says Run (codes "run w r b --seed 4294967295 --rounds 1000000")

@@ -11,7 +11,7 @@ use Rattle.command_words.specs.declared.table.CommandKind.TheVariants.{Run}
 use Rattle.command_words.specs.declared.table.Choice.{Choice}
 use Rattle.command_words.specs.declared.table.Choice.TheVariants.{Seed}
 use Rattle.command_words.specs.Limits.{least_of, most_of, name_of}
-use Rattle.command_words.specs.Table.{about_of, choices_of, default_of, fewest_names, help_row, is_needed, kinds, list_name, most_names, option_of, options, places_of, values_of, word_of}
+use Rattle.command_words.specs.Table.{about_of, choices_of, default_of, fewest_names, help_row, is_needed, kinds, list_name, means_all, most_names, option_of, options, places_of, values_of, word_of}
 
 -- the texts of the elements of a list, one after another; `first` stands for none of them
 abbrev pub each_text : {A : Type 0} → A → (A → List ℕ) → List A → List ℕ
@@ -68,18 +68,23 @@ value_text (Word (Number kind) ∷ []) = codes " N"
 value_text (Word Dumps ∷ []) = codes " D"
 value_text places = codes "  "
 
+-- what holds without an option: all, or a number
+abbrev pub without_text : Bool → ℕ → List ℕ
+without_text true default = codes "all"
+without_text false default = decimal default
+
 -- the limits of an option's number, and what holds without it
-abbrev pub default_text : List Place → Bool → ℕ → List ℕ
-default_text (Word (Number kind) ∷ []) true default = range_text kind +++ codes "; needed"
-default_text (Word (Number kind) ∷ []) false default = range_text kind +++ codes "; " +++ decimal default
-default_text places needed default = []
+abbrev pub default_text : List Place → Bool → Bool → ℕ → List ℕ
+default_text (Word (Number kind) ∷ []) true all default = range_text kind +++ codes "; needed"
+default_text (Word (Number kind) ∷ []) false all default = range_text kind +++ codes "; " +++ without_text all default
+default_text places needed all default = []
 
 -- the line of an option; what is said of it begins in column 17
 unfoldable pub option_line : Choice → List ℕ
 option_line choice =
     codes "  " +++ option_of choice +++ value_text (values_of choice) +++ numbered (λ at. codes " ") (12 - length (option_of choice))
     +++ about_of choice
-    +++ default_text (values_of choice) (is_needed choice) (default_of choice)
+    +++ default_text (values_of choice) (is_needed choice) (means_all choice) (default_of choice)
     +++ codes "\n"
 
 unfoldable pub table_text : List ℕ

@@ -10,9 +10,9 @@ use Rattle.command_words.specs.declared.slot.Slot.TheVariants.{FileName, Number,
 use Rattle.command_words.specs.declared.slot.Place.{Place}
 use Rattle.command_words.specs.declared.slot.Place.TheVariants.{Word, Names}
 use Rattle.command_words.specs.declared.table.CommandKind.{CommandKind}
-use Rattle.command_words.specs.declared.table.CommandKind.TheVariants.{Show, Brain, Minimise, Run, Gen, Cup, View, Workload, Help, HelpWord, Version, Asm, Save, Resume, Trace, Same, Events, Profile, Advance}
+use Rattle.command_words.specs.declared.table.CommandKind.TheVariants.{Show, Brain, Minimise, Run, Gen, Cup, View, Workload, Help, HelpWord, Version, Asm, Save, Resume, Trace, Same, Events, Acts, Profile, Advance}
 use Rattle.command_words.specs.declared.table.Choice.{Choice}
-use Rattle.command_words.specs.declared.table.Choice.TheVariants.{Seed, Rounds, Dump, Workers, Window, Surround, Corpse, Rest, Stats, Far, Width, Height, Rocks, Blobs, From, Labels, States, Games, Lines, Way}
+use Rattle.command_words.specs.declared.table.Choice.TheVariants.{Seed, Rounds, Dump, Workers, Window, Surround, Corpse, Rest, Stats, Far, Width, Height, Rocks, Blobs, From, Ant, Food, Labels, States, Games, Lines, Way}
 
 -- a command: its first word, what stands after that, and its options, which follow in any order
 pub record CommandRow : Type 0 where
@@ -41,7 +41,7 @@ cup_places = Word (Keyword Worlds) ∷ Names Worlds ∷ Word (Keyword Brains) �
 
 -- all commands that are known, in the order of the page of `--help`
 abbrev pub kinds : List CommandKind
-kinds = Run ∷ Save ∷ Resume ∷ Advance ∷ View ∷ Trace ∷ Events ∷ Profile ∷ Cup ∷ Workload ∷ Show ∷ Gen ∷ Brain ∷ Minimise ∷ Same ∷ Asm ∷ HelpWord ∷ Help ∷ Version ∷ []
+kinds = Run ∷ Save ∷ Resume ∷ Advance ∷ View ∷ Trace ∷ Events ∷ Acts ∷ Profile ∷ Cup ∷ Workload ∷ Show ∷ Gen ∷ Brain ∷ Minimise ∷ Same ∷ Asm ∷ HelpWord ∷ Help ∷ Version ∷ []
 
 abbrev pub row_of : CommandKind → CommandRow
 row_of Show = command_row (codes "show") (Word FileName ∷ number_place SeedNumber ∷ []) []
@@ -60,8 +60,9 @@ row_of Save = command_row (codes "save") game_places (Seed ∷ Rounds ∷ Worker
 row_of Resume = command_row (codes "resume") one_file (Rounds ∷ Dump ∷ Workers ∷ Stats ∷ [])
 row_of Trace = command_row (codes "trace") trace_places (Seed ∷ Rounds ∷ From ∷ Surround ∷ Corpse ∷ Rest ∷ [])
 row_of Same = command_row (codes "same") (Word FileName ∷ one_file) (Way ∷ [])
-row_of Events = command_row (codes "events") game_places (Seed ∷ Rounds ∷ Surround ∷ Corpse ∷ Rest ∷ [])
-row_of Profile = command_row (codes "profile") game_places (Seed ∷ Rounds ∷ Surround ∷ Corpse ∷ Rest ∷ [])
+row_of Events = command_row (codes "events") game_places (Seed ∷ Rounds ∷ From ∷ Surround ∷ Corpse ∷ Rest ∷ Food ∷ [])
+row_of Acts = command_row (codes "acts") game_places (Seed ∷ Rounds ∷ From ∷ Ant ∷ Surround ∷ Corpse ∷ Rest ∷ [])
+row_of Profile = command_row (codes "profile") game_places (Seed ∷ Rounds ∷ From ∷ Surround ∷ Corpse ∷ Rest ∷ [])
 row_of Advance = command_row (codes "advance") one_file (Rounds ∷ Workers ∷ [])
 
 -- what the page of `--help` has of a command: its places by name, each behind a space, and a sentence
@@ -80,6 +81,7 @@ help_row Advance = command_help (codes " SAVE") (codes "goes on with a saved gam
 help_row View = command_help (codes " WORLD RED BLACK BREAKS") (codes "plays a game up to the first of its breaks, and prints the world there")
 help_row Trace = command_help (codes " WORLD RED BLACK ID") (codes "plays a game, and prints where one ant is after each round")
 help_row Events = command_help (codes " WORLD RED BLACK") (codes "plays a game, and prints who died, and how the score went")
+help_row Acts = command_help (codes " WORLD RED BLACK") (codes "plays a game, and prints what every ant executed")
 help_row Profile = command_help (codes " WORLD RED BLACK") (codes "plays a game, and prints how often each state was executed")
 help_row Cup = command_help (codes " --worlds WORLD.. --brains BRAIN..") (codes "plays all games between brains on worlds, and prints their standing")
 help_row Workload = command_help (codes " SEED ROUNDS WORKERS") (codes "plays the sample brain against itself on a world that gen makes")
@@ -102,24 +104,29 @@ places_of kind = (row_of kind).places
 abbrev pub choices_of : CommandKind → List Choice
 choices_of kind = (row_of kind).choices
 
--- an option: its word, what stands after that, whether a command that has the option needs it, and the number that holds where it isn't given
+-- an option: its word, what stands after that, whether a command that has the option needs it, and the number that holds where it isn't given, or
+-- whether all do
 pub record OptionRow : Type 0 where
   pub word : List ℕ
   pub values : List Place
   pub needed : Bool
   pub default : ℕ
+  pub all : Bool
 
 abbrev pub needed_option : List ℕ → NumberKind → OptionRow
-needed_option word kind = record { word = word; values = number_place kind ∷ []; needed = true; default = 0 }
+needed_option word kind = record { word = word; values = number_place kind ∷ []; needed = true; default = 0; all = false }
 
 abbrev pub number_option : List ℕ → NumberKind → ℕ → OptionRow
-number_option word kind default = record { word = word; values = number_place kind ∷ []; needed = false; default = default }
+number_option word kind default = record { word = word; values = number_place kind ∷ []; needed = false; default = default; all = false }
+
+abbrev pub one_option : List ℕ → NumberKind → OptionRow
+one_option word kind = record { word = word; values = number_place kind ∷ []; needed = false; default = 0; all = true }
 
 abbrev pub dump_option : List ℕ → OptionRow
-dump_option word = record { word = word; values = Word Dumps ∷ []; needed = false; default = 0 }
+dump_option word = record { word = word; values = Word Dumps ∷ []; needed = false; default = 0; all = false }
 
 abbrev pub flag_option : List ℕ → OptionRow
-flag_option word = record { word = word; values = []; needed = false; default = 0 }
+flag_option word = record { word = word; values = []; needed = false; default = 0; all = false }
 
 abbrev pub option_row : Choice → OptionRow
 option_row Seed = needed_option (codes "--seed") SeedNumber
@@ -131,12 +138,14 @@ option_row Surround = number_option (codes "--surround") FoeCount 5
 option_row Corpse = number_option (codes "--corpse") CorpseFood 3
 option_row Rest = number_option (codes "--rest") RestRounds 14
 option_row Stats = flag_option (codes "--stats")
+option_row Food = flag_option (codes "--food")
 option_row Far = flag_option (codes "--far")
 option_row Width = number_option (codes "--width") SideLength 150
 option_row Height = number_option (codes "--height") SideLength 150
 option_row Rocks = number_option (codes "--rocks") ElementCount 14
 option_row Blobs = number_option (codes "--blobs") ElementCount 11
 option_row From = number_option (codes "--from") RoundCount 0
+option_row Ant = one_option (codes "--ant") AntId
 option_row Labels = flag_option (codes "--labels")
 option_row States = flag_option (codes "--states")
 option_row Games = flag_option (codes "--games")
@@ -156,9 +165,13 @@ is_needed choice = (option_row choice).needed
 abbrev pub default_of : Choice → ℕ
 default_of choice = (option_row choice).default
 
+-- whether all hold where it isn't given
+abbrev pub means_all : Choice → Bool
+means_all choice = (option_row choice).all
+
 -- all options, in the order of the page of `--help`
 abbrev pub options : List Choice
-options = Seed ∷ Rounds ∷ Dump ∷ Workers ∷ Window ∷ Surround ∷ Corpse ∷ Rest ∷ From ∷ Stats ∷ Far ∷ Width ∷ Height ∷ Rocks ∷ Blobs ∷ Games ∷ States ∷ Way ∷ Labels ∷ Lines ∷ []
+options = Seed ∷ Rounds ∷ Dump ∷ Workers ∷ Window ∷ Surround ∷ Corpse ∷ Rest ∷ From ∷ Ant ∷ Stats ∷ Food ∷ Far ∷ Width ∷ Height ∷ Rocks ∷ Blobs ∷ Games ∷ States ∷ Way ∷ Labels ∷ Lines ∷ []
 
 -- what the page says of an option
 abbrev pub about_of : Choice → List ℕ
@@ -171,7 +184,9 @@ about_of Surround = codes "foes around an ant that kill it"
 about_of Corpse = codes "food that a dead ant leaves"
 about_of Rest = codes "turns that an ant rests after a step"
 about_of From = codes "the first round that is told"
+about_of Ant = codes "the one ant that is told of"
 about_of Stats = codes "adds the counts of turns and looks"
+about_of Food = codes "adds who takes and who drops food"
 about_of Far = codes "keeps the workers for the whole game, and sends them their jobs"
 about_of Width = codes "cells of a row"
 about_of Height = codes "rows"

@@ -1,7 +1,7 @@
 // What the page of `--help` says of the table.
 ghost use Rattle.std.specs.Prelude.{◌≡◌, length, slice_index_or, codes};
-ghost use Rattle.command_words.specs.Help.{command_text, default_text, free_text, free_texts, has_free, more_text, needed_text, needed_texts, option_line, place_line, place_lines, range_text, table_text, takes_line, value_text};
-ghost use Rattle.command_words.specs.Table.{default_of, is_needed, kinds, options, values_of};
+ghost use Rattle.command_words.specs.Help.{command_text, default_text, free_text, free_texts, has_free, more_text, needed_text, needed_texts, option_line, place_line, place_lines, range_text, table_text, takes_line, value_text, without_text};
+ghost use Rattle.command_words.specs.Table.{default_of, is_needed, kinds, means_all, options, values_of};
 ghost use Rattle.command_words.specs.declared.slot.Slot.TheVariants.{FileName};
 ghost use Rattle.command_words.specs.declared.slot.Place.TheVariants.{Word};
 ghost use Rattle.command_words.specs.declared.table.CommandKind.TheVariants.{Run};
@@ -292,7 +292,7 @@ fn value_of(values: &[Place]) -> &'static str
 struct Default(Choice);
 
 impl Layout for Default {
-    ghost text = { λ line. default_text (values_of line.0) (is_needed line.0) (default_of line.0) };
+    ghost text = { λ line. default_text (values_of line.0) (is_needed line.0) (means_all line.0) (default_of line.0) };
 
     fn push_to<K: Sink>(&self, sink: &mut K) -> Result<(), Failed> {
         match (self.0.values(), self.0.is_needed()) {
@@ -300,10 +300,32 @@ impl Layout for Default {
                 sink,
             ),
             ([Place::Word(Slot::Number(kind))], false) => {
-                layout!(Range(*kind), "; ", self.0.default()).push_to(sink)
+                let without = Without {
+                    all: self.0.means_all(),
+                    default: self.0.default(),
+                };
+                layout!(Range(*kind), "; ", without).push_to(sink)
             }
             _ => Ok(()),
         }
+    }
+}
+
+// What holds without an option: all, or a number.
+#[derive(Clone, Copy)]
+struct Without {
+    all: bool,
+    default: u32,
+}
+
+impl Layout for Without {
+    ghost text = { λ without. without_text without.all without.default };
+
+    fn push_to<K: Sink>(&self, sink: &mut K) -> Result<(), Failed> {
+        if self.all {
+            return "all".push_to(sink);
+        }
+        self.default.push_to(sink)
     }
 }
 

@@ -1,6 +1,6 @@
 // The commands, their options and their lists of names, a row each.
 ghost use Rattle.std.specs.Prelude.{◌≡◌, [], true, false};
-ghost use Rattle.command_words.specs.Table.{about_of, choices_of, default_of, fewest_names, help_row, is_needed, keyword_of, kinds, list_name, must_differ, option_of, options, places_of, values_of, word_of};
+ghost use Rattle.command_words.specs.Table.{about_of, choices_of, default_of, fewest_names, help_row, is_needed, keyword_of, kinds, list_name, means_all, must_differ, option_of, options, places_of, values_of, word_of};
 
 use crate::{NumberKind, Place, Slot};
 
@@ -41,6 +41,8 @@ pub enum CommandKind {
     Same,
     /// `events WORLD RED BLACK`, and its options: who dies in a game, and how the score goes, turn by turn
     Events,
+    /// `acts WORLD RED BLACK`, and its options: what every ant executes in a game, turn by turn
+    Acts,
     /// `profile WORLD RED BLACK`, and its options: how often each state of both brains is executed in a game
     Profile,
     /// `advance SAVE`, and its options: a saved game after more rounds, saved again
@@ -68,6 +70,8 @@ pub enum Choice {
     Rest,
     /// `--stats`, whether the counts of turns are wanted
     Stats,
+    /// `--food`, whether it is told who takes and who drops food
+    Food,
     /// `--far`, whether workers play that stand for the whole game
     Far,
     /// `--width N`, the cells of a row; without it 150
@@ -80,6 +84,8 @@ pub enum Choice {
     Blobs,
     /// `--from N`, the first round that is told; without it 0
     From,
+    /// `--ant N`, the one ant that is told of; without it all are
+    Ant,
     /// `--labels`, whether the state that each label leads to is wanted in place of the brain
     Labels,
     /// `--states`, whether the new number of each state is wanted in place of the brain
@@ -117,6 +123,7 @@ pub(crate) fn kinds() -> &'static [CommandKind]
         CommandKind::View,
         CommandKind::Trace,
         CommandKind::Events,
+        CommandKind::Acts,
         CommandKind::Profile,
         CommandKind::Cup,
         CommandKind::Workload,
@@ -314,12 +321,29 @@ impl CommandKind {
                 choices: &[
                     Choice::Seed,
                     Choice::Rounds,
+                    Choice::From,
+                    Choice::Surround,
+                    Choice::Corpse,
+                    Choice::Rest,
+                    Choice::Food,
+                ],
+                names: " WORLD RED BLACK",
+                says: "plays a game, and prints who died, and how the score went",
+            },
+            CommandKind::Acts => CommandRow {
+                word: "acts",
+                places: &[FILE, FILE, FILE],
+                choices: &[
+                    Choice::Seed,
+                    Choice::Rounds,
+                    Choice::From,
+                    Choice::Ant,
                     Choice::Surround,
                     Choice::Corpse,
                     Choice::Rest,
                 ],
                 names: " WORLD RED BLACK",
-                says: "plays a game, and prints who died, and how the score went",
+                says: "plays a game, and prints what every ant executed",
             },
             CommandKind::Profile => CommandRow {
                 word: "profile",
@@ -327,6 +351,7 @@ impl CommandKind {
                 choices: &[
                     Choice::Seed,
                     Choice::Rounds,
+                    Choice::From,
                     Choice::Surround,
                     Choice::Corpse,
                     Choice::Rest,
@@ -392,7 +417,9 @@ pub(crate) fn options() -> &'static [Choice]
         Choice::Corpse,
         Choice::Rest,
         Choice::From,
+        Choice::Ant,
         Choice::Stats,
+        Choice::Food,
         Choice::Far,
         Choice::Width,
         Choice::Height,
@@ -406,25 +433,27 @@ pub(crate) fn options() -> &'static [Choice]
     ]
 }
 
-// An option: its word, what stands after that, whether a command that has the option needs it, the number that holds where it isn't given, and
-// what the page of `--help` says of it.
+// An option: its word, what stands after that, whether a command that has the option needs it, the number that holds where it isn't given, or
+// whether all do, and what the page of `--help` says of it.
 #[derive(Clone, Copy)]
 struct OptionRow {
     word: &'static str,
     values: &'static [Place],
     needed: bool,
     default: u32,
+    all: bool,
     about: &'static str,
 }
 
 fn needed(word: &'static str, values: &'static [Place], about: &'static str) -> OptionRow
-    ensures { (result.word.now ≡ word.now) × (result.values.now ≡ values.now) × (result.needed ≡ true) × (result.default ≡ 0) × (result.about.now ≡ about.now) }
+    ensures { (result.word.now ≡ word.now) × (result.values.now ≡ values.now) × (result.needed ≡ true) × (result.default ≡ 0) × (result.all ≡ false) × (result.about.now ≡ about.now) }
 {
     OptionRow {
         word,
         values,
         needed: true,
         default: 0,
+        all: false,
         about,
     }
 }
@@ -435,24 +464,40 @@ fn free(
     default: u32,
     about: &'static str,
 ) -> OptionRow
-    ensures { (result.word.now ≡ word.now) × (result.values.now ≡ values.now) × (result.needed ≡ false) × (result.default ≡ default) × (result.about.now ≡ about.now) }
+    ensures { (result.word.now ≡ word.now) × (result.values.now ≡ values.now) × (result.needed ≡ false) × (result.default ≡ default) × (result.all ≡ false) × (result.about.now ≡ about.now) }
 {
     OptionRow {
         word,
         values,
         needed: false,
         default,
+        all: false,
+        about,
+    }
+}
+
+fn one_of_all(word: &'static str, values: &'static [Place], about: &'static str) -> OptionRow
+    ensures { (result.word.now ≡ word.now) × (result.values.now ≡ values.now) × (result.needed ≡ false) × (result.default ≡ 0) × (result.all ≡ true) × (result.about.now ≡ about.now) }
+{
+    OptionRow {
+        word,
+        values,
+        needed: false,
+        default: 0,
+        all: true,
         about,
     }
 }
 
 fn flag(word: &'static str, about: &'static str) -> OptionRow
-    ensures { (result.word.now ≡ word.now) × (result.values.now ≡ []) × (result.needed ≡ false) × (result.default ≡ 0) × (result.about.now ≡ about.now) }
+    ensures { (result.word.now ≡ word.now) × (result.values.now ≡ []) × (result.needed ≡ false) × (result.default ≡ 0) × (result.all ≡ false) × (result.about.now ≡ about.now) }
 {
     free(word, &[], 0, about)
 }
 
 const ROUNDS: Place = Place::Word(Slot::Number(NumberKind::RoundCount));
+
+const ANT: Place = Place::Word(Slot::Number(NumberKind::AntId));
 
 const SIDE: Place = Place::Word(Slot::Number(NumberKind::SideLength));
 
@@ -474,6 +519,7 @@ impl Choice {
         ensures values { result.values.now ≡ values_of self }
         ensures needed { result.needed ≡ is_needed self }
         ensures default { result.default ≡ default_of self }
+        ensures all { result.all ≡ means_all self }
         ensures about { result.about.now ≡ about_of self }
     {
         match self {
@@ -501,6 +547,7 @@ impl Choice {
                 "turns that an ant rests after a step",
             ),
             Choice::Stats => flag("--stats", "adds the counts of turns and looks"),
+            Choice::Food => flag("--food", "adds who takes and who drops food"),
             Choice::Far => flag(
                 "--far",
                 "keeps the workers for the whole game, and sends them their jobs",
@@ -510,6 +557,7 @@ impl Choice {
             Choice::Rocks => free("--rocks", &[ELEMENTS], 14, "rocks that are placed"),
             Choice::Blobs => free("--blobs", &[ELEMENTS], 11, "heaps of food that are placed"),
             Choice::From => free("--from", &[ROUNDS], 0, "the first round that is told"),
+            Choice::Ant => one_of_all("--ant", &[ANT], "the one ant that is told of"),
             Choice::Labels => flag(
                 "--labels",
                 "prints which state each label leads to, not the brain",
@@ -538,6 +586,13 @@ impl Choice {
         ensures { result ≡ default_of self }
     {
         self.row().default
+    }
+
+    // Whether all hold where it isn't given.
+    pub(crate) fn means_all(self) -> bool
+        ensures { result ≡ means_all self }
+    {
+        self.row().all
     }
 
     // What the page of `--help` says of it.
