@@ -9,7 +9,7 @@ use Rattle.command_words.specs.declared.slot.Slot.TheVariants.{FileName, Number,
 use Rattle.command_words.specs.declared.slot.Place.{Place}
 use Rattle.command_words.specs.declared.slot.Place.TheVariants.{Word, Names}
 use Rattle.command_words.specs.declared.table.Choice.{Choice}
-use Rattle.command_words.specs.declared.table.Choice.TheVariants.{Ant, Blobs, Dump, Far, Food, From, Games, Height, Lines, Rest, Rocks, Rounds, Seed, States, Stats, Surround, Way, Width, Window, Workers}
+use Rattle.command_words.specs.declared.table.Choice.TheVariants.{Ant, Blobs, Dump, Far, Food, From, Games, Gauntlet, Height, Leads, Lines, Rest, Rocks, Rounds, Seed, Seeds, States, Stats, Surround, Way, Width, Window, Workers}
 use Rattle.command_words.specs.declared.table.CommandKind.{CommandKind}
 use Rattle.command_words.specs.declared.table.CommandKind.TheVariants.{Acts, Advance, Asm, Brain, Cup, Events, Gen, Help, Minimise, Profile, Resume, Run, Same, Save, Show, Trace, View}
 use Rattle.command_words.specs.Help.{command_text, free_texts, has_free, more_text, needed_texts, option_line, place_lines, takes_line}
@@ -74,7 +74,7 @@ unfolding command_text needed_texts more_text place_lines has_free takes_line fr
 advance_help = refl
 
 pub cup_help : command_text Cup ≡ codes
-    "  cup --worlds WORLD.. --brains BRAIN.. --seed N --rounds N [OPTION]..\n      plays all games between brains on worlds, and prints their standing\n      WORLD.., 1 to 16 names\n      BRAIN.., 2 to 16 names\n      takes --workers --games\n"
+    "  cup --worlds WORLD.. --brains BRAIN.. --seed N --rounds N [OPTION]..\n      plays all games between brains on worlds, and prints their standing\n      WORLD.., 1 to 16 names\n      BRAIN.., 2 to 16 names\n      takes --seeds --workers --games --leads --gauntlet\n"
 unfolding command_text needed_texts more_text place_lines has_free takes_line free_texts numbered digits
 cup_help = refl
 
@@ -85,6 +85,13 @@ help_help = refl
 pub seed_help : option_line Seed ≡ codes "  --seed N      where the random numbers begin, 0 to 4294967295; needed\n"
 unfolding option_line numbered digits
 seed_help = refl
+
+pub cup_options_help :
+    (option_line Seeds ≡ codes "  --seeds N     how many seeds each game is played with, 1 to 1000; 1\n")
+    × (option_line Leads ≡ codes "  --leads       adds the food by which a brain leads, over all its games\n")
+    × (option_line Gauntlet ≡ codes "  --gauntlet    plays only the games of the first brain\n")
+unfolding option_line numbered digits
+cup_options_help = (refl, refl, refl)
 
 pub from_help : option_line From ≡ codes "  --from N      the first round that is told, 0 to 1000000; 0\n"
 unfolding option_line numbered digits

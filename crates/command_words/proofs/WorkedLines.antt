@@ -5,7 +5,7 @@ use Rattle.ant_base.specs.Number.{decimal_value}
 use Rattle.command_words.specs.declared.table.CommandKind.{CommandKind}
 use Rattle.command_words.specs.declared.table.CommandKind.TheVariants.{Acts, Show, Brain, Minimise, Run, Gen, Cup, View, Workload, Help, HelpWord, Version, Asm, Save, Resume, Trace, Same, Events, Profile, Advance}
 use Rattle.command_words.specs.declared.table.Choice.{Choice}
-use Rattle.command_words.specs.declared.table.Choice.TheVariants.{Seed, Rounds, Workers, Window, Surround, Corpse, Rest, Stats, Far, Width, Height, Rocks, Blobs, From, Ant, Food, Labels, States, Games, Lines, Way}
+use Rattle.command_words.specs.declared.table.Choice.TheVariants.{Seed, Seeds, Rounds, Workers, Window, Surround, Corpse, Rest, Stats, Far, Width, Height, Rocks, Blobs, From, Ant, Food, Labels, States, Games, Leads, Gauntlet, Lines, Way}
 use Rattle.command_words.specs.declared.table.NameList.{NameList}
 use Rattle.command_words.specs.declared.table.NameList.TheVariants.{Worlds, Brains}
 use Rattle.command_words.specs.Slots.{is_file_name, is_dumps, dumps_of, DumpChoice}
@@ -175,6 +175,49 @@ pub cup_games : Says Cup (codes "cup --worlds w --brains a b --seed 1 --games --
     (NamesAre Worlds ((codes "w") ∷ []) ∷ NamesAre Brains ((codes "a") ∷ (codes "b") ∷ []) ∷ OptionIs Seed 1 ∷ OptionIs Rounds 2 ∷ OptionIs Workers 1 ∷ IsGivenAs Games true ∷ [])
 unfolding command_kind_of choice_of is_among rest_after is_file_name is_dumps dumps_of decimal_value
 cup_games = says _ _ _ refl (refl, (refl, (refl, (refl, (refl, (refl, tt))))))
+
+-- without them there is one seed, no lead and no gauntlet; the option `--seeds` isn't given
+pub cup_without_its_options : Says Cup (codes "cup --worlds w --brains a b --seed 1 --rounds 2")
+    (OptionIs Seeds 1 ∷ IsGivenAs Seeds false ∷ IsGivenAs Leads false ∷ IsGivenAs Gauntlet false ∷ [])
+unfolding command_kind_of choice_of is_among rest_after is_file_name is_dumps dumps_of decimal_value
+cup_without_its_options = says _ _ _ refl (refl, (refl, (refl, (refl, tt))))
+
+-- all options of a cup, the greatest number of seeds among them
+pub cup_all_options : Says Cup (codes "cup --worlds w --brains a b --gauntlet --seeds 1000 --leads --seed 007 --games --rounds 2 --workers 16")
+    (OptionIs Seed 7 ∷ OptionIs Seeds 1000 ∷ IsGivenAs Seeds true ∷ OptionIs Rounds 2 ∷ OptionIs Workers 16 ∷ IsGivenAs Games true ∷ IsGivenAs Leads true ∷ IsGivenAs Gauntlet true ∷ [])
+unfolding command_kind_of choice_of is_among rest_after is_file_name is_dumps dumps_of decimal_value
+cup_all_options = says _ _ _ refl (refl, (refl, (refl, (refl, (refl, (refl, (refl, (refl, tt))))))))
+
+-- the least number of seeds is given
+pub cup_one_seed : Says Cup (codes "cup --worlds w --brains a b --seed 1 --seeds 1 --rounds 2") (OptionIs Seeds 1 ∷ IsGivenAs Seeds true ∷ [])
+unfolding command_kind_of choice_of is_among rest_after is_file_name is_dumps dumps_of decimal_value
+cup_one_seed = says _ _ _ refl (refl, (refl, tt))
+
+-- no seed, 1001 seeds, a number of 11 digits, and no number
+pub cup_no_seeds : IsRefusedAt (words_of (codes "cup --worlds w --brains a b --seeds 0")) 8
+unfolding command_kind_of choice_of is_among rest_after is_file_name is_dumps dumps_of decimal_value
+cup_no_seeds = read-refuses (words_of (codes "cup --worlds w --brains a b --seeds 0")) 8 refl
+
+pub cup_too_many_seeds : IsRefusedAt (words_of (codes "cup --worlds w --brains a b --seeds 1001")) 8
+unfolding command_kind_of choice_of is_among rest_after is_file_name is_dumps dumps_of decimal_value
+cup_too_many_seeds = read-refuses (words_of (codes "cup --worlds w --brains a b --seeds 1001")) 8 refl
+
+pub cup_eleven_digits : IsRefusedAt (words_of (codes "cup --worlds w --brains a b --seeds 00000000001")) 8
+unfolding command_kind_of choice_of is_among rest_after is_file_name is_dumps dumps_of decimal_value
+cup_eleven_digits = read-refuses (words_of (codes "cup --worlds w --brains a b --seeds 00000000001")) 8 refl
+
+pub cup_seeds_without_number : IsRefusedAt (words_of (codes "cup --worlds w --brains a b --seeds --seed 1")) 8
+unfolding command_kind_of choice_of is_among rest_after is_file_name is_dumps dumps_of decimal_value
+cup_seeds_without_number = read-refuses (words_of (codes "cup --worlds w --brains a b --seeds --seed 1")) 8 refl
+
+-- `--seeds` doesn't stand in for `--seed`, and is given once
+pub cup_seeds_no_seed : IsRefusedAt (words_of (codes "cup --worlds w --brains a b --seeds 2 --rounds 1")) 11
+unfolding command_kind_of choice_of is_among rest_after is_file_name is_dumps dumps_of decimal_value
+cup_seeds_no_seed = read-refuses (words_of (codes "cup --worlds w --brains a b --seeds 2 --rounds 1")) 11 refl
+
+pub cup_seeds_twice : IsRefusedAt (words_of (codes "cup --worlds w --brains a b --seeds 2 --seeds 2")) 9
+unfolding command_kind_of choice_of is_among rest_after is_file_name is_dumps dumps_of decimal_value
+cup_seeds_twice = read-refuses (words_of (codes "cup --worlds w --brains a b --seeds 2 --seeds 2")) 9 refl
 
 -- `--games` is no file name, and one brain is too few
 pub cup_games_among_the_names : IsRefusedAt (words_of (codes "cup --worlds w --brains a --games")) 6

@@ -52,7 +52,7 @@ own_options = (codes "--labels") ∷ (codes "--lines") ∷ (codes "--states") �
 abbrev told_options : List (List ℕ)
 told_options = (codes "--from") ∷ (codes "--ant") ∷ (codes "--food") ∷ []
 
--- all options
+-- all options but the three of `cup` that follow below
 abbrev all_options : List (List ℕ)
 all_options = shared_options ++ own_options ++ told_options
 
@@ -119,7 +119,7 @@ unfolding command_kind_of choice_of is_among rest_after is_file_name is_dumps du
 gen_takes_no_game = refused_after (codes "gen 1") 3 (game_options ++ common_options)
     (refl, (refl, (refl, (refl, (refl, (refl, (refl, (refl, (refl, (refl, tt))))))))))
 
--- `cup` takes a seed, rounds, workers and `--games` alone
+-- `cup` takes no option of a game but its seed, rounds and workers, and none of a world
 pub cup_takes_few : AreRefusedAfter (codes "cup --worlds w --brains a b") 7 ((codes "--labels") ∷ (codes "--states") ∷ (game_options ++ shape_options))
 unfolding command_kind_of choice_of is_among rest_after is_file_name is_dumps dumps_of decimal_value
 cup_takes_few = refused_after (codes "cup --worlds w --brains a b") 7 ((codes "--labels") ∷ (codes "--states") ∷ (game_options ++ shape_options))
@@ -164,6 +164,45 @@ pub run_takes_no_own : AreRefusedAfter (codes "run w r b") 5 (own_options ++ tol
 unfolding command_kind_of choice_of is_among rest_after is_file_name is_dumps dumps_of decimal_value
 run_takes_no_own = refused_after (codes "run w r b") 5 (own_options ++ told_options)
     (refl, (refl, (refl, (refl, (refl, (refl, (refl, (refl, tt))))))))
+
+-- no other command takes the options that `cup` alone has
+abbrev cup_options : List (List ℕ)
+cup_options = (codes "--seeds") ∷ (codes "--leads") ∷ (codes "--gauntlet") ∷ []
+
+pub others_take_none_of_cup :
+    AreRefusedAfter (codes "show w 1") 4 cup_options
+    × AreRefusedAfter (codes "brain b") 3 cup_options
+    × AreRefusedAfter (codes "minimise b") 3 cup_options
+    × AreRefusedAfter (codes "run w r b") 5 cup_options
+    × AreRefusedAfter (codes "save w r b") 5 cup_options
+    × AreRefusedAfter (codes "resume k") 3 cup_options
+    × AreRefusedAfter (codes "advance k") 3 cup_options
+    × AreRefusedAfter (codes "view w r b k") 6 cup_options
+    × AreRefusedAfter (codes "trace w r b 1") 6 cup_options
+    × AreRefusedAfter (codes "events w r b") 5 cup_options
+    × AreRefusedAfter (codes "profile w r b") 5 cup_options
+    × AreRefusedAfter (codes "same a b") 4 cup_options
+    × AreRefusedAfter (codes "asm p") 3 cup_options
+    × AreRefusedAfter (codes "gen 1") 3 cup_options
+    × AreRefusedAfter (codes "workload 1 2 3") 5 cup_options
+unfolding command_kind_of choice_of is_among rest_after is_file_name is_dumps dumps_of decimal_value
+others_take_none_of_cup = (
+  refused_after (codes "show w 1") 4 cup_options (refl, (refl, (refl, tt))),
+  refused_after (codes "brain b") 3 cup_options (refl, (refl, (refl, tt))),
+  refused_after (codes "minimise b") 3 cup_options (refl, (refl, (refl, tt))),
+  refused_after (codes "run w r b") 5 cup_options (refl, (refl, (refl, tt))),
+  refused_after (codes "save w r b") 5 cup_options (refl, (refl, (refl, tt))),
+  refused_after (codes "resume k") 3 cup_options (refl, (refl, (refl, tt))),
+  refused_after (codes "advance k") 3 cup_options (refl, (refl, (refl, tt))),
+  refused_after (codes "view w r b k") 6 cup_options (refl, (refl, (refl, tt))),
+  refused_after (codes "trace w r b 1") 6 cup_options (refl, (refl, (refl, tt))),
+  refused_after (codes "events w r b") 5 cup_options (refl, (refl, (refl, tt))),
+  refused_after (codes "profile w r b") 5 cup_options (refl, (refl, (refl, tt))),
+  refused_after (codes "same a b") 4 cup_options (refl, (refl, (refl, tt))),
+  refused_after (codes "asm p") 3 cup_options (refl, (refl, (refl, tt))),
+  refused_after (codes "gen 1") 3 cup_options (refl, (refl, (refl, tt))),
+  refused_after (codes "workload 1 2 3") 5 cup_options (refl, (refl, (refl, tt))),
+)
 
 -- the greatest seed of a game
 pub run_greatest_seed : Says Run (codes "run w r b --seed 4294967295 --rounds 1000000")

@@ -2,7 +2,7 @@
 use Rattle.std.specs.Prelude.{ℕ, ◌≤◌, List, Option, codes}
 use Rattle.ant_base.specs.Number.{number_within}
 use Rattle.command_words.specs.declared.limits.NumberKind.{NumberKind}
-use Rattle.command_words.specs.declared.limits.NumberKind.TheVariants.{SeedNumber, RoundCount, WorkerCount, WindowSize, FoeCount, CorpseFood, RestRounds, SideLength, ElementCount, AntId}
+use Rattle.command_words.specs.declared.limits.NumberKind.TheVariants.{SeedNumber, RoundCount, WorkerCount, WindowSize, FoeCount, CorpseFood, RestRounds, SideLength, ElementCount, AntId, SeedCount}
 
 -- the least number of a kind
 abbrev pub least_of : NumberKind → ℕ
@@ -16,6 +16,7 @@ least_of RestRounds = 0
 least_of SideLength = 3
 least_of ElementCount = 0
 least_of AntId = 0
+least_of SeedCount = 1
 
 -- the greatest number of a kind
 abbrev pub most_of : NumberKind → ℕ
@@ -29,6 +30,7 @@ most_of RestRounds = 255
 most_of SideLength = 512
 most_of ElementCount = 255
 most_of AntId = 16383
+most_of SeedCount = 1000
 
 -- the number of a kind that a word says: 1 to 10 decimal digits, within the kind's limits
 abbrev pub number_in : NumberKind → List ℕ → Option ℕ

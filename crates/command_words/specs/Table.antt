@@ -3,7 +3,7 @@ use Rattle.std.specs.Prelude.{◌≡◌, ℕ, Bool, true, false, ◌&&◌, ◌||
 use Rattle.std.specs.List.{list_any}
 use Rattle.std.specs.Str.{bytes_eq}
 use Rattle.command_words.specs.declared.limits.NumberKind.{NumberKind}
-use Rattle.command_words.specs.declared.limits.NumberKind.TheVariants.{SeedNumber, RoundCount, WorkerCount, WindowSize, FoeCount, CorpseFood, RestRounds, SideLength, ElementCount, AntId}
+use Rattle.command_words.specs.declared.limits.NumberKind.TheVariants.{SeedNumber, RoundCount, WorkerCount, WindowSize, FoeCount, CorpseFood, RestRounds, SideLength, ElementCount, AntId, SeedCount}
 use Rattle.command_words.specs.declared.table.NameList.{NameList}
 use Rattle.command_words.specs.declared.table.NameList.TheVariants.{Worlds, Brains}
 use Rattle.command_words.specs.declared.slot.Slot.TheVariants.{FileName, Number, Dumps, Keyword}
@@ -12,7 +12,7 @@ use Rattle.command_words.specs.declared.slot.Place.TheVariants.{Word, Names}
 use Rattle.command_words.specs.declared.table.CommandKind.{CommandKind}
 use Rattle.command_words.specs.declared.table.CommandKind.TheVariants.{Show, Brain, Minimise, Run, Gen, Cup, View, Workload, Help, HelpWord, Version, Asm, Save, Resume, Trace, Same, Events, Acts, Profile, Advance}
 use Rattle.command_words.specs.declared.table.Choice.{Choice}
-use Rattle.command_words.specs.declared.table.Choice.TheVariants.{Seed, Rounds, Dump, Workers, Window, Surround, Corpse, Rest, Stats, Far, Width, Height, Rocks, Blobs, From, Ant, Food, Labels, States, Games, Lines, Way}
+use Rattle.command_words.specs.declared.table.Choice.TheVariants.{Seed, Seeds, Rounds, Dump, Workers, Window, Surround, Corpse, Rest, Stats, Far, Width, Height, Rocks, Blobs, From, Ant, Food, Labels, States, Games, Leads, Gauntlet, Lines, Way}
 
 -- a command: its first word, what stands after that, and its options, which follow in any order
 pub record CommandRow : Type 0 where
@@ -49,7 +49,7 @@ row_of Brain = command_row (codes "brain") one_file []
 row_of Minimise = command_row (codes "minimise") one_file (States ∷ [])
 row_of Run = command_row (codes "run") game_places (Seed ∷ Rounds ∷ Dump ∷ Workers ∷ Window ∷ Surround ∷ Corpse ∷ Rest ∷ Stats ∷ Far ∷ [])
 row_of Gen = command_row (codes "gen") (number_place SeedNumber ∷ []) (Width ∷ Height ∷ Rocks ∷ Blobs ∷ [])
-row_of Cup = command_row (codes "cup") cup_places (Seed ∷ Rounds ∷ Workers ∷ Games ∷ [])
+row_of Cup = command_row (codes "cup") cup_places (Seed ∷ Seeds ∷ Rounds ∷ Workers ∷ Games ∷ Leads ∷ Gauntlet ∷ [])
 row_of View = command_row (codes "view") (Word FileName ∷ game_places) (Seed ∷ Rounds ∷ [])
 row_of Workload = command_row (codes "workload") (number_place SeedNumber ∷ number_place RoundCount ∷ number_place WorkerCount ∷ []) []
 row_of Help = command_row (codes "--help") [] []
@@ -130,6 +130,7 @@ flag_option word = record { word = word; values = []; needed = false; default = 
 
 abbrev pub option_row : Choice → OptionRow
 option_row Seed = needed_option (codes "--seed") SeedNumber
+option_row Seeds = number_option (codes "--seeds") SeedCount 1
 option_row Rounds = needed_option (codes "--rounds") RoundCount
 option_row Dump = dump_option (codes "--dump")
 option_row Workers = number_option (codes "--workers") WorkerCount 1
@@ -149,6 +150,8 @@ option_row Ant = one_option (codes "--ant") AntId
 option_row Labels = flag_option (codes "--labels")
 option_row States = flag_option (codes "--states")
 option_row Games = flag_option (codes "--games")
+option_row Leads = flag_option (codes "--leads")
+option_row Gauntlet = flag_option (codes "--gauntlet")
 option_row Lines = flag_option (codes "--lines")
 option_row Way = flag_option (codes "--way")
 
@@ -171,11 +174,12 @@ means_all choice = (option_row choice).all
 
 -- all options, in the order of the page of `--help`
 abbrev pub options : List Choice
-options = Seed ∷ Rounds ∷ Dump ∷ Workers ∷ Window ∷ Surround ∷ Corpse ∷ Rest ∷ From ∷ Ant ∷ Stats ∷ Food ∷ Far ∷ Width ∷ Height ∷ Rocks ∷ Blobs ∷ Games ∷ States ∷ Way ∷ Labels ∷ Lines ∷ []
+options = Seed ∷ Seeds ∷ Rounds ∷ Dump ∷ Workers ∷ Window ∷ Surround ∷ Corpse ∷ Rest ∷ From ∷ Ant ∷ Stats ∷ Food ∷ Far ∷ Width ∷ Height ∷ Rocks ∷ Blobs ∷ Games ∷ Leads ∷ Gauntlet ∷ States ∷ Way ∷ Labels ∷ Lines ∷ []
 
 -- what the page says of an option
 abbrev pub about_of : Choice → List ℕ
 about_of Seed = codes "where the random numbers begin"
+about_of Seeds = codes "how many seeds each game is played with"
 about_of Rounds = codes "how many rounds are played"
 about_of Dump = codes "dumps after rounds: none, all, or as 0,10,100; none"
 about_of Workers = codes "threads"
@@ -193,6 +197,8 @@ about_of Height = codes "rows"
 about_of Rocks = codes "rocks that are placed"
 about_of Blobs = codes "heaps of food that are placed"
 about_of Games = codes "prints the line of each game before the standing"
+about_of Leads = codes "adds the food by which a brain leads, over all its games"
+about_of Gauntlet = codes "plays only the games of the first brain"
 about_of States = codes "prints the new number of each state, not the brain"
 about_of Labels = codes "prints which state each label leads to, not the brain"
 about_of Lines = codes "prints which line each state comes from, not the brain"

@@ -27,6 +27,8 @@ pub enum NumberKind {
     ElementCount,
     /// an ant's id, from 0 to 16,383
     AntId,
+    /// seeds that follow one another, from 1 to 1000
+    SeedCount,
 }
 
 impl NumberKind {
@@ -44,6 +46,7 @@ impl NumberKind {
             NumberKind::SideLength => 3,
             NumberKind::ElementCount => 0,
             NumberKind::AntId => 0,
+            NumberKind::SeedCount => 1,
         }
     }
 
@@ -62,6 +65,7 @@ impl NumberKind {
             NumberKind::SideLength => 512,
             NumberKind::ElementCount => 255,
             NumberKind::AntId => 16_383,
+            NumberKind::SeedCount => 1000,
         }
     }
 

@@ -54,6 +54,8 @@ pub enum CommandKind {
 pub enum Choice {
     /// `--seed N`, needed
     Seed,
+    /// `--seeds N`, how many seeds follow one another from that of `--seed`; without it 1
+    Seeds,
     /// `--rounds N`, needed
     Rounds,
     /// `--dump D`, the rounds that are dumped; without it none
@@ -92,6 +94,10 @@ pub enum Choice {
     States,
     /// `--games`, whether the line of each game is wanted before the standing
     Games,
+    /// `--leads`, whether each line of the standing ends in the brain's lead
+    Leads,
+    /// `--gauntlet`, whether only the games of the first brain are played
+    Gauntlet,
     /// `--lines`, whether the line that each state comes from is wanted in place of the brain
     Lines,
     /// `--way`, whether each answer on the way to the difference is wanted
@@ -217,7 +223,15 @@ impl CommandKind {
                     Place::Word(Slot::Keyword(NameList::Brains)),
                     Place::Names(NameList::Brains),
                 ],
-                choices: &[Choice::Seed, Choice::Rounds, Choice::Workers, Choice::Games],
+                choices: &[
+                    Choice::Seed,
+                    Choice::Seeds,
+                    Choice::Rounds,
+                    Choice::Workers,
+                    Choice::Games,
+                    Choice::Leads,
+                    Choice::Gauntlet,
+                ],
                 names: " --worlds WORLD.. --brains BRAIN..",
                 says: "plays all games between brains on worlds, and prints their standing",
             },
@@ -409,6 +423,7 @@ pub(crate) fn options() -> &'static [Choice]
 {
     &[
         Choice::Seed,
+        Choice::Seeds,
         Choice::Rounds,
         Choice::Dump,
         Choice::Workers,
@@ -426,6 +441,8 @@ pub(crate) fn options() -> &'static [Choice]
         Choice::Rocks,
         Choice::Blobs,
         Choice::Games,
+        Choice::Leads,
+        Choice::Gauntlet,
         Choice::States,
         Choice::Way,
         Choice::Labels,
@@ -495,6 +512,8 @@ fn flag(word: &'static str, about: &'static str) -> OptionRow
     free(word, &[], 0, about)
 }
 
+const SEEDS: Place = Place::Word(Slot::Number(NumberKind::SeedCount));
+
 const ROUNDS: Place = Place::Word(Slot::Number(NumberKind::RoundCount));
 
 const ANT: Place = Place::Word(Slot::Number(NumberKind::AntId));
@@ -524,6 +543,12 @@ impl Choice {
     {
         match self {
             Choice::Seed => needed("--seed", &[SEED], "where the random numbers begin"),
+            Choice::Seeds => free(
+                "--seeds",
+                &[SEEDS],
+                1,
+                "how many seeds each game is played with",
+            ),
             Choice::Rounds => needed("--rounds", &[ROUNDS], "how many rounds are played"),
             Choice::Dump => free(
                 "--dump",
@@ -570,6 +595,11 @@ impl Choice {
                 "--games",
                 "prints the line of each game before the standing",
             ),
+            Choice::Leads => flag(
+                "--leads",
+                "adds the food by which a brain leads, over all its games",
+            ),
+            Choice::Gauntlet => flag("--gauntlet", "plays only the games of the first brain"),
             Choice::Lines => flag(
                 "--lines",
                 "prints which line each state comes from, not the brain",

@@ -27,15 +27,15 @@ unfolding line_of
 sum_by-lost players games = sum_by-lines (λ line. line.lost) (line_of games) players
 
 pub points_law : PointsAddUp
-points_law players worlds score lines at =
-    sum_by-IsPermutation (λ line. line.points) _ lines at.each ∙ sum_by-points players (all_played players worlds score)
-    ∙ points_games players worlds score (games_of players worlds) (All-games_of players worlds)
+points_law gauntlet players worlds score lines at =
+    sum_by-IsPermutation (λ line. line.points) _ lines at.each ∙ sum_by-points players (all_played gauntlet players worlds score)
+    ∙ points_games players worlds score (games_of gauntlet players worlds) (All-games_of gauntlet players worlds)
 
 pub wins_law : WinsAreLosses
-wins_law players worlds score lines at =
-    sum_by-IsPermutation (λ line. line.won) _ lines at.each ∙ sum_by-won players (all_played players worlds score)
-    ∙ wins_losses players worlds score (games_of players worlds) (All-games_of players worlds)
-    ∙ sym (sum_by-IsPermutation (λ line. line.lost) _ lines at.each ∙ sum_by-lost players (all_played players worlds score))
+wins_law gauntlet players worlds score lines at =
+    sum_by-IsPermutation (λ line. line.won) _ lines at.each ∙ sum_by-won players (all_played gauntlet players worlds score)
+    ∙ wins_losses players worlds score (games_of gauntlet players worlds) (All-games_of gauntlet players worlds)
+    ∙ sym (sum_by-IsPermutation (λ line. line.lost) _ lines at.each ∙ sum_by-lost players (all_played gauntlet players worlds score))
 
 StandsAbove-refl : (x : Line) → StandsAbove x x
 StandsAbove-refl x = record { points = omega arith; ties = λ e. omega arith }
@@ -135,8 +135,8 @@ module _ (games : List Played) where
       ap (λ l. l ∷ xs) first ∙ ap (λ ls. y ∷ ls) rest
 
 pub standing_law : OneStanding
-standing_law players worlds score lines others at other =
-    let games = all_played players worlds score in
+standing_law gauntlet players worlds score lines others at other =
+    let games = all_played gauntlet players worlds score in
     let own = All-map (IsOwn games) (line_of games) (below players) (λ k d lt. own_line games _) in
     unique games lines others (λ f. sum_by-IsPermutation f _ lines at.each ∙ sym (sum_by-IsPermutation f _ others other.each))
     (All-permutation (IsOwn games) _ lines at.each own) (All-permutation (IsOwn games) _ others other.each own) (falls_from lines at.order) (falls_from others other.order)

@@ -6,6 +6,7 @@ pub mod TotalLemmas
 pub mod LawsLemmas
 pub mod SortedLines
 pub mod StandingLemmas
+pub mod TallyLemmas
 -- Games that are printed.
 pub mod PrintedLemmas
 -- Names.

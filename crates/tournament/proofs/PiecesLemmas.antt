@@ -1,18 +1,18 @@
 -- Pieces of a list of games: where they begin, and what they are together.
 use Rattle.ant_base.specs.declared.memory.OutOfMemory.{OutOfMemory}
-use Rattle.std.proofs.Common.{Result, Ok, Err, Vec, IfOk, OnOk, ◌≡◌, ◌≢◌, ℕ, suc, ◌+◌, ◌-◌, ◌<◌, ◌≤◌, true, false, List, [], ◌∷◌, ◌++◌, ◌==◌, length, get_or, take, drop, map, All, append-nil, refl, sym, ◌∙◌, ap, arith}
+use Rattle.std.proofs.Common.{Result, Ok, Err, Vec, IfOk, OnOk, ◌≡◌, ◌≢◌, ℕ, suc, ◌+◌, ◌-◌, ◌<◌, ◌≤◌, Bool, true, false, List, [], ◌∷◌, ◌++◌, ◌==◌, length, get_or, take, drop, map, All, append-nil, refl, sym, ◌∙◌, ap, arith}
 use Rattle.std.proofs.lemmas.Bool.{OnFalse_at}
 use Rattle.std.proofs.Math.Dec.{eqb-suc-zero}
 use Rattle.std.proofs.Math.Seq.{take-add}
 use Rattle.std.proofs.lemmas.List.{append_assoc, map-append, take_more, take_at, drop_at, flat_map_more}
-use Rattle.std.proofs.lemmas.List.Elements.{All-take, All-drop, All-same, All-nil, All-cons, All-weaker}
+use Rattle.std.proofs.lemmas.List.Elements.{All-take, All-drop, All-same, All-nil, All-cons}
 use Rattle.cell_world.specs.declared.score.Score.{Score}
 use Rattle.tournament.specs.declared.games.Pairing.{Pairing}
 use Rattle.tournament.specs.declared.games.Played.{Played}
 use Rattle.tournament.specs.declared.pieces.Piece.{Piece}
-use Rattle.tournament.specs.Games.{IsGame, games_of, games_on, played_by}
+use Rattle.tournament.specs.Games.{games_between, played_by}
 use Rattle.tournament.specs.Plays.{AreKnown, CanBePlayedBy}
-use Rattle.tournament.proofs.GamesLemmas.{All-games_of, known_on, length-games_of, length-games_on}
+use Rattle.tournament.proofs.GamesLemmas.{known_between, length-games_between}
 use Rattle.tournament.specs.Inner.Pieces.{IsPieceReady, IsPieceDone, dealt_games, played_games}
 
 -- one piece more
@@ -60,12 +60,6 @@ ready_by knows (piece ∷ pieces) known fresh =
     let rest = All-right (λ game. knows game.world game.red game.black) piece.games.items (dealt_games pieces) known in
     All-cons (IsPieceReady knows) piece pieces (record { fresh = fresh 0 piece (omega arith); known = here }) (ready_by knows pieces rest (λ k d lt. fresh (suc k) d (omega arith)))
 
--- a referee that knows each pair of players on each world knows the games of a cup
-pub games_known : (knows : ℕ → ℕ → ℕ → Type 0) (players worlds : ℕ) (games : List Pairing)
-    → ((world red black : ℕ) → world < worlds → red < players → black < players → red ≢ black → knows world red black) → All (IsGame players worlds) games → AreKnown knows games
-games_known knows players worlds games known all =
-    All-weaker (IsGame players worlds) (λ game. knows game.world game.red game.black) (λ game at. known game.world game.red game.black at.world at.red at.black at.apart) games all
-
 -- what all pieces played together, where no game was refused
 pub done : (score : ℕ → ℕ → ℕ → Score) (old new : List Piece) → length new ≡ length old
     → ((i : ℕ) (d : Piece) → i < length old → IsPieceDone score (get_or old i d) (get_or new i d))
@@ -85,16 +79,15 @@ pub gathered_done : {A : Type 0} (result : Result (Vec Played A) OutOfMemory) (s
 gathered_done (Ok played) score old new len each is whole = is ∙ done score old new len each whole
 gathered_done (Err e) score old new len each is whole = tt
 
--- the games of a cup can be played
-pub can_play_all : (knows : ℕ → ℕ → ℕ → Type 0) (players worlds workers : ℕ) (games : List Pairing) → players ≤ 16 → worlds ≤ 16 → 1 ≤ workers → workers ≤ 16 → games ≡ games_of players worlds
-    → ((world red black : ℕ) → world < worlds → red < players → black < players → red ≢ black → knows world red black) → CanBePlayedBy workers knows games
-can_play_all knows players worlds workers games few_players few_worlds worker few_workers is known =
-    let short = length-games_of players worlds few_players few_worlds in let long = ap length is in
-    record { few = omega arith; worker = worker; few_workers = few_workers; known = games_known knows players worlds games known (All-same (IsGame players worlds) games (games_of players worlds) is (All-games_of players worlds)) }
-
--- so can those on a world
-pub can_play_on : (knows : ℕ → ℕ → ℕ → Type 0) (players world workers : ℕ) (games : List Pairing) → players ≤ 16 → 1 ≤ workers → workers ≤ 16 → games ≡ games_on players world
-    → ((red black : ℕ) → red < players → black < players → red ≢ black → knows world red black) → CanBePlayedBy workers knows games
-can_play_on knows players world workers games few_players worker few_workers is known =
-    let short = length-games_on players world few_players in let long = ap length is in
-    record { few = omega arith; worker = worker; few_workers = few_workers; known = All-same (λ game. knows game.world game.red game.black) games (games_on players world) is (known_on knows players world known) }
+-- the games of a cup on some worlds can be played
+pub can_play_between : (knows : ℕ → ℕ → ℕ → Type 0) (gauntlet : Bool) (players first count workers : ℕ) (games : List Pairing) → players ≤ 16 → count ≤ 1024 → 1 ≤ workers → workers ≤ 16
+    → games ≡ games_between gauntlet players first count
+    → ((world red black : ℕ) → first ≤ world → world < first + count → red < players → black < players → red ≢ black → knows world red black) → CanBePlayedBy workers knows games
+can_play_between knows gauntlet players first count workers games few_players few_worlds worker few_workers is known =
+    let short = length-games_between gauntlet players first count few_players in let long = ap length is in
+    record {
+      few = omega arith;
+      worker = worker;
+      few_workers = few_workers;
+      known = All-same (λ (game : Pairing). knows game.world game.red game.black) games (games_between gauntlet players first count) is (known_between knows gauntlet players first count known);
+    }

@@ -74,6 +74,6 @@ adjacent (x ∷ y ∷ lines) sorted (suc k) d within =
     subst (λ (n : ℕ). StandsAbove (slice_index_or (y ∷ lines) k d) (slice_index_or (x ∷ y ∷ lines) n d)) (sym next) (adjacent (y ∷ lines) sorted.1 k d (omega arith))
 
 pub has_standing : HasStanding
-has_standing players worlds score =
-    let it = sorted_as (map (line_of (all_played players worlds score)) (below players)) in
+has_standing gauntlet players worlds score =
+    let it = sorted_as (map (line_of (all_played gauntlet players worlds score)) (below players)) in
     (it.list, record { each = it.each; order = adjacent it.list it.sorted })

@@ -1,9 +1,9 @@
 -- A law of cups beside the laws that say how a standing is: there is one.
-use Rattle.std.specs.Prelude.{ℕ, List}
+use Rattle.std.specs.Prelude.{ℕ, Bool, List}
 use Rattle.cell_world.specs.declared.score.Score.{Score}
 use Rattle.tournament.specs.Standing.{IsStandingOf}
 use Rattle.tournament.specs.declared.standing.Line.{Line}
 
 -- each cup has a standing, whatever its scores are
 abbrev pub HasStanding : Type 0
-HasStanding = (players worlds : ℕ) (score : ℕ → ℕ → ℕ → Score) → (lines : List Line) × IsStandingOf players worlds score lines
+HasStanding = (gauntlet : Bool) (players worlds : ℕ) (score : ℕ → ℕ → ℕ → Score) → (lines : List Line) × IsStandingOf gauntlet players worlds score lines

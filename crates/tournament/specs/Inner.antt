@@ -1,3 +1,4 @@
 pub mod Pieces
 pub mod Blank
 pub mod Worlds
+pub mod Tallies

@@ -1,5 +1,5 @@
 -- Laws of cups.
-use Rattle.std.specs.Prelude.{◌≡◌, ℕ, ◌+◌, ◌*◌, List, ◌++◌, length, sum_by}
+use Rattle.std.specs.Prelude.{◌≡◌, ℕ, ◌+◌, ◌*◌, Bool, List, ◌++◌, length, sum_by}
 use Rattle.std.specs.List.{flat_map}
 use Rattle.cell_world.specs.declared.score.Score.{Score}
 use Rattle.tournament.specs.declared.standing.Line.{Line}
@@ -10,28 +10,36 @@ use Rattle.tournament.specs.Standing.{IsStandingOf, line_of}
 -- the points of all players together are twice the games
 abbrev pub PointsAddUp : Type 0
 PointsAddUp =
-    (players worlds : ℕ) (score : ℕ → ℕ → ℕ → Score) (lines : List Line) → IsStandingOf players worlds score lines
-    → sum_by (λ line. line.points) lines ≡ 2 * length (games_of players worlds)
+    (gauntlet : Bool) (players worlds : ℕ) (score : ℕ → ℕ → ℕ → Score) (lines : List Line) → IsStandingOf gauntlet players worlds score lines
+    → sum_by (λ line. line.points) lines ≡ 2 * length (games_of gauntlet players worlds)
 
 -- over all players there are as many wins as losses
 abbrev pub WinsAreLosses : Type 0
 WinsAreLosses =
-    (players worlds : ℕ) (score : ℕ → ℕ → ℕ → Score) (lines : List Line) → IsStandingOf players worlds score lines
+    (gauntlet : Bool) (players worlds : ℕ) (score : ℕ → ℕ → ℕ → Score) (lines : List Line) → IsStandingOf gauntlet players worlds score lines
     → sum_by (λ line. line.won) lines ≡ sum_by (λ line. line.lost) lines
 
 -- a cup has one standing
 abbrev pub OneStanding : Type 0
 OneStanding =
-    (players worlds : ℕ) (score : ℕ → ℕ → ℕ → Score) (lines others : List Line) → IsStandingOf players worlds score lines
-    → IsStandingOf players worlds score others → lines ≡ others
+    (gauntlet : Bool) (players worlds : ℕ) (score : ℕ → ℕ → ℕ → Score) (lines others : List Line) → IsStandingOf gauntlet players worlds score lines
+    → IsStandingOf gauntlet players worlds score others → lines ≡ others
 
 -- the games of a cup are those on its worlds, one world after another
 abbrev pub WorldsInOrder : Type 0
-WorldsInOrder = (players worlds : ℕ) (score : ℕ → ℕ → ℕ → Score) → all_played players worlds score ≡ flat_map (λ world. world_played players world score) (below worlds)
+WorldsInOrder = (gauntlet : Bool) (players worlds : ℕ) (score : ℕ → ℕ → ℕ → Score) → all_played gauntlet players worlds score ≡ flat_map (λ world. world_played gauntlet players world score) (below worlds)
 
 -- two lines of a player, added up
 abbrev pub added_up : Line → Line → Line
-added_up x y = record { player = x.player; points = x.points + y.points; won = x.won + y.won; drawn = x.drawn + y.drawn; lost = x.lost + y.lost }
+added_up x y = record {
+  player = x.player;
+  points = x.points + y.points;
+  won = x.won + y.won;
+  drawn = x.drawn + y.drawn;
+  lost = x.lost + y.lost;
+  food_for = x.food_for + y.food_for;
+  food_against = x.food_against + y.food_against;
+}
 
 -- a player's line after some games and then more is the line after the former and that after the latter, added up
 abbrev pub GamesAddUp : Type 0

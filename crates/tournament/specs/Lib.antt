@@ -4,6 +4,7 @@ pub mod Inner
 pub mod Laws
 pub mod Names
 pub mod Plays
+pub mod Seeds
 pub mod Standing
 pub mod Text
 pub mod Printed

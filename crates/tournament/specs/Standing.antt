@@ -1,5 +1,5 @@
 -- The standing of a cup (the task's game play).
-use Rattle.std.specs.Prelude.{◌≡◌, ℕ, ◌+◌, ◌*◌, ◌≤◌, Bool, ◌&&◌, ◌||◌, ◌==◌, nat_lt, List, map, length, count_by, IsPermutation}
+use Rattle.std.specs.Prelude.{◌≡◌, ℕ, ◌+◌, ◌*◌, ◌≤◌, Bool, ◌&&◌, ◌||◌, ◌==◌, nat_lt, List, map, length, count_by, sum_by, if◌then◌else◌, IsPermutation}
 use Rattle.std.specs.List.{AllAdjacentBelow}
 use Rattle.cell_world.specs.declared.score.Score.{Score}
 use Rattle.tournament.specs.declared.games.Played.{Played}
@@ -18,7 +18,15 @@ is_lost p it = ((it.game.red == p) && nat_lt it.score.red it.score.black) || ((i
 abbrev pub is_drawn : ℕ → Played → Bool
 is_drawn p it = ((it.game.red == p) || (it.game.black == p)) && (it.score.red == it.score.black)
 
--- the line of player p: how many of these games it won, drew and lost, and 2 points for a win and 1 for a draw
+-- the food of player p in the game; 0 if it didn't play
+abbrev pub food_for : ℕ → Played → ℕ
+food_for p it = if it.game.red == p then it.score.red else if it.game.black == p then it.score.black else 0
+
+-- the food of player p's opponent in the game; 0 if p didn't play
+abbrev pub food_against : ℕ → Played → ℕ
+food_against p it = if it.game.red == p then it.score.black else if it.game.black == p then it.score.red else 0
+
+-- the line of player p: how many of these games it won, drew and lost, 2 points for a win and 1 for a draw, its own food and its opponents'
 unfoldable pub line_of : List Played → ℕ → Line
 line_of games p = record {
   player = p;
@@ -26,6 +34,8 @@ line_of games p = record {
   won = count_by (is_won p) games;
   drawn = count_by (is_drawn p) games;
   lost = count_by (is_lost p) games;
+  food_for = sum_by (food_for p) games;
+  food_against = sum_by (food_against p) games;
 }
 
 -- line x may stand right above line y: it has more points, or as many and no higher player number
@@ -38,6 +48,6 @@ pub record Ranks (players : ℕ) (games : List Played) (lines : List Line) : Typ
   pub each : IsPermutation (map (line_of games) (below players)) lines
   pub order : AllAdjacentBelow StandsAbove lines (length lines)
 
--- the standing of a cup of so many players and worlds, where the scores are given by world, red player and black player
-abbrev pub IsStandingOf : ℕ → ℕ → (ℕ → ℕ → ℕ → Score) → List Line → Type 0
-IsStandingOf players worlds score lines = Ranks players (all_played players worlds score) lines
+-- the standing of a cup, or of a gauntlet, of so many players and worlds, where the scores are given by world, red player and black player
+abbrev pub IsStandingOf : Bool → ℕ → ℕ → (ℕ → ℕ → ℕ → Score) → List Line → Type 0
+IsStandingOf gauntlet players worlds score lines = Ranks players (all_played gauntlet players worlds score) lines

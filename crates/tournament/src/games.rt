@@ -1,6 +1,6 @@
 // The games of a cup, in their order.
-ghost use Rattle.std.specs.Prelude.{◌≡◌, ◌<◌, ◌++◌, IfOk};
-ghost use Rattle.tournament.specs.Games.{games_of, games_on, games_with, both_ways};
+ghost use Rattle.std.specs.Prelude.{◌≡◌, ◌+◌, ◌<◌, ◌≤◌, ◌^◌, ◌++◌, IfOk};
+ghost use Rattle.tournament.specs.Games.{both_ways, each_pair_on, games_between, games_on, games_with};
 
 use cell_world::Score;
 use hex_geometry::OutOfMemory;
@@ -26,31 +26,47 @@ pub struct Played {
     pub score: Score,
 }
 
-// All games, world by world.
-#[tactic(auto, using(crate::proofs::GamesLemmas::all_more, crate::proofs::GamesLemmas::worlds_all))]
-pub fn games_of(alloc: Global, players: u32, worlds: u32) -> Result<Vec<Pairing>, OutOfMemory>
-    ensures { IfOk result (λ games. games.items ≡ games_of players worlds) }
+// The games on so many worlds from this one on; in a gauntlet those of player 0 alone.
+#[tactic(auto, using(crate::proofs::GamesLemmas::between_more))]
+pub fn games_between(
+    alloc: Global,
+    gauntlet: bool,
+    players: u32,
+    first: u32,
+    count: u32,
+) -> Result<Vec<Pairing>, OutOfMemory>
+    requires players { 1 ≤ players }
+    requires worlds { first + count < 2 ^ 32 }
+    ensures { IfOk result (λ games. games.items ≡ games_between gauntlet players first count) }
 {
     let mut games = Vec::new(alloc);
-    for world in 0..worlds {
-        add_world(&mut games, players, world)?;
+    for k in 0..count {
+        add_world(&mut games, gauntlet, players, first + k)?;
     }
     Ok(games)
 }
 
-// The games on one world.
-pub fn games_on(alloc: Global, players: u32, world: u32) -> Result<Vec<Pairing>, OutOfMemory>
-    ensures { IfOk result (λ games. games.items ≡ games_on players world) }
+// Adds the games on one world. In a gauntlet player 0 alone meets those of higher numbers.
+#[tactic(auto, using(crate::proofs::GamesLemmas::gauntlet_all, crate::proofs::GamesLemmas::each_all))]
+fn add_world(
+    games: &mut Vec<Pairing>,
+    gauntlet: bool,
+    players: u32,
+    world: u32,
+) -> Result<(), OutOfMemory>
+    requires { 1 ≤ players }
+    ensures { IfOk result (λ _. games.new.items ≡ games.old.items ++ games_on gauntlet players world) }
 {
-    let mut games = Vec::new(alloc);
-    add_world(&mut games, players, world)?;
-    Ok(games)
+    if gauntlet {
+        return add_pairs(games, players, world, 0);
+    }
+    add_each_pair(games, players, world)
 }
 
-// Adds the games on one world.
+// Adds the games on one world of each pair of players.
 #[tactic(auto, using(crate::proofs::GamesLemmas::all_more, crate::proofs::GamesLemmas::players_all))]
-fn add_world(games: &mut Vec<Pairing>, players: u32, world: u32) -> Result<(), OutOfMemory>
-    ensures { IfOk result (λ _. games.new.items ≡ games.old.items ++ games_on players world) }
+fn add_each_pair(games: &mut Vec<Pairing>, players: u32, world: u32) -> Result<(), OutOfMemory>
+    ensures { IfOk result (λ _. games.new.items ≡ games.old.items ++ each_pair_on players world) }
 {
     for first in 0..players {
         add_pairs(games, players, world, first)?;

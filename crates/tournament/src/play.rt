@@ -1,20 +1,20 @@
 // A whole cup, and its games on one world.
-ghost use Rattle.std.specs.Prelude.{◌≡◌, ◌≢◌, ℕ, ◌<◌, ◌≤◌, IfOk};
-ghost use Rattle.tournament.specs.Games.{world_played};
+ghost use Rattle.std.specs.Prelude.{◌≡◌, ◌≢◌, ℕ, ◌+◌, ◌<◌, ◌≤◌, false, IfOk};
+ghost use Rattle.tournament.specs.Games.{worlds_played};
 ghost use Rattle.tournament.specs.Plays.{AreKnown, ArePlayed, CanBePlayedBy, PlaysGames};
 ghost use Rattle.tournament.specs.Standing.{IsStandingOf};
 
 use crate::fork::play_together;
-use crate::games::{Pairing, Played, games_of, games_on};
+use crate::games::{Pairing, Played, games_between};
 use crate::pieces::{add_played, deal};
 use crate::referee::Referee;
 use crate::standing::Standing;
-use crate::tally::standing_of;
+use crate::tally::Tally;
 use hex_geometry::OutOfMemory;
 use std::alloc::Global;
 use std::thread::Threads;
 
-/// Plays all games of a cup of 2 to 16 players on 1 to 16 worlds by 1 to 16 workers, and gives the standing of the referee's scores. On each
+/// Plays all games of a cup of 2 to 16 players on 1 to 16,000 worlds by 1 to 16 workers, and gives the standing of the referee's scores. On each
 /// world each pair of players plays twice, with the colours swapped (the task's game play); the standing is the same for each number of
 /// workers, which play as in [`play_games`]. The referee knows each of these games: any two different players, as red and as black, on each
 /// world. It is refused only when out of memory, its own or the referee's.
@@ -30,58 +30,80 @@ pub fn play_all<R: Threads + Sync, F: Referee>(
     workers: u32,
 ) -> Result<Standing, OutOfMemory>
     requires players { (2 ≤ players) × (players ≤ 16) }
-    requires worlds { (1 ≤ worlds) × (worlds ≤ 16) }
+    requires worlds { (1 ≤ worlds) × (worlds ≤ 16000) }
     requires workers { (1 ≤ workers) × (workers ≤ 16) }
     requires known { (world red black : ℕ) → world < worlds → red < players → black < players → red ≢ black → F.knows referee.now world red black }
-    ensures { IfOk result (λ standing. IsStandingOf players worlds (F.score referee.now) standing) }
+    ensures { IfOk result (λ standing. IsStandingOf false players worlds (F.score referee.now) standing) }
 {
     let play = |referee: &F, games: &[Pairing], workers: u32| -> Result<Vec<Played>, OutOfMemory>
         requires { CanBePlayedBy workers (F.knows referee.now) games.now }
         ensures { ArePlayed (F.score referee.entry.now) games.entry.now result }
     { play_games(rt, alloc, referee, games, workers) };
-    play_all_by(alloc, referee, players, worlds, workers, &play)
+    play_all_by(alloc, referee, false, players, worlds, workers, &play)
 }
 
-/// Does what [`play_all`] does, and `play` plays the games, by 1 to 16 workers or on the caller's thread, as [`play_games`] and
-/// [`play_games_alone`] do: the standing is the same. It is refused only when out of memory, its own or that of `play`.
+/// Does what [`play_all`] does, of a gauntlet only the games of player 0. `play` plays the games, by 1 to 16 workers or on the caller's thread,
+/// as [`play_games`] and [`play_games_alone`] do: the standing is the same. It gets fewer than 4096 games at a time, and the counts and sums of
+/// those alone are kept, so that memory doesn't grow with the number of worlds. It is refused only when out of memory, its own or that of `play`.
 pub fn play_all_by<F: Referee, P: Fn(&F, &[Pairing], u32) -> Result<Vec<Played>, OutOfMemory>>(
     alloc: Global,
     referee: &F,
+    gauntlet: bool,
     players: u32,
     worlds: u32,
     workers: u32,
     play: &P,
 ) -> Result<Standing, OutOfMemory>
     requires players { (2 ≤ players) × (players ≤ 16) }
-    requires worlds { (1 ≤ worlds) × (worlds ≤ 16) }
+    requires worlds { (1 ≤ worlds) × (worlds ≤ 16000) }
     requires workers { (1 ≤ workers) × (workers ≤ 16) }
     requires known { (world red black : ℕ) → world < worlds → red < players → black < players → red ≢ black → F.knows referee.now world red black }
     requires plays { PlaysGames P.Fn F.knows F.score play.now }
-    ensures { IfOk result (λ standing. IsStandingOf players worlds (F.score referee.now) standing) }
+    ensures { IfOk result (λ standing. IsStandingOf gauntlet players worlds (F.score referee.now) standing) }
 {
-    let games = games_of(alloc, players, worlds)?;
-    let played = play(referee, &games, workers)?;
-    standing_of(alloc, players, &played)
+    let most = most_at_once(players);
+    let mut tally = Tally::new(alloc, players)?;
+    let mut world = 0;
+    while world < worlds {
+        let count = most.min(worlds - world);
+        let played = play_worlds(
+            alloc, referee, gauntlet, players, world, count, workers, play,
+        )?;
+        tally.add(alloc, &played)?;
+        world += count;
+    }
+    Ok(tally.standing())
 }
 
-/// Plays the games of a cup of 2 to 16 players on the world of this number, from 0, and gives them with the referee's scores, in the order in
-/// which the cup has them. `play` plays them, as in [`play_all_by`]. The referee knows each of these games: any two different players, as red and
-/// as black. It is refused only when out of memory, its own or that of `play`.
-pub fn play_world<F: Referee, P: Fn(&F, &[Pairing], u32) -> Result<Vec<Played>, OutOfMemory>>(
+// On how many worlds games are played at once: so many that they have fewer than 4096 games.
+fn most_at_once(players: u32) -> u32
+    requires { (2 ≤ players) × (players ≤ 16) }
+    ensures { (1 ≤ result) × (result ≤ 1024) }
+{
+    4096 / (players * players)
+}
+
+/// Plays the games of a cup, or of a gauntlet, of 2 to 16 players on 1 to 1024 worlds that follow one another, from this number on, and gives
+/// them with the referee's scores, in the order in which the cup has them. `play` plays them, as in [`play_all_by`]. The referee knows each of
+/// these games: any two different players, as red and as black. It is refused only when out of memory, its own or that of `play`.
+pub fn play_worlds<F: Referee, P: Fn(&F, &[Pairing], u32) -> Result<Vec<Played>, OutOfMemory>>(
     alloc: Global,
     referee: &F,
+    gauntlet: bool,
     players: u32,
-    world: u32,
+    first: u32,
+    count: u32,
     workers: u32,
     play: &P,
 ) -> Result<Vec<Played>, OutOfMemory>
     requires players { (2 ≤ players) × (players ≤ 16) }
+    requires worlds { (count ≤ 1024) × (first + count ≤ 16000) }
     requires workers { (1 ≤ workers) × (workers ≤ 16) }
-    requires known { (red black : ℕ) → red < players → black < players → red ≢ black → F.knows referee.now world red black }
+    requires known { (world red black : ℕ) → first ≤ world → world < first + count → red < players → black < players → red ≢ black → F.knows referee.now world red black }
     requires plays { PlaysGames P.Fn F.knows F.score play.now }
-    ensures { IfOk result (λ played. played.items ≡ world_played players world (F.score referee.now)) }
+    ensures { IfOk result (λ played. played.items ≡ worlds_played gauntlet players first count (F.score referee.now)) }
 {
-    let games = games_on(alloc, players, world)?;
+    let games = games_between(alloc, gauntlet, players, first, count)?;
     play(referee, &games, workers)
 }
 

@@ -16,6 +16,10 @@ pub struct Line {
     pub drawn: u32,
     /// The games lost.
     pub lost: u32,
+    /// The player's own food, over all its games.
+    pub food_for: u64,
+    /// Its opponents' food, over the same games.
+    pub food_against: u64,
 }
 
 /// The lines of a cup's players, the best first. Contracts see the list of the lines.

@@ -13,13 +13,14 @@ use ant_base::{Each, Failed, Layout, NumberedTexts, Sink, layout};
 struct TableLines<'s> {
     standing: &'s Standing,
     names: &'s Names,
+    leads: bool,
     ghost named: { All (λ line. line.player < length names.now) standing.now },
 }
 
 impl NumberedTexts for TableLines<'_> {
     ghost count = { λ lines. length lines.standing.now };
 
-    ghost part = { λ lines at. table_line_text lines.names.now (slice_index_or lines.standing.now at blank) };
+    ghost part = { λ lines at. table_line_text lines.leads lines.names.now (slice_index_or lines.standing.now at blank) };
 
     fn count(&self) -> usize {
         self.standing.len()
@@ -27,14 +28,14 @@ impl NumberedTexts for TableLines<'_> {
 
     fn push_part<K: Sink>(&self, at: usize, sink: &mut K) -> Result<(), Failed> {
         let line = self.standing.item(at);
-        push_line(self.names, line, sink)
+        push_line(self.leads, self.names, line, sink)
     }
 }
 
 #[tactic(auto, unfolding(crate::specs::Text::table_line_text))]
-fn push_line<K: Sink>(names: &Names, line: Line, sink: &mut K) -> Result<(), Failed>
+fn push_line<K: Sink>(leads: bool, names: &Names, line: Line, sink: &mut K) -> Result<(), Failed>
     requires { line.player < length names.now }
-    ensures { Pushed (K.state sink.old) (K.state sink.new) (table_line_text names.now line) result }
+    ensures { Pushed (K.state sink.old) (K.state sink.new) (table_line_text leads names.now line) result }
 {
     let name = names.of_player(line.player);
     layout!(
@@ -47,20 +48,67 @@ fn push_line<K: Sink>(names: &Names, line: Line, sink: &mut K) -> Result<(), Fai
         line.drawn,
         " drawn, ",
         line.lost,
-        " lost)\n"
+        " lost)",
+        LeadPart { leads, line }
     )
     .push_to(sink)
 }
 
-/// Pushes a line for each player, the best first, as `3 points: b (1 won, 1 drawn, 0 lost)`. Each player of the standing has a name. Where
-/// the sink failed, a prefix of the lines was pushed, and its count of faults rose. It takes no memory.
+// The end of a player's line.
+#[derive(Clone, Copy)]
+struct LeadPart {
+    leads: bool,
+    line: Line,
+}
+
+impl Layout for LeadPart {
+    ghost use Rattle.tournament.specs.Text.{lead_part};
+
+    ghost text = { λ part. lead_part part.leads part.line };
+
+    fn push_to<K: Sink>(&self, sink: &mut K) -> Result<(), Failed> {
+        if self.leads {
+            return layout!(", lead ", Lead(self.line), "\n").push_to(sink);
+        }
+        "\n".push_to(sink)
+    }
+}
+
+// By how much food a player leads.
+#[derive(Clone, Copy)]
+struct Lead(Line);
+
+impl Layout for Lead {
+    ghost use Rattle.tournament.specs.Text.{lead_text};
+
+    ghost text = { λ lead. lead_text lead.0 };
+
+    fn push_to<K: Sink>(&self, sink: &mut K) -> Result<(), Failed> {
+        let own = self.0.food_for;
+        let others = self.0.food_against;
+        if own < others {
+            return layout!("-", others - own).push_to(sink);
+        }
+        (own - others).push_to(sink)
+    }
+}
+
+/// Pushes a line for each player, the best first, as `3 points: b (1 won, 1 drawn, 0 lost)`; with leads as `3 points: b (1 won, 1 drawn, 0 lost),
+/// lead 3`, the player's own food minus its opponents', as a whole number. Each player of the standing has a name. Where the sink failed, a
+/// prefix of the lines was pushed, and its count of faults rose. It takes no memory.
 pub fn push_standing<K: Sink>(
     standing: &Standing,
+    leads: bool,
     names: &Names,
     sink: &mut K,
 ) -> Result<(), Failed>
     requires { All (λ line. line.player < length names.now) standing.now }
-    ensures { Pushed (K.state sink.old) (K.state sink.new) (standing_text names.now standing.now) result }
+    ensures { Pushed (K.state sink.old) (K.state sink.new) (standing_text leads names.now standing.now) result }
 {
-    Each(TableLines { standing, names }).push_to(sink)
+    Each(TableLines {
+        standing,
+        names,
+        leads,
+    })
+    .push_to(sink)
 }

@@ -2,4 +2,4 @@
 use Rattle.tournament.specs.declared.standing.Line.{Line}
 
 abbrev pub blank : Line
-blank = record { player = 0; points = 0; won = 0; drawn = 0; lost = 0 }
+blank = record { player = 0; points = 0; won = 0; drawn = 0; lost = 0; food_for = 0; food_against = 0 }

@@ -8,5 +8,5 @@ use Rattle.tournament.proofs.games_printed.push_games.Given as goal
 abbrev pub invariant-loop-game : goal.invariant-loop-game
 invariant-loop-game g l = record {
   number : l.number ≡ l.first + l.game-index;
-  printed : PushedAll (g.K.Sink.state l.fn.sink) (g.K.Sink.state l.sink) (games_text (texts_of l.worlds) l.players (take l.game-index l.games) l.first);
+  printed : PushedAll (g.K.Sink.state l.fn.sink) (g.K.Sink.state l.sink) (games_text l.format (texts_of l.worlds) l.players (take l.game-index l.games) l.first);
 }

@@ -1,29 +1,33 @@
--- the games of the cup can be played, and what was played has their scores
-use Rattle.std.proofs.Common.{IfOk, List, Ok, length, map, ap, ◌∙◌, arith, subst}
-use Rattle.std.proofs.lemmas.List.{length-map}
-use Rattle.tournament.specs.Games.{played_by}
-use Rattle.tournament.specs.Standing.{Ranks}
+-- each part of the cup adds its games to the tally
+use Rattle.std.proofs.Common.{List, length, ◌++◌, ap, sym, ◌∙◌, arith, subst}
+use Rattle.tournament.specs.Games.{all_played}
+use Rattle.tournament.specs.Inner.Tallies.{IsTally}
 use Rattle.tournament.specs.declared.games.Played.{Played}
-use Rattle.tournament.proofs.PiecesLemmas.{can_play_all}
+use Rattle.tournament.proofs.PrintedLemmas.{all_played-between, all_played-none, length-all_played, length-worlds_played}
 use Rattle.tournament.proofs.play.play_all_by.Goals as goal
 
-pub play-requires : goal.play-requires
-play-requires g c =
-    c.requires.plays.may c.args.referee c.deref.result c.args.workers
-    (can_play_all (g.F.Referee.knows c.args.referee.now) c.args.players c.args.worlds c.args.workers c.deref.result.now (omega arith) (omega arith) c.requires.workers.0 c.requires.workers.1 (c.deref.ensures.value ∙ c.in_ok-games.ensures) c.requires.known)
+pub loop-world-init : goal.loop-world-init
+loop-world-init g c = record {
+  within = omega arith;
+  tally = subst (λ (games : List Played). IsTally c.args.players games c.in_ok-tally.tally) (sym (all_played-none c.args.gauntlet c.args.players (g.F.Referee.score c.args.referee.now))) c.in_ok-tally.ensures;
+}
 
-pub standing_of-requires : goal.standing_of-requires
-standing_of-requires g c =
-    let can = can_play_all (g.F.Referee.knows c.args.referee.now) c.args.players c.args.worlds c.args.workers c.deref.result.now (omega arith) (omega arith) c.requires.workers.0 c.requires.workers.1 (c.deref.ensures.value ∙ c.in_ok-games.ensures) c.requires.known in
-    let played = c.requires.plays.plays c.args.referee c.deref.result c.args.workers (Ok c.in_ok-played.played) can c.in_ok-played.ensures in
-    let all = c.deref-2.ensures.value ∙ played in
-    let at = ap length all ∙ length-map c.deref.result.now (played_by (g.F.Referee.score c.args.referee.now)) in
-    let few = can.few in
-    record { few = omega arith }
+pub add-requires-clause-few : goal.add-requires-clause-few
+add-requires-clause-few g c =
+    let score = g.F.Referee.score c.args.referee.now in
+    let before = c.loop-world.invariant.tally.count in
+    let few = length-all_played c.args.gauntlet c.args.players c.loop-world.world score c.requires.players.1 in
+    let more = length-worlds_played c.args.gauntlet c.args.players c.loop-world.world c.min-count.result score c.requires.players.1 in
+    let played = ap length (c.deref.ensures.value ∙ c.in_ok-played.ensures) in
+    omega (arith, before, few, more, played, c.loop-world.invariant.within, c.requires.worlds.1, c.min-count.ensures, c.most_at_once-most.ensures.1)
 
-pub returns : goal.returns
-returns g c =
-    let score = g.F.Referee.score c.args.referee.now in let games = c.deref.ensures.value ∙ c.in_ok-games.ensures in
-    let can = can_play_all (g.F.Referee.knows c.args.referee.now) c.args.players c.args.worlds c.args.workers c.deref.result.now (omega arith) (omega arith) c.requires.workers.0 c.requires.workers.1 games c.requires.known in
-    let played = c.requires.plays.plays c.args.referee c.deref.result c.args.workers (Ok c.in_ok-played.played) can c.in_ok-played.ensures in
-    subst (λ (all : List Played). IfOk c.standing_of.result (λ standing. Ranks c.args.players all standing)) (c.deref-2.ensures.value ∙ played ∙ ap (map (played_by score)) games) c.standing_of.ensures
+pub loop-world-preserved : goal.loop-world-preserved
+loop-world-preserved g c =
+    let score = g.F.Referee.score c.args.referee.now in
+    let so_far : List Played = all_played c.args.gauntlet c.args.players c.loop-world.world score in
+    record {
+      within = omega (arith, c.loop-world-test.true, c.min-count.ensures);
+      tally = subst (λ (games : List Played). IsTally c.args.players games c.add.new.self)
+          (ap (λ (more : List Played). so_far ++ more) (c.deref.ensures.value ∙ c.in_ok-played.ensures) ∙ sym (all_played-between c.args.gauntlet c.args.players c.loop-world.world c.min-count.result score))
+          (c.in_ok-add.ensures c.args.players so_far c.loop-world.invariant.tally);
+    }

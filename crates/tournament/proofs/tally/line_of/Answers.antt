@@ -1,5 +1,6 @@
+use Rattle.std.proofs.Common.{arith}
 use Rattle.tournament.specs.Standing.{is_won, is_lost, is_drawn}
-use Rattle.tournament.proofs.StandingLemmas.{counted, counted_fits, few_counted, line_is, points_fit, twice_fits}
+use Rattle.tournament.proofs.StandingLemmas.{count_within, counted, counted_fits, few_counted, line_is, points_fit, twice_fits}
 use Rattle.tournament.proofs.tally.line_of.Goals as goal
 
 pub overflow_add-won : goal.overflow_add-won
@@ -33,5 +34,14 @@ overflow_add-result c =
     (few_counted (is_won c.args.player) c.args.games.now c.loop-game.game-index c.loop-game.won c.requires.few c.loop-game.invariant.won)
     (few_counted (is_drawn c.args.player) c.args.games.now c.loop-game.game-index c.loop-game.drawn c.requires.few c.loop-game.invariant.drawn)
 
-pub returns : goal.returns
-returns c = line_is c.args.games.now c.args.player c.loop-game.game-index c.loop-game.won c.loop-game.drawn c.loop-game.lost c.loop-game-test.false c.loop-game.invariant.won c.loop-game.invariant.drawn c.loop-game.invariant.lost
+pub returns-clause-is : goal.returns-clause-is
+returns-clause-is c =
+    line_is c.args.games.now c.args.player c.loop-game.game-index c.loop-game.won c.loop-game.drawn c.loop-game.lost c.all_food_for.result c.all_food_against.result c.loop-game-test.false
+    c.loop-game.invariant.won c.loop-game.invariant.drawn c.loop-game.invariant.lost c.all_food_for.ensures.is c.all_food_against.ensures.is
+
+pub returns-clause-small : goal.returns-clause-small
+returns-clause-small c =
+    let won = count_within (is_won c.args.player) c.args.games.now c.loop-game.game-index c.loop-game.won c.loop-game.invariant.won in
+    let drawn = count_within (is_drawn c.args.player) c.args.games.now c.loop-game.game-index c.loop-game.drawn c.loop-game.invariant.drawn in
+    let lost = count_within (is_lost c.args.player) c.args.games.now c.loop-game.game-index c.loop-game.lost c.loop-game.invariant.lost in
+    record { points = omega arith; won = won; drawn = drawn; lost = lost; food_for = c.all_food_for.ensures.small; food_against = c.all_food_against.ensures.small }

@@ -8,4 +8,4 @@ use Rattle.tournament.proofs.text.push_standing.Goals as goal
 pub returns : goal.returns
 returns g c =
     subst (λ text. Pushed (g.K.Sink.state c.args.sink.now) (g.K.Sink.state c.push_to.new.sink) text c.push_to.result)
-    (numbered-list (table_line_text c.args.names.now) c.args.standing.now blank) c.push_to.ensures
+    (numbered-list (table_line_text c.args.leads c.args.names.now) c.args.standing.now blank) c.push_to.ensures
