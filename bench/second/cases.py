@@ -143,4 +143,4 @@ def number_of_ants(rows):
 
 def any_id(r, ants):
     """The word for an ant's id, where so many ants begin; seldom an id that none has."""
-    return str(r.choice([0, ants, 16383] + [r.randrange(max(1, ants)) for _ in range(3)]))
+    return str(r.choice([0, ants, 16383] + [r.randrange(max(1, ants)) for _ in range(9)]))

@@ -15,6 +15,11 @@ command('cup', flags=['--games', '--leads', '--gauntlet'], limits={
 NUMBER_OF_SEEDS = 2**32
 FEW = [1, 2, 2, 3, 4, 7]  # seeds of a cup
 MANY = [0, 10, 17, 100, 255, 256, 257, 999, 1000, 1001]
+SMALL_WORLDS = [
+    b'3\n3\n###\n#+#\n###\n', b'4\n4\n####\n#+3#\n#-.#\n####\n',
+    b'7\n6\n#######\n#.....#\n#..-#.#\n#-.+-##\n#+.--##\n#######\n',  # an ant dies if another one steps
+]
+MAY_STEP = ['Flip 2 1 2', 'Move 1 1', 'Drop 2']
 
 
 def cup_options(r, rounds, seeds, probability):
@@ -87,10 +92,10 @@ def case_of_gauntlet(r):
 def case_of_seeds(r):
     """`cup --seeds` with very many seeds, few rounds and a small world."""
     case = Case()
-    case.files['w'] = r.choice([b'3\n3\n###\n#+#\n###\n', b'4\n4\n####\n#+3#\n#-.#\n####\n'])
+    case.files['w'] = r.choice(SMALL_WORLDS)
     brains = ['b%d' % number for number in range(r.choice([2, 2, 3]))]
     for name in brains:
-        case.files[name] = spelled(r, fighting_lines(r), 0)
+        case.files[name] = spelled(r, MAY_STEP if chance(r, .5) else fighting_lines(r), 0)
     options = cup_options(r, r.randint(0, 6), MANY, .95)
     options += some(r, '--games', .5) + some(r, '--gauntlet', .3)
     case.words = ['cup', '--worlds', 'w', '--brains'] + brains + shuffled(r, options)
