@@ -32,5 +32,8 @@ class Map(Folder):
             self.assertEqual((status, output, faults), (1, b"", "map: line 4: no line of a dump\n"))
         with open("/dev/full", "w") as full:
             self.assertEqual(self.mapped(dump, stdout=full), (1, None, "map: standard output: No space left on device\n"))
+        folder = os.open(".", os.O_RDONLY)
+        self.assertEqual(self.mapped(None, "--numbers", stdin=folder), (1, b"", "map: standard input: Is a directory\n"))
+        os.close(folder)
         for number, told in ((0, "standard input: Bad file descriptor"), (1, "standard output is closed")):
             self.assertEqual(self.mapped(dump, preexec_fn=lambda: os.close(number))[::2], (1, "map: %s\n" % told))

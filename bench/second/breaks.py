@@ -62,6 +62,17 @@ def one_break(r, game):
     return 'Score %s %d' % (colour(r), r.choice([0, 1, 2, 3, 4, 6, 9, 12, 20, MOST]))
 
 
+def late_break(r, game):
+    """A line of a text of breaks that may begin to hold late in a crowded game, and most often goes on to hold."""
+    x, y = r.randrange(1, game.width - 1), r.randrange(1, game.height - 1)
+    return r.choice([
+        'Killed %d' % r.randrange(game.ants), 'Killed %d' % r.randrange(game.ants),
+        'Score %s %d' % (colour(r), r.randint(1, 6)), 'Food %d %d %d' % (x, y, r.randint(1, 9)),
+        'Stand %s %d %d' % (colour(r), x, y), 'State %s %d' % (colour(r), r.randint(0, 4)),
+        'Round %d' % r.randint(1, game.rounds),
+    ])
+
+
 def break_lines(r, game):
     """A few breaks, or about as many as there may be."""
     if chance(r, .96):

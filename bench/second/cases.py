@@ -12,7 +12,9 @@ SHEET = {
     '--corpse': ['0', '9', '10', '8'],
     '--rest': ['0', '255', '256', '254'],
 }
+IDS = ['0', '1', '2', '3', '16383', '16384', '9999999999']
 WORKERS = {'--workers': ['0', '1', '16', '17', '15']}
+FROM = {'--from': ['0', '1', '1000000', '1000001', '9999999999']}
 WINDOW = {'--window': ['0', '1', '16384', '16385', '16383']}
 DUMP = {'--dump': [
     'none', 'all', 'None', 'ALL', '0', '1,2', '1,,2', '1,2,', ',1', ',', '', '1000000', '1000001', '00000000001',
@@ -118,6 +120,12 @@ def some_sheet(r, rests, probability=.3):
     return surround + corpse + some(r, '--rest', probability, rests)
 
 
+def some_from(r, rounds, probability=.4):
+    """The option for the first round that counts, near these rounds or before them, with this probability."""
+    return some(r, '--from', probability, [0, 1, max(0, rounds - 1), rounds, rounds + 1, 1000000] +
+                [r.randint(0, rounds) for _ in range(6)])
+
+
 def rounds_of_run(r, rows):
     """A number of rounds, small on a large world."""
     few = [0, 1, 2, 5, r.randint(3, 12)]
@@ -131,3 +139,8 @@ def rounds_of_run(r, rows):
 def number_of_ants(rows):
     """How many ants a world begins with."""
     return sum(cell in '+-' for row in rows for cell in row)
+
+
+def any_id(r, ants):
+    """The word for an ant's id, where so many ants begin; seldom an id that none has."""
+    return str(r.choice([0, ants, 16383] + [r.randrange(max(1, ants)) for _ in range(9)]))

@@ -35,6 +35,10 @@ Option window_option(uint64_t& window) {
     return free_number("--window", 1, most_turns, window);
 }
 
+Option from_option(uint64_t& from) {
+    return free_number("--from", 0, most_rounds, from);
+}
+
 Option workers_option() {
     return {"--workers", false, [](Words& words) {
                 words.number(1, most_workers);

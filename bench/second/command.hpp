@@ -37,4 +37,5 @@ struct GameFiles {
 Options seed_and_rounds(uint64_t& seed, uint64_t& rounds);
 Options sheet_options(Sheet& sheet);
 Option window_option(uint64_t& window);
+Option from_option(uint64_t& from);
 Option workers_option();  // nothing that is printed depends on how many there are

@@ -1,6 +1,6 @@
 """Worlds, brains and options of crowded games, and cases of commands that play such games."""
 from brains import fighting_lines
-from cases import Case, put_game, rounds_of_run, seed_and_rounds, shuffled, some_sheet
+from cases import Case, number_of_ants, put_game, rounds_of_run, seed_and_rounds, shuffled, some_sheet
 from spelling import chance, spelled
 from worlds import grid, world_text
 
@@ -73,14 +73,20 @@ def quick_options(r, rounds):
     return options
 
 
-def case_of_game(r, word, crowded):
-    """A case of a command that plays a game by some sheet; with this probability its world is crowded."""
+def case_of_game(r, word, crowded, more):
+    """A case of a command that plays a game by some sheet; with this probability its world is crowded.
+
+    `more` makes its further options from the number of rounds and the number of ants that begin.
+    """
     case = Case()
     if chance(r, crowded):
-        case.words = [word] + put_fight(case, r, .8) + shuffled(r, quick_options(r, fighting_rounds(r)))
-        return case
-    rows = grid(r)
-    files = put_game(case, r, rows, .03)
-    options = seed_and_rounds(r, rounds_of_run(r, rows)) + some_sheet(r, [0, 0, 0, 1, 2, 14, 255], .6)
-    case.words = [word] + files + shuffled(r, options)
+        rounds = fighting_rounds(r)
+        files, options = put_fight(case, r, .8), quick_options(r, rounds)
+        ants = number_of_ants(case.files['w'].decode())
+    else:
+        rows = grid(r)
+        rounds = rounds_of_run(r, rows)
+        files, ants = put_game(case, r, rows, .03), number_of_ants(rows)
+        options = seed_and_rounds(r, rounds) + some_sheet(r, [0, 0, 0, 1, 2, 14, 255], .6)
+    case.words = [word] + files + shuffled(r, options + more(int(rounds), ants))
     return case

@@ -8,6 +8,7 @@
 namespace {
 
 constexpr size_t most_bytes = 4194304;
+constexpr size_t most_text = 1 << 20;  // beyond which a text is printed before more of it is made
 constexpr int standard_input = 0;
 constexpr int standard_output = 1;
 constexpr int standard_error = 2;
@@ -38,6 +39,13 @@ void refuse(int status, const std::string& line) {
 void print(const std::string& text) {
     if (!write_whole(standard_output, text)) {
         refuse(4, "output failed");
+    }
+}
+
+void print_if_long(std::string& text) {
+    if (text.size() > most_text) {
+        print(text);
+        text.clear();
     }
 }
 

@@ -2,13 +2,14 @@
 #pragma once
 #include <string>
 
-constexpr size_t most_text = 1 << 20;  // beyond which a text is printed before more of it is made
-
 // Ends the program with a status and one line on standard error.
 [[noreturn]] void refuse(int status, const std::string& line);
 
 // Writes a text to standard output.
 void print(const std::string& text);
+
+// Does so with a text that is too long to make more of it first, and leaves nothing of it.
+void print_if_long(std::string& text);
 
 // The bytes of a file; `-` is standard input.
 std::string fetch(const std::string& name);

@@ -74,11 +74,13 @@ def is_between(word, least, most):
 
 
 def without_long_games(words):
-    """The words with few rounds in place of very many."""
+    """The words with few rounds, and with few seeds, in place of very many."""
     words = list(words)
     for place in range(1, len(words)):
         is_rounds = words[0] in COMMANDS and COMMANDS[words[0]].places.get(place) is ROUNDS
         if (is_rounds or words[place - 1] == '--rounds') and is_between(words[place], 601, 1000000):
+            words[place] = '3'
+        if words[place - 1] == '--seeds' and is_between(words[place], 8, 1000):
             words[place] = '3'
     return words
 

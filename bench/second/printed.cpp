@@ -78,6 +78,14 @@ std::string counts_line(const Counts& counts) {
            "\n";
 }
 
+std::string ant_name(const Ant& ant) {
+    return colour_words[ant.colour] + " ant " + decimal(ant.id);
+}
+
+std::string turn_start(const Turn& turn) {
+    return "round " + decimal(turn.round) + ", " + ant_name(turn.ant) + ": ";
+}
+
 void play(Game& game, const Telling& told, std::string text, uint64_t round, const Counts& counts) {
     Windows windows(game, told.window);
     windows.counts = counts;
@@ -91,10 +99,7 @@ void play(Game& game, const Telling& told, std::string text, uint64_t round, con
         if (told.dumps.has(round)) {
             text += dump_text(game.world, round);
         }
-        if (text.size() > most_text) {
-            print(text);
-            text.clear();
-        }
+        print_if_long(text);
     }
     text += "\n" + score_line(score_of(game.world));
     if (told.has_counts) {

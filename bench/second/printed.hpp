@@ -15,6 +15,10 @@ std::string dump_text(const World& world, uint64_t round);
 std::string score_line(const Score& score);
 std::string counts_line(const Counts& counts);
 
+// The colour and the id of an ant, and what the lines of a turn begin with.
+std::string ant_name(const Ant& ant);
+std::string turn_start(const Turn& turn);
+
 // What is told of a game.
 struct Telling {
     uint64_t rounds = 0;

@@ -202,3 +202,18 @@ void Game::play_round() {
         take_turn(world, rules, random, static_cast<int>(id), trace);
     }
 }
+
+void play_turns(Game& game, uint64_t rounds, const std::function<void(const Turn&)>& hand_over) {
+    Turn turn;
+    for (turn.round = 1; turn.round <= rounds; turn.round++) {
+        for (size_t id = 0; id < game.world.places.size(); id++) {
+            turn.place = game.world.places[id];
+            if (turn.place == dead) {
+                continue;
+            }
+            turn.ant = *game.world.cells[turn.place].ant;
+            take_turn(game.world, game.rules, game.random, static_cast<int>(id), turn.trace);
+            hand_over(turn);
+        }
+    }
+}

@@ -2,6 +2,7 @@
 // "Score and weight" of docs/RULES.md.
 #pragma once
 #include <cstdint>
+#include <functional>
 #include <optional>
 #include <vector>
 
@@ -79,3 +80,15 @@ struct Game {
     explicit Game(const Setup& setup, uint64_t place = 0);  // whose brains live longer than the game
     void play_round();
 };
+
+// A turn of an ant that was alive: its round, the place of its cell and the ant as they were when it began, and what it
+// did.
+struct Turn {
+    uint64_t round;
+    int place;
+    Ant ant;
+    Trace trace;
+};
+
+// Plays so many rounds from the start, and hands over each such turn when it is done.
+void play_turns(Game& game, uint64_t rounds, const std::function<void(const Turn&)>& hand_over);

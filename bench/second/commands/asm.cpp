@@ -283,10 +283,7 @@ void Expansion::print_labels() const {
         const std::string before = way_to(it.use) + (it.use == 0 ? "" : "/");
         for (const std::string& label : it.body->ordered_labels) {
             text += decimal(it.first[it.body->labels.at(label)] % emitted.size()) + " " + before + label + "\n";
-            if (text.size() > most_text) {
-                print(text);
-                text.clear();
-            }
+            print_if_long(text);
         }
     }
     print(text);
@@ -300,10 +297,7 @@ void Expansion::print_lines() const {
         const std::string way = way_to(it.use);
         text += decimal(state) + " " + decimal(placed[it.use].body->items[it.item].line) + (way.empty() ? "" : " ") +
                 way + "\n";
-        if (text.size() > most_text) {
-            print(text);
-            text.clear();
-        }
+        print_if_long(text);
     }
     print(text);
 }

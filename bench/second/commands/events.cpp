@@ -34,40 +34,49 @@ bool ScoreKept::follow(const World& world, const std::vector<int>& touched) {
     return score.red != before.red || score.black != before.black;
 }
 
-std::string ant_text(const Ant& ant) {
-    return colour_words[ant.colour] + " ant " + decimal(ant.id);
-}
-
-// Takes the turn of an id, and tells its lines.
-std::string turn_text(Game& game, ScoreKept& kept, uint64_t round, size_t id) {
-    const int place = game.world.places[id];
-    if (place == dead) {
+// The line of a turn in which the ant takes or drops food; nothing of any other turn.
+std::string food_line(const Game& game, const Turn& turn) {
+    if (!turn.trace.answer) {
         return "";
     }
-    const std::string start = "round " + decimal(round) + ", " + ant_text(*game.world.cells[place].ant) + ": ";
-    Trace trace;
-    take_turn(game.world, game.rules, game.random, static_cast<int>(id), trace);
-    std::string text;
-    for (const Kill& kill : trace.kills) {
-        text += start + ant_text(kill.ant) + " dies on " + place_text(game.world, kill.place) + "\n";
+    const Instruction& it = (*game.rules.brains[turn.ant.colour])[turn.ant.state];
+    const bool takes = it.operation == PICK_UP && *turn.trace.answer == 0;
+    const bool drops = it.operation == DROP && turn.ant.has_food;
+    if (!takes && !drops) {
+        return "";
     }
-    if (kept.follow(game.world, trace.touched)) {
-        text += start + score_line(kept.score);
+    const Cell& cell = game.world.cells[turn.place];
+    return turn_start(turn) + "state " + decimal(turn.ant.state) + (takes ? " takes" : " drops") + " food on " +
+           place_text(game.world, turn.place) + (cell.hill ? ", " + colour_words[*cell.hill] + " hill" : "") + "\n";
+}
+
+// The lines of the ants that a turn kills.
+std::string deaths_text(const Game& game, const Turn& turn) {
+    std::string text;
+    for (const Kill& kill : turn.trace.kills) {
+        text += turn_start(turn) + ant_name(kill.ant) + " dies on " + place_text(game.world, kill.place) + "\n";
     }
     return text;
 }
 
-void print_events(Game& game, uint64_t rounds, std::string text) {
+struct Asked {
+    uint64_t rounds = 0;
+    uint64_t from = 0;
+    bool has_food = false;
+};
+
+void print_events(Game& game, const Asked& asked, std::string text) {
     ScoreKept kept(game.world);
-    for (uint64_t round = 1; round <= rounds; round++) {
-        for (size_t id = 0; id < game.world.places.size(); id++) {
-            text += turn_text(game, kept, round, id);
+    play_turns(game, asked.rounds, [&](const Turn& turn) {
+        const bool is_other = kept.follow(game.world, turn.trace.touched);
+        if (turn.round < asked.from) {
+            return;
         }
-        if (text.size() > most_text) {
-            print(text);
-            text.clear();
-        }
-    }
+        text += deaths_text(game, turn);
+        text += asked.has_food ? food_line(game, turn) : "";
+        text += is_other ? turn_start(turn) + score_line(kept.score) : "";
+        print_if_long(text);
+    });
     print(text);
 }
 
@@ -76,9 +85,10 @@ void print_events(Game& game, uint64_t rounds, std::string text) {
 static const Command here("events", [](Words& words) {
     const GameFiles files(words);
     Setup setup;
-    uint64_t rounds = 0;
-    words.options(seed_and_rounds(setup.seed, rounds) + sheet_options(setup.sheet));
+    Asked asked;
+    words.options(seed_and_rounds(setup.seed, asked.rounds) + sheet_options(setup.sheet) +
+                  Options{from_option(asked.from), flag("--food", asked.has_food)});
     files.fetch(setup);
     Game game(setup);
-    print_events(game, rounds, seed_line(setup.seed));
+    print_events(game, asked, seed_line(setup.seed));
 });

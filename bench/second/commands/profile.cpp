@@ -15,31 +15,19 @@ struct Profile {
     std::vector<Count> counts[2];
 };
 
-void count_turn(Game& game, int id, Profile& profile) {
-    const int place = game.world.places[static_cast<size_t>(id)];
-    if (place == dead) {
-        return;
-    }
-    const Ant ant = *game.world.cells[place].ant;  // as it was before its turn
-    Trace trace;
-    take_turn(game.world, game.rules, game.random, id, trace);
-    if (trace.answer) {
-        Count& count = profile.counts[ant.colour][static_cast<size_t>(ant.state)];
-        count.times++;
-        count.met += *trace.answer == 0 ? 1 : 0;
-    }
-}
-
-Profile profile_of(Game& game, uint64_t rounds) {
+// Counts the turns from the round `from` on.
+Profile profile_of(Game& game, uint64_t rounds, uint64_t from) {
     Profile profile;
     for (int colour : {RED, BLACK}) {
         profile.counts[colour].resize(game.rules.brains[colour]->size());
     }
-    for (uint64_t round = 0; round < rounds; round++) {
-        for (size_t id = 0; id < game.world.places.size(); id++) {
-            count_turn(game, static_cast<int>(id), profile);
+    play_turns(game, rounds, [&](const Turn& turn) {
+        if (turn.trace.answer && turn.round >= from) {
+            Count& count = profile.counts[turn.ant.colour][turn.ant.state];
+            count.times++;
+            count.met += *turn.trace.answer == 0 ? 1 : 0;
         }
-    }
+    });
     return profile;
 }
 
@@ -59,10 +47,11 @@ static const Command here("profile", [](Words& words) {
     const GameFiles files(words);
     Setup setup;
     uint64_t rounds = 0;
-    words.options(seed_and_rounds(setup.seed, rounds) + sheet_options(setup.sheet));
+    uint64_t from = 0;
+    words.options(seed_and_rounds(setup.seed, rounds) + sheet_options(setup.sheet) + Options{from_option(from)});
     files.fetch(setup);
     Game game(setup);
-    const Profile profile = profile_of(game, rounds);
+    const Profile profile = profile_of(game, rounds, from);
     std::string text = seed_line(setup.seed);
     for (int colour : {RED, BLACK}) {
         text += profile_text(colour, setup.brains[colour], profile.counts[colour]);

@@ -8,8 +8,7 @@ static const Command here("trace", [](Words& words) {
     Setup setup;
     uint64_t rounds = 0;
     uint64_t from = 0;
-    words.options(seed_and_rounds(setup.seed, rounds) + sheet_options(setup.sheet) +
-                  Options{free_number("--from", 0, most_rounds, from)});
+    words.options(seed_and_rounds(setup.seed, rounds) + sheet_options(setup.sheet) + Options{from_option(from)});
     files.fetch(setup);
     Game game(setup);
     std::string text = seed_line(setup.seed);

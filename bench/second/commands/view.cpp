@@ -106,13 +106,14 @@ size_t break_that_holds(const std::vector<Break>& breaks, const World& world, ui
     return 0;
 }
 
-std::string view_text(Game& game, const std::vector<Break>& breaks, uint64_t rounds) {
+// Looks for no break before the round `from`.
+std::string view_text(Game& game, const std::vector<Break>& breaks, uint64_t rounds, uint64_t from) {
     Trace trace;
     const int ids = static_cast<int>(game.world.places.size());
     for (uint64_t round = 1; round <= rounds; round++) {
         for (int id = 0; id < ids; id++) {
             take_turn(game.world, game.rules, game.random, id, trace);
-            const size_t number = break_that_holds(breaks, game.world, round, id);
+            const size_t number = round < from ? 0 : break_that_holds(breaks, game.world, round, id);
             if (number > 0) {
                 return "stop: round " + decimal(round) + ", ant " + decimal(id) + ", break " + decimal(number) + "\n" +
                        cells_text(game.world);
@@ -129,9 +130,10 @@ static const Command here("view", [](Words& words) {
     const std::string breaks_name = words.file_name();
     Setup setup;
     uint64_t rounds = 0;
-    words.options(seed_and_rounds(setup.seed, rounds));
+    uint64_t from = 0;
+    words.options(seed_and_rounds(setup.seed, rounds) + Options{from_option(from)});
     files.fetch(setup);
     const std::vector<Break> breaks = read_breaks(breaks_name, fetch(breaks_name));
     Game game(setup);
-    print(seed_line(setup.seed) + view_text(game, breaks, rounds));
+    print(seed_line(setup.seed) + view_text(game, breaks, rounds, from));
 });
