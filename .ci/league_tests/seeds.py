@@ -3,7 +3,7 @@ import os
 import re
 import subprocess
 
-from league_tests.folder import PROGRAM, Folder, needs_parallel
+from league_tests.folder import PROGRAM, Folder, needs_parallel, script
 
 LAST = 4294967295
 
@@ -128,6 +128,12 @@ class Seeds(Folder):
         once = self.called("season", "--check", "12", "1")
         self.assertEqual(once[1].count("seed 12346, "), 4)
         self.assertEqual(self.called("season", "--check", "12", "1", "--", "-j", "2"), once)
+        fails = '#!/bin/sh\ncase "$*" in run*"--seed 12345 "*) echo "ants: it fails" >&2; exit 5;; esac\nexec %s "$@"\n' % PROGRAM
+        script("failing", fails)
+        self.program = os.path.join(self.folder, "failing")
+        status, output, faults = self.called("season", "--check", "12", "1", "--", "-j", "1", "--halt", "never")
+        self.assertEqual((status, "played again: red" in output, "differ" in output), (1, False, False))
+        self.assertIn("league: 0 of 12 games are played again\n", faults)
 
     def test_words(self):
         for self.count in ("0", "1001", "x", "-1", "00000000001", "1.5"):
