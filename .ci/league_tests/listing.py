@@ -253,6 +253,9 @@ class Listing(Folder):
             self.assertEqual(self.bad(name, "profile", "red"), "%s: %s" % (name, told))
             self.assertEqual(self.bad("fetch.asm", name, "red"), "%s: %s" % (name, told))
         self.assertEqual(self.bad("\udcff", "profile", "red"), "\\udcff: No such file or directory")
+        folder = os.open("folder", os.O_RDONLY)
+        self.assertEqual(self.bad("fetch.asm", "-", "red", stdin=folder), "standard input: Is a directory")
+        os.close(folder)
 
     def test_program_that_is_missing_or_another(self):
         words, named = self.profile("fetch.asm"), "; ANTS names the program ants"

@@ -1,9 +1,10 @@
 """Seasons with several seeds, and the leads of their standings."""
 import os
 import re
+import shutil
 import subprocess
 
-from league_tests.folder import PROGRAM, Folder, needs_parallel, script
+from league_tests.folder import PROGRAM, TOP, Folder, needs_parallel, script
 
 LAST = 4294967295
 
@@ -13,7 +14,8 @@ class Seeds(Folder):
 
     def setUp(self):
         super().setUp()
-        self.seed, self.count, self.world = 12345, None, "ambush.world"
+        shutil.copy(os.path.join(TOP, "examples", "sample.brain"), "sample.brain")
+        self.seed, self.count, self.brains = 12345, None, ["step.brain", "sample.brain", "first.brain"]
 
     def words(self, *more, rounds=200):
         words = super().words(*more, rounds=rounds)
@@ -46,7 +48,7 @@ class Seeds(Folder):
     def test_seeds_that_begin_again_at_0(self):
         self.seed, self.count = LAST - 1, 3
         games = self.games([LAST - 1, LAST, 0])
-        self.assertGreater(len({score for _, score in games}), 3)
+        self.assertGreater(len({score for (_, *files), score in games if files == ["ambush.world", "step.brain", "sample.brain"]}), 1)
         self.assertEqual(self.play(), self.standing(games))
         names = ["%s-%d" % (self.name(*files), seed) for (seed, *files), _ in games]
         lines = ["game %d: red %d black %d, seed %d, %s, %s, %s, %s\n" % (number, *score, *its, name)
@@ -83,7 +85,7 @@ class Seeds(Folder):
         self.assertEqual(self.called(*self.words("--calls")), (0, "0 calls in season/calls\n", ""))
         self.assertEqual((self.good("season"), self.text("season/files")), (one, heading.replace("# rounds", "# seeds 1\n# rounds")))
         first = self.good("season", "--games").split("\n")[0]
-        self.assertRegex(first, r"\Agame 1: red \d+ black \d+, seed 12345, ambush.world, step.brain, flip_two.brain, .*-12345\Z")
+        self.assertRegex(first, r"\Agame 1: red \d+ black \d+, seed 12345, ambush.world, step.brain, sample.brain, .*-12345\Z")
         self.count = 2
         self.assertEqual(self.called(*self.words("--calls")), (0, "3 calls in season/calls\n", ""))
         self.assertEqual(re.findall("--seed ([0-9]+)", self.text("season/calls")), 3 * ["12346"])
@@ -138,8 +140,9 @@ class Seeds(Folder):
     def test_words(self):
         for self.count in ("0", "1001", "x", "-1", "00000000001", "1.5"):
             self.assertEqual(self.bad(*self.words("--calls")), "league: --seeds needs a number from 1 to 1000\n")
-        for words in (["season", "--seeds", "1"], ["season", "--leads", "1"], self.words("--seeds", "1"), self.words()[:-1]):
-            self.assertEqual(self.bad(*words).count("\n"), 1)
+        self.assertEqual(self.bad("season", "--seeds", "1"), "league: these words don't go together; league --help tells which do\n")
+        self.assertEqual(self.bad(*self.words("--seeds", "1")), "league: what is --seeds? league --help tells the words\n")
+        self.assertEqual(self.bad(*self.words()[:-1]), "league: --seeds needs a number from 1 to 1000\n")
         self.assertFalse(os.path.exists("season"))
         self.count = "0002"
         self.assertEqual(self.good(*self.words("--calls")), "6 calls in season/calls\n")
@@ -163,4 +166,11 @@ class Seeds(Folder):
         self.assertEqual((self.text("season/files"), self.good("season")), (heading, standing))
         result = min(self.results())
         self.edit(result, "# rounds", "# seeds 1\n# rounds")
-        self.assertEqual(self.bad("season"), "league: %s isn't whole, doesn't add up or contradicts another\n" % result[7:])
+        told = "league: %s isn't whole, doesn't add up or contradicts another\n" % result[7:]
+        self.assertEqual(self.bad("season"), told)
+        seed = re.search("# seed ([0-9]+)\n", self.text(result))[1]
+        with open(result) as file:
+            text = re.sub(r"(?m)^(game \d+: red \d+ black \d+, )", r"\1seed %s, " % seed, file.read())
+        with open(result, "w") as file:
+            file.write(text)  # a whole one of a form that no call writes
+        self.assertEqual(self.bad("season"), told)

@@ -29,8 +29,15 @@ def paragraphs(text):
         yield kept, textwrap.dedent(piece).split("\n") if kept else textwrap.wrap(" ".join(piece.split()), WIDTH, break_on_hyphens=False)
 
 
+def head_of(name):
+    """What heads a script: its docstring, or what it sets `__doc__` to if the shell starts it."""
+    tree = ast.parse(read("examples/" + name))
+    own = [it.value for it in tree.body if isinstance(it, ast.Assign) and isinstance(it.targets[0], ast.Name) and it.targets[0].id == "__doc__"]
+    return ast.literal_eval(own[0]) if own else ast.get_docstring(tree, clean=False)
+
+
 def manual(name):
-    docs = ast.get_docstring(ast.parse(read("examples/" + name)), clean=False)
+    docs = head_of(name)
     title = re.search(r"^\.TH ANTS (.*)$", read("docs/ants.1"), re.M)
     first = docs and re.match(r"(.*?)(?:: examples/(\w+ [^\n]*))?(?:\.? *\n|\. )", docs)
     if not first or not title:
