@@ -249,7 +249,8 @@ class Listing(Folder):
     def test_files(self):
         self.profile("fetch.asm")
         os.mkdir("folder")
-        for name, told in (("gone", "No such file or directory"), ("folder", "Is a directory"), ("profile/x", "Not a directory"), ("/dev/zero", "too long")):
+        for name, told in (("gone", "No such file or directory"), ("folder", "Is a directory"), ("profile/x", "Not a directory"),
+                           ("/dev/zero", "too long")):
             self.assertEqual(self.bad(name, "profile", "red"), "%s: %s" % (name, told))
             self.assertEqual(self.bad("fetch.asm", name, "red"), "%s: %s" % (name, told))
         self.assertEqual(self.bad("\udcff", "profile", "red"), "\\udcff: No such file or directory")
