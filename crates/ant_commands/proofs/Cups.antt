@@ -1,7 +1,8 @@
 -- What was read of the files of a cup can be played, and its players' names are different.
-use Rattle.std.proofs.Common.{◌≡◌, ◌≢◌, ℕ, zero, suc, ◌+◌, ◌<◌, ◌≤◌, Bool, true, false, cond, List, [], ◌∷◌, ◌++◌, length, map, take, get_or, refl, sym, ◌∙◌, ap, subst, arith}
+use Rattle.std.proofs.Common.{◌≡◌, ◌≢◌, ℕ, zero, suc, ◌+◌, ◌*◌, ◌<◌, ◌≤◌, Bool, true, false, cond, List, [], ◌∷◌, ◌++◌, length, map, take, get_or, refl, sym, ◌∙◌, ap, subst, arith}
 use Rattle.std.proofs.lemmas.List.{get_or_default, length-map, map-append, take_more}
 use Rattle.std.proofs.Math.ListN.{get_or-map}
+use Rattle.std.proofs.Math.Nat.{div-lt_iff_lt-mul}
 use Rattle.std.proofs.lemmas.Slice.Eq.{bytes_eq-Decides}
 use Rattle.std.specs.List.{AllByRecursion, take-map}
 use Rattle.std.specs.Prelude.{String, string_bytes}
@@ -22,10 +23,13 @@ use Rattle.command_words.specs.Slots.{AllDiffer}
 use Rattle.match_run.specs.Run.{most_rounds, world_after}
 use Rattle.ant_base.specs.Names.{has_name}
 use Rattle.tournament.specs.Names.{with_name}
+use Rattle.tournament.specs.Seeds.{seed_at, world_at}
+use Rattle.tournament.specs.declared.format.Format.{Format}
+use Rattle.tournament.specs.declared.format.Seeds.{Seeds}
 use Rattle.far_crew.proofs.JobLemmas.{all_at}
 use Rattle.ant_commands.specs.Files.{AreAccepted}
 use Rattle.ant_commands.specs.Inner.Cups.{AreReady, CanBePlayed, Opens}
-use Rattle.ant_commands.specs.Outputs.{brain_file, cup_contents, cup_files, nowhere, score_between}
+use Rattle.ant_commands.specs.Outputs.{brain_file, cup_contents, cup_files, nowhere, score_between, score_in_cup}
 
 -- what was read of the files of a cup: so many worlds at the start of a game, and so many brains with a state at least
 pub record IsRoster (world_count player_count : ℕ) (worlds : List Grid) (players : List (List Instr)) : Type 0 where
@@ -66,9 +70,9 @@ roster (first ∷ world_names) names (fetch ∷ fetches) (world ∷ worlds) play
     }
 
 -- the files of a cup whose words are within their limits were read as what can be played
-pub ready : (world_names names : List (List ℕ)) (seed rounds workers : ℕ) (fetches : List Fetched) (worlds : List Grid) (players : List (List Instr)) → CupWithin world_names names seed rounds workers
+pub ready : (world_names names : List (List ℕ)) (format : Format) (rounds workers : ℕ) (fetches : List Fetched) (worlds : List Grid) (players : List (List Instr)) → CupWithin world_names names format rounds workers
     → AreAccepted (cup_files world_names names) fetches (cup_contents worlds players) → AreReady worlds players
-ready world_names names seed rounds workers fetches worlds players within are =
+ready world_names names format rounds workers fetches worlds players within are =
     let is = roster world_names names fetches worlds players are in
     let worlds_are = is.worlds_counted in
     let players_are = is.players_counted in
@@ -98,38 +102,46 @@ fits : (world : Grid) (red black : List Instr) → Opens world → 1 ≤ length 
 fits world red black opens red_some black_some =
     subst (λ (g : Grid). Fits (world_of g) (contest_minds red black)) (sym opens.opened) (Fits-opening world.width world.height opens.kinds (contest_minds red black) red_some black_some)
 
-playable : (worlds : List Grid) (players : List (List Instr)) (rounds : ℕ) → AreReady worlds players → rounds ≤ most_rounds
-    → (world red black : ℕ) → world < length worlds → red < length players → black < length players → CanBePlayed worlds players rounds world red black
-playable worlds players rounds is few world red black world_there red_there black_there =
+playable : (worlds : List Grid) (players : List (List Instr)) (seeds : Seeds) (rounds : ℕ) → AreReady worlds players → 1 ≤ seeds.count → rounds ≤ most_rounds
+    → (n red black : ℕ) → world_at seeds n < length worlds → red < length players → black < length players → CanBePlayed worlds players seeds rounds n red black
+playable worlds players seeds rounds is some few n red black world_there red_there black_there =
     record {
+      some_seeds = some;
       world_there = world_there;
       red_there = red_there;
       black_there = black_there;
-      fit = fits (get_or worlds world nowhere) (get_or players red []) (get_or players black []) (all_at Opens worlds world nowhere is.opened world_there)
+      fit = fits (get_or worlds (world_at seeds n) nowhere) (get_or players red []) (get_or players black []) (all_at Opens worlds (world_at seeds n) nowhere is.opened world_there)
           (all_at (λ (player : List Instr). 1 ≤ length player) players red [] is.sound red_there)
           (all_at (λ (player : List Instr). 1 ≤ length player) players black [] is.sound black_there);
       few_rounds = few;
     }
 
 -- each game of a cup can be played
-pub all_playable : (worlds others : List Grid) (players same : List (List Instr)) (rounds world_count player_count : ℕ) → others ≡ worlds → same ≡ players → world_count ≡ length others → player_count ≡ length same
-    → AreReady worlds players → rounds ≤ most_rounds → (world red black : ℕ) → world < world_count → red < player_count → black < player_count → red ≢ black → CanBePlayed others same rounds world red black
-all_playable worlds others players same rounds world_count player_count worlds_are players_are worlds_counted players_counted is few world red black world_there red_there black_there differ =
+pub all_playable : (worlds others : List Grid) (players same : List (List Instr)) (seeds : Seeds) (rounds world_count player_count : ℕ) → others ≡ worlds → same ≡ players → world_count ≡ length others → player_count ≡ length same
+    → AreReady worlds players → 1 ≤ seeds.count → rounds ≤ most_rounds → (n red black : ℕ) → world_at seeds n < world_count → red < player_count → black < player_count → red ≢ black
+    → CanBePlayed others same seeds rounds n red black
+all_playable worlds others players same seeds rounds world_count player_count worlds_are players_are worlds_counted players_counted is some few n red black world_there red_there black_there differ =
     let worlds_long = ap length worlds_are in
     let players_long = ap length players_are in
-    rw (worlds_are, players_are) (playable worlds players rounds is few world red black (omega arith) (omega arith) (omega arith))
+    rw (worlds_are, players_are) (playable worlds players seeds rounds is some few n red black (omega arith) (omega arith) (omega arith))
+
+-- a world with a seed is one of the cup's worlds, if its number is below that of all of them
+pub world_within : (seeds : Seeds) (n worlds : ℕ) → 1 ≤ seeds.count → n < worlds * seeds.count → world_at seeds n < worlds
+world_within seeds n worlds some lt = (div-lt_iff_lt-mul {k = seeds.count} {x = n} {y = worlds} some).1 lt
 
 -- the score of a game on a copy of its world
-pub score_between_copy : (worlds : List Grid) (players : List (List Instr)) (seed rounds world red black : ℕ) (field any : Grid) (one two : List Instr) (sheet : Sheet) → CanBePlayed worlds players rounds world red black
-    → field ≡ get_or worlds world any → sheet ≡ contest
-    → score_of (world_after (record { red = get_or players red one; black = get_or players black two; sheet = sheet }) seed (world_of field) rounds) ≡ score_between worlds players seed rounds world red black
+pub score_in_cup_copy : (worlds : List Grid) (players : List (List Instr)) (seeds : Seeds) (seed rounds n world red black : ℕ) (field any : Grid) (one two : List Instr) (sheet : Sheet)
+    → CanBePlayed worlds players seeds rounds n red black → seed ≡ seed_at seeds n → world ≡ world_at seeds n → field ≡ get_or worlds world any → sheet ≡ contest
+    → score_of (world_after (record { red = get_or players red one; black = get_or players black two; sheet = sheet }) seed (world_of field) rounds) ≡ score_in_cup worlds players seeds rounds n red black
 unfolding score_between
-score_between_copy worlds players seed rounds world red black field any one two sheet can copied same =
-    let score : List Instr → List Instr → Sheet → Grid → Score = λ r b s g. score_of (world_after (record { red = r; black = b; sheet = s }) seed (world_of g) rounds) in
-    ap (λ (g : Grid). score (get_or players red one) (get_or players black two) sheet g) (copied ∙ get_or_default worlds world any nowhere can.world_there)
-    ∙ ap (λ (s : Sheet). score (get_or players red one) (get_or players black two) s (get_or worlds world nowhere)) same
-    ∙ ap (λ (r : List Instr). score r (get_or players black two) contest (get_or worlds world nowhere)) (get_or_default players red one [] can.red_there)
-    ∙ ap (λ (b : List Instr). score (get_or players red []) b contest (get_or worlds world nowhere)) (get_or_default players black two [] can.black_there)
+score_in_cup_copy worlds players seeds seed rounds n world red black field any one two sheet can seeded at copied same =
+    let score : ℕ → List Instr → List Instr → Sheet → Grid → Score = λ t r b s g. score_of (world_after (record { red = r; black = b; sheet = s }) t (world_of g) rounds) in
+    let here : field ≡ get_or worlds (world_at seeds n) nowhere = copied ∙ ap (λ (w : ℕ). get_or worlds w any) at ∙ get_or_default worlds (world_at seeds n) any nowhere can.world_there in
+    ap (λ (g : Grid). score seed (get_or players red one) (get_or players black two) sheet g) here
+    ∙ ap (λ (t : ℕ). score t (get_or players red one) (get_or players black two) sheet (get_or worlds (world_at seeds n) nowhere)) seeded
+    ∙ ap (λ (s : Sheet). score (seed_at seeds n) (get_or players red one) (get_or players black two) s (get_or worlds (world_at seeds n) nowhere)) same
+    ∙ ap (λ (r : List Instr). score (seed_at seeds n) r (get_or players black two) contest (get_or worlds (world_at seeds n) nowhere)) (get_or_default players red one [] can.red_there)
+    ∙ ap (λ (b : List Instr). score (seed_at seeds n) (get_or players red []) b contest (get_or worlds (world_at seeds n) nowhere)) (get_or_default players black two [] can.black_there)
 
 other_name : (name other : List ℕ) → other ≢ name → bytes_eq name other ≡ false
 other_name name other differ = go (bytes_eq name other) refl

@@ -5,13 +5,13 @@ use Rattle.cell_world.specs.Grid.{world_of}
 use Rattle.command_words.specs.Command.{IsCommand, PlainAsked}
 use Rattle.command_words.specs.declared.table.CommandKind.TheVariants.{Run}
 use Rattle.match_run.specs.Counts.{counts_text, totals_of}
-use Rattle.tournament.specs.Games.{all_played}
-use Rattle.tournament.specs.Printed.{games_text}
+use Rattle.tournament.specs.Printed.{first_played, games_text}
+use Rattle.tournament.specs.declared.format.Format.{Format}
 use Rattle.ant_commands.specs.Files.{File, FileContent}
 use Rattle.ant_commands.specs.Headline.{KeepsPromise, PrintsTheGame}
 use Rattle.ant_commands.specs.Job.{WritesInPlay, plain_job}
 use Rattle.ant_commands.specs.Jobs.{cup_job}
-use Rattle.ant_commands.specs.Outputs.{ReadCup, Tells, TellsFirstWorlds, minds_named, roster_contents, score_between}
+use Rattle.ant_commands.specs.Outputs.{ReadCup, Tells, TellsFirstWorlds, minds_named, roster_contents, score_in_cup}
 use Rattle.ant_commands.specs.Outside.{Outside}
 use Rattle.ant_commands.specs.Setups.{setup_of}
 
@@ -19,18 +19,18 @@ use Rattle.ant_commands.specs.Setups.{setup_of}
 plain_writes_none : (files : List File) (IsText : List FileContent → List ℕ → Type 0) (contents : List FileContent) (front : List ℕ) → WritesInPlay (plain_job files IsText) contents front → ⊥
 plain_writes_none files IsText contents front is = is
 
-untold_cup : (worlds brains : List (List ℕ)) (seed rounds workers : ℕ) (contents : List FileContent) (front : List ℕ) → WritesInPlay (cup_job worlds brains seed rounds workers false) contents front → ⊥
-untold_cup worlds brains seed rounds workers contents front is = is
+untold_cup : (worlds brains : List (List ℕ)) (format : Format) (rounds workers : ℕ) (contents : List FileContent) (front : List ℕ) → WritesInPlay (cup_job worlds brains format rounds workers false) contents front → ⊥
+untold_cup worlds brains format rounds workers contents front is = is
 
 -- a cup that tells its games has written the lines of its first worlds' games
-cup_in_play : (worlds brains : List (List ℕ)) (seed rounds workers : ℕ) (contents : List FileContent) (front : List ℕ) → WritesInPlay (cup_job worlds brains seed rounds workers true) contents front
-    → Tells roster_contents (TellsFirstWorlds worlds brains seed rounds) contents front
-cup_in_play worlds brains seed rounds workers contents front is = is
+cup_in_play : (worlds brains : List (List ℕ)) (format : Format) (rounds workers : ℕ) (contents : List FileContent) (front : List ℕ) → WritesInPlay (cup_job worlds brains format rounds workers true) contents front
+    → Tells roster_contents (TellsFirstWorlds worlds brains format rounds) contents front
+cup_in_play worlds brains format rounds workers contents front is = is
 
 -- which are no more than it has
-first_worlds_tell : (worlds names : List (List ℕ)) (seed rounds : ℕ) (cup : ReadCup) (text : List ℕ) → TellsFirstWorlds worlds names seed rounds cup text
-    → (told : ℕ) × (told ≤ length worlds) × (text ≡ games_text worlds names (all_played (length names) told (score_between cup.worlds cup.players seed rounds)) 1)
-first_worlds_tell worlds names seed rounds cup text is = (is.told, is.some, is.is)
+first_worlds_tell : (worlds names : List (List ℕ)) (format : Format) (rounds : ℕ) (cup : ReadCup) (text : List ℕ) → TellsFirstWorlds worlds names format rounds cup text
+    → (told : ℕ) × (told ≤ length worlds) × (text ≡ games_text format worlds names (first_played format names told (score_in_cup cup.worlds cup.players format.seeds rounds)) 1)
+first_worlds_tell worlds names format rounds cup text is = (is.told, is.some, is.is)
 
 -- at status 0 a game was printed with its own counts
 counts_printed : (words : List (List ℕ)) (before after : Outside) (number : ℕ) → KeepsPromise words before after number → number ≡ 0 → (asked : PlainAsked) → IsCommand words asked → asked.kind ≡ Run

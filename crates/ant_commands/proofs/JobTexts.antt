@@ -1,5 +1,5 @@
 -- What is kept of each command's job: its text ends in LF, is one, and is there.
-use Rattle.std.proofs.Common.{Bool, List, [], ap, ap₂, append-nil, arith, false, inl, inr, length, refl, subst, sym, true, ℕ, ◌++◌, ◌∙◌, ◌∷◌, ◌≡◌, ◌≤◌, ◌⊎◌, ◌||◌}
+use Rattle.std.proofs.Common.{◌*◌, Bool, List, [], ap, ap₂, append-nil, arith, false, inl, inr, length, refl, subst, sym, true, ℕ, ◌++◌, ◌∙◌, ◌∷◌, ◌≡◌, ◌≤◌, ◌⊎◌, ◌||◌}
 use Rattle.ant_asm.proofs.HasAssembled.{assembled-some, has_assembled}
 use Rattle.ant_asm.proofs.LineInstructions.{line_for_each}
 use Rattle.ant_asm.specs.Labels.{labels_text}
@@ -19,7 +19,7 @@ use Rattle.brain_same.specs.Text.{comparison_text, way_text}
 use Rattle.break_view.proofs.ViewLaws.{one_first_stop}
 use Rattle.break_view.specs.Texts.{view_of}
 use Rattle.cell_world.specs.Grid.{Grid, world_of}
-use Rattle.ant_commands.specs.Setups.{CupWithin, RunSetup, ShapeWithin, resume_of, save_setup_of, setup_of, shape_of, told_of, trace_of}
+use Rattle.ant_commands.specs.Setups.{CupWithin, RunSetup, ShapeWithin, format_of, resume_of, save_setup_of, setup_of, shape_of, told_of, trace_of}
 use Rattle.ant_commands.specs.Jobs.{asm_job, brain_job, cup_job, gen_job, help_job, job_by, job_of, minimise_job, same_job, version_job, view_job, workload_job}
 use Rattle.ant_commands.specs.declared.commands.setups.GenShape.{GenShape}
 use Rattle.match_run.specs.Counts.{whole_text}
@@ -27,6 +27,7 @@ use Rattle.tournament.proofs.LawsLemmas.{standing_law}
 use Rattle.tournament.proofs.SortedLines.{has_standing}
 use Rattle.tournament.specs.Text.{standing_text}
 use Rattle.tournament.specs.Printed.{cup_played, games_text}
+use Rattle.tournament.specs.declared.format.Format.{Format}
 use Rattle.tournament.specs.declared.standing.Line.{Line}
 use Rattle.world_gen.proofs.HasWorlds.{has_outcome}
 use Rattle.world_gen.proofs.Unique.{one_outcome}
@@ -37,7 +38,7 @@ use Rattle.world_read.specs.Canonical.{canonical_text}
 use Rattle.world_read.specs.Opened.{kinds_of}
 use Rattle.ant_commands.specs.Files.{AreAccepted, File, FileContent}
 use Rattle.ant_commands.specs.Help.{help_text, version_text}
-use Rattle.ant_commands.specs.Outputs.{IsAsmOutput, IsCupOutput, IsViewOutput, ReadCup, ReadGame, ReadPair, ReadProgram, ReadView, Tells, TellsGenerated, TellsMinimised, TellsSame, TellsWorkload, advance_output, brain_contents, brain_file, pair_contents, contest_shape, roster_contents, cup_files, events_output, game_contents, game_files, is_text_of, labelled_file, match_output, minimise_output, profile_output, program_contents, resume_output, save_output, score_between, shape_named, show_output, source_contents, source_text, summary_of, trace_output, workload_text}
+use Rattle.ant_commands.specs.Outputs.{IsAsmOutput, IsCupOutput, IsViewOutput, ReadCup, ReadGame, ReadPair, ReadProgram, ReadView, Tells, TellsGenerated, TellsMinimised, TellsSame, TellsWorkload, advance_output, brain_contents, brain_file, pair_contents, contest_shape, roster_contents, cup_files, events_output, game_contents, game_files, is_text_of, labelled_file, match_output, minimise_output, profile_output, program_contents, resume_output, save_output, score_in_cup, shape_named, show_output, source_contents, source_text, summary_of, trace_output, workload_text}
 use Rattle.ant_commands.specs.Job.{Job, plain_job}
 use Rattle.command_words.specs.Command.{AskedWithin, PlainAsked}
 use Rattle.command_words.specs.declared.table.CommandKind.{CommandKind}
@@ -64,17 +65,17 @@ program-some : (name : List ℕ) (fetches : List Fetched) (program : ReadProgram
 program-some name [] program are = absurd are
 program-some name (fetch ∷ fetches) program are = assembled-some are.0.bytes program.brain program.places are.0.reads
 
-cup-ends : (games : Bool) (worlds brains : List (List ℕ)) (seed rounds workers : ℕ) (fetches : List Fetched) (cup : ReadCup) (text : List ℕ) → CupWithin worlds brains seed rounds workers
-    → AreAccepted (cup_files worlds brains) fetches (roster_contents cup) → IsCupOutput games worlds brains seed rounds cup text → ends_in_lf text ≡ true
-cup-ends false worlds brains seed rounds workers fetches cup text within are told =
+cup-ends : (games : Bool) (worlds brains : List (List ℕ)) (format : Format) (rounds workers : ℕ) (fetches : List Fetched) (cup : ReadCup) (text : List ℕ) → CupWithin worlds brains format rounds workers
+    → AreAccepted (cup_files worlds brains) fetches (roster_contents cup) → IsCupOutput games worlds brains format rounds cup text → ends_in_lf text ≡ true
+cup-ends false worlds brains format rounds workers fetches cup text within are told =
     let counted = players_counted worlds brains fetches cup.worlds cup.players are in
     let enough : 2 ≤ length brains = within.brain_names.enough in
     let some : 1 ≤ length cup.players = omega (arith, counted, enough) in
-    ends told.is (lf_standing brains (length cup.players) (length cup.worlds) (score_between cup.worlds cup.players seed rounds) told.lines some told.standing)
-cup-ends true worlds brains seed rounds workers fetches cup text within are told =
+    ends told.is (lf_standing format.leads format.gauntlet brains (length cup.players) (length cup.worlds * format.seeds.count) (score_in_cup cup.worlds cup.players format.seeds rounds) told.lines some told.standing)
+cup-ends true worlds brains format rounds workers fetches cup text within are told =
     let enough : 2 ≤ length brains = within.brain_names.enough in
     let some : 1 ≤ length brains = omega (arith, enough) in
-    (lf_printed worlds brains (score_between cup.worlds cup.players seed rounds) text some told).is
+    (lf_printed format worlds brains (score_in_cup cup.worlds cup.players format.seeds rounds) text some told).is
 
 minimise-ends : (states : Bool) (name : List ℕ) (fetches : List Fetched) (old : List Instr) (text : List ℕ) → AreAccepted (brain_file name ∷ []) fetches (brain_contents old)
     → TellsMinimised states old text → ends_in_lf text ≡ true
@@ -125,15 +126,15 @@ one-minimised states list text other a b =
 one-view : (seed rounds : ℕ) (view : ReadView) (text other : List ℕ) → IsViewOutput seed rounds view text → IsViewOutput seed rounds view other → text ≡ other
 one-view seed rounds view text other a b = one_first_stop.one_view (contest_minds view.game.red view.game.black) seed rounds (world_of view.game.world) view.breaks text other a b
 
-one-cup : (games : Bool) (worlds names : List (List ℕ)) (seed rounds : ℕ) (cup : ReadCup) (text other : List ℕ) → IsCupOutput games worlds names seed rounds cup text → IsCupOutput games worlds names seed rounds cup other
+one-cup : (games : Bool) (worlds names : List (List ℕ)) (format : Format) (rounds : ℕ) (cup : ReadCup) (text other : List ℕ) → IsCupOutput games worlds names format rounds cup text → IsCupOutput games worlds names format rounds cup other
     → text ≡ other
-one-cup false worlds names seed rounds cup text other a b =
+one-cup false worlds names format rounds cup text other a b =
     a.is
-    ∙ ap (standing_text names) (standing_law (length cup.players) (length cup.worlds) (score_between cup.worlds cup.players seed rounds) a.lines b.lines a.standing b.standing)
+    ∙ ap (standing_text format.leads names) (standing_law format.gauntlet (length cup.players) (length cup.worlds * format.seeds.count) (score_in_cup cup.worlds cup.players format.seeds rounds) a.lines b.lines a.standing b.standing)
     ∙ sym b.is
-one-cup true worlds names seed rounds cup text other a b =
-    let score = score_between cup.worlds cup.players seed rounds in
-    a.is ∙ ap (λ (lines : List Line). games_text worlds names (cup_played worlds names score) 1 ++ standing_text names lines) (standing_law (length names) (length worlds) score a.lines b.lines a.standing b.standing)
+one-cup true worlds names format rounds cup text other a b =
+    let score = score_in_cup cup.worlds cup.players format.seeds rounds in
+    a.is ∙ ap (λ (lines : List Line). games_text format worlds names (cup_played format worlds names score) 1 ++ standing_text format.leads names lines) (standing_law format.gauntlet (length names) (length worlds * format.seeds.count) score a.lines b.lines a.standing b.standing)
     ∙ sym b.is
 
 one-generated : (seed : ℕ) (shape : Shape) (text other : List ℕ) → TellsGenerated seed shape text → TellsGenerated seed shape other → text ≡ other
@@ -172,14 +173,14 @@ has-same false one two (first ∷ second ∷ fetches) pair are =
     let found = has_comparison pair.first pair.second (brain_of are.0.bytes pair.first are.0.reads) (brain_of are.1.0.bytes pair.second are.1.0.reads) in
     (comparison_text found.0, record { comparison = found.0; is = found.1; told = refl })
 
-has-cup : (games : Bool) (worlds names : List (List ℕ)) (seed rounds : ℕ) (cup : ReadCup) → (text : List ℕ) × IsCupOutput games worlds names seed rounds cup text
-has-cup false worlds names seed rounds cup =
-    let standing = has_standing (length cup.players) (length cup.worlds) (score_between cup.worlds cup.players seed rounds) in
-    (standing_text names standing.0, record { lines = standing.0; standing = standing.1; is = refl })
-has-cup true worlds names seed rounds cup =
-    let score = score_between cup.worlds cup.players seed rounds in
-    let standing = has_standing (length names) (length worlds) score in
-    (games_text worlds names (cup_played worlds names score) 1 ++ standing_text names standing.0, record { lines = standing.0; standing = standing.1; is = refl })
+has-cup : (games : Bool) (worlds names : List (List ℕ)) (format : Format) (rounds : ℕ) (cup : ReadCup) → (text : List ℕ) × IsCupOutput games worlds names format rounds cup text
+has-cup false worlds names format rounds cup =
+    let standing = has_standing format.gauntlet (length cup.players) (length cup.worlds * format.seeds.count) (score_in_cup cup.worlds cup.players format.seeds rounds) in
+    (standing_text format.leads names standing.0, record { lines = standing.0; standing = standing.1; is = refl })
+has-cup true worlds names format rounds cup =
+    let score = score_in_cup cup.worlds cup.players format.seeds rounds in
+    let standing = has_standing format.gauntlet (length names) (length worlds * format.seeds.count) score in
+    (games_text format worlds names (cup_played format worlds names score) 1 ++ standing_text format.leads names standing.0, record { lines = standing.0; standing = standing.1; is = refl })
 
 has-view : (seed rounds : ℕ) (view : ReadView) → (text : List ℕ) × IsViewOutput seed rounds view text
 has-view seed rounds view =
@@ -260,11 +261,11 @@ gen-laws a seed = record {
   crowded = λ element lacks. (refl, λ contents text is. one_outcome.none seed (shape_named (shape_of a)) is.told.generated.placed element is.told.generated.placing lacks);
 }
 
-cup-laws : (a : PlainAsked) → a.kind ≡ Cup → JobLaws a (cup_job (a.names Worlds) (a.names Brains) (a.option Seed) (a.option Rounds) (a.option Workers) (a.has Games))
+cup-laws : (a : PlainAsked) → a.kind ≡ Cup → JobLaws a (cup_job (a.names Worlds) (a.names Brains) (format_of a) (a.option Rounds) (a.option Workers) (a.has Games))
 cup-laws a kind = record {
-  ends = λ within fetches contents text are is. inl (cup-ends (a.has Games) (a.names Worlds) (a.names Brains) (a.option Seed) (a.option Rounds) (a.option Workers) fetches is.value text (cup-within a kind within) (subst (AreAccepted (cup_files (a.names Worlds) (a.names Brains)) fetches) is.read are) is.told);
-  one = λ contents text other x y. one_told (read_cup (a.names Worlds) (a.names Brains)) contents text other (λ cup. one-cup (a.has Games) (a.names Worlds) (a.names Brains) (a.option Seed) (a.option Rounds) cup text other) x y;
-  has = λ within fetches contents are room. has_told (read_cup (a.names Worlds) (a.names Brains)) fetches contents are (λ cup accepted. has-cup (a.has Games) (a.names Worlds) (a.names Brains) (a.option Seed) (a.option Rounds) cup);
+  ends = λ within fetches contents text are is. inl (cup-ends (a.has Games) (a.names Worlds) (a.names Brains) (format_of a) (a.option Rounds) (a.option Workers) fetches is.value text (cup-within a kind within) (subst (AreAccepted (cup_files (a.names Worlds) (a.names Brains)) fetches) is.read are) is.told);
+  one = λ contents text other x y. one_told (read_cup (a.names Worlds) (a.names Brains)) contents text other (λ cup. one-cup (a.has Games) (a.names Worlds) (a.names Brains) (format_of a) (a.option Rounds) cup text other) x y;
+  has = λ within fetches contents are room. has_told (read_cup (a.names Worlds) (a.names Brains)) fetches contents are (λ cup accepted. has-cup (a.has Games) (a.names Worlds) (a.names Brains) (format_of a) (a.option Rounds) cup);
   crowded = λ element lacks. absurd lacks;
 }
 

@@ -140,7 +140,7 @@ two_brains = (Drop 0 ∷ []) ∷ (Drop 1 ∷ Drop 0 ∷ []) ∷ []
 
 cup_games_are_runs_used : CupGamesAreRuns → (world : Grid)
     → match_output plain (record { world = world; red = Drop 1 ∷ Drop 0 ∷ []; black = Drop 0 ∷ [] }) ≡ seed_text 7 +++ score_text (score_between (world ∷ []) two_brains 7 5 0 1 0)
-cup_games_are_runs_used law world = law (world ∷ []) two_brains plain 0 1 0 refl refl refl
+cup_games_are_runs_used law world = law (world ∷ []) two_brains (record { first = 6; count = 2 }) plain 1 1 0 refl refl refl refl
 
 -- the save of a game, two rounds later
 abbrev advance_asked_later : PlainAsked

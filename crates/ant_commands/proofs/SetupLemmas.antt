@@ -5,12 +5,12 @@ use Rattle.command_words.specs.Command.{AreWithin, AskedWithin, PlainAsked}
 use Rattle.command_words.specs.Limits.{IsWithin}
 use Rattle.command_words.specs.Slots.{DumpChoice}
 use Rattle.command_words.specs.Table.{places_of}
-use Rattle.command_words.specs.declared.limits.NumberKind.TheVariants.{SeedNumber, RoundCount, WorkerCount, WindowSize, FoeCount, CorpseFood, RestRounds, SideLength, ElementCount}
+use Rattle.command_words.specs.declared.limits.NumberKind.TheVariants.{SeedNumber, RoundCount, WorkerCount, WindowSize, FoeCount, CorpseFood, RestRounds, SideLength, ElementCount, SeedCount}
 use Rattle.command_words.specs.declared.slot.Place.TheVariants.{Names}
 use Rattle.command_words.specs.declared.table.CommandKind.TheVariants.{Cup}
-use Rattle.command_words.specs.declared.table.Choice.TheVariants.{Seed, Rounds, Workers, Window, Surround, Corpse, Rest, Width, Height, Rocks, Blobs}
+use Rattle.command_words.specs.declared.table.Choice.TheVariants.{Seed, Seeds, Rounds, Workers, Window, Surround, Corpse, Rest, Width, Height, Rocks, Blobs}
 use Rattle.command_words.specs.declared.table.NameList.TheVariants.{Worlds, Brains}
-use Rattle.ant_commands.specs.Setups.{CupWithin, SetupWithin, ShapeWithin, ToldSetup, setup_of, shape_of, told_of}
+use Rattle.ant_commands.specs.Setups.{CupWithin, SetupWithin, ShapeWithin, ToldSetup, format_of, setup_of, shape_of, told_of}
 
 pub setup-within : (a : PlainAsked) → AskedWithin a → SetupWithin (setup_of a)
 setup-within a within = record {
@@ -48,11 +48,12 @@ shape-within a within = record {
   blobs = within.option Blobs ElementCount refl;
 }
 
-pub cup-within : (a : PlainAsked) → a.kind ≡ Cup → AskedWithin a → CupWithin (a.names Worlds) (a.names Brains) (a.option Seed) (a.option Rounds) (a.option Workers)
+pub cup-within : (a : PlainAsked) → a.kind ≡ Cup → AskedWithin a → CupWithin (a.names Worlds) (a.names Brains) (format_of a) (a.option Rounds) (a.option Workers)
 cup-within a is within = record {
   world_names = within.names Worlds (subst (λ kind. Contains (places_of kind) (Names Worlds)) (sym is) (1, lit< tt, refl));
   brain_names = within.names Brains (subst (λ kind. Contains (places_of kind) (Names Brains)) (sym is) (3, lit< tt, refl));
   seed_within = within.option Seed SeedNumber refl;
+  seeds_within = within.option Seeds SeedCount refl;
   rounds_within = within.option Rounds RoundCount refl;
   workers_within = within.option Workers WorkerCount refl;
 }

@@ -57,8 +57,9 @@ use Rattle.tournament.proofs.GamesLemmas.{length-below}
 use Rattle.tournament.specs.Games.{all_played, below}
 use Rattle.tournament.specs.Names.{name_of}
 use Rattle.tournament.specs.Standing.{Ranks, line_of}
-use Rattle.tournament.specs.Text.{standing_text, table_line_text}
+use Rattle.tournament.specs.Text.{lead_part, lead_text, standing_text, table_line_text}
 use Rattle.tournament.specs.Printed.{IsPrintedCupText, cup_played, games_text}
+use Rattle.tournament.specs.declared.format.Format.{Format}
 use Rattle.tournament.specs.declared.standing.Line.{Line}
 use Rattle.world_read.specs.Bytes.{byte_of}
 use Rattle.world_read.specs.Canonical.{canonical_text, cell_text, line_of_row, space_if}
@@ -305,10 +306,17 @@ pub lf_view : (w : World) (seed rounds : ℕ) (stop : Option Stop) → EndsInLf 
 unfolding view_text
 lf_view w seed rounds stop = lf_last (seed_text seed) (end_text w rounds stop) (lf_end_of w rounds stop)
 
-lf_table_line : (names : List (List ℕ)) (line : Line) → EndsInLf (table_line_text names line)
+lf_lead_part : (leads : Bool) (line : Line) → EndsInLf (lead_part leads line)
+lf_lead_part false line = record { is = refl }
+lf_lead_part true line =
+    let lead : List ℕ = lead_text line +++ codes "\n" in
+    lf_last (codes ", lead ") lead (lf_last (lead_text line) (codes "\n") (record { is = refl }))
+
+lf_table_line : (leads : Bool) (names : List (List ℕ)) (line : Line) → EndsInLf (table_line_text leads names line)
 unfolding table_line_text
-lf_table_line names line =
-    let lost : List ℕ = decimal line.lost +++ codes " lost)\n" in
+lf_table_line leads names line =
+    let end : List ℕ = codes " lost)" +++ lead_part leads line in
+    let lost : List ℕ = decimal line.lost +++ end in
     let third : List ℕ = codes " drawn, " +++ lost in
     let drawn : List ℕ = decimal line.drawn +++ third in
     let second : List ℕ = codes " won, " +++ drawn in
@@ -317,7 +325,8 @@ lf_table_line names line =
     let name : List ℕ = name_of names line.player +++ first in
     let points : List ℕ = codes " points: " +++ name in
     lf_last (decimal line.points) points (lf_last (codes " points: ") name (lf_last (name_of names line.player) first (lf_last (codes " (") won (lf_last (decimal line.won) second
-    (lf_last (codes " won, ") drawn (lf_last (decimal line.drawn) third (lf_last (codes " drawn, ") lost (lf_last (decimal line.lost) (codes " lost)\n") (record { is = refl })))))))))
+    (lf_last (codes " won, ") drawn (lf_last (decimal line.drawn) third (lf_last (codes " drawn, ") lost (lf_last (decimal line.lost) end
+    (lf_last (codes " lost)") (lead_part leads line) (lf_lead_part leads line))))))))))
 
 pub lf_workload : (seed rounds : ℕ) (summary : Summary) → EndsInLf (workload_text seed rounds summary)
 unfolding workload_text
@@ -333,18 +342,19 @@ unfolding version_text
 lf_version = record { is = refl }
 
 -- a standing has a line for each player
-pub lf_standing : (names : List (List ℕ)) (players worlds : ℕ) (score : ℕ → ℕ → ℕ → Score) (lines : List Line) → 1 ≤ players → Ranks players (all_played players worlds score) lines → EndsInLf (standing_text names lines)
-lf_standing names players worlds score lines some at =
-    let counted = length_permutation (map (line_of (all_played players worlds score)) (below players)) lines at.each in
-    let each = length-map (below players) (line_of (all_played players worlds score)) in
+pub lf_standing : (leads gauntlet : Bool) (names : List (List ℕ)) (players worlds : ℕ) (score : ℕ → ℕ → ℕ → Score) (lines : List Line) → 1 ≤ players → Ranks players (all_played gauntlet players worlds score) lines → EndsInLf (standing_text leads names lines)
+lf_standing leads gauntlet names players worlds score lines some at =
+    let counted = length_permutation (map (line_of (all_played gauntlet players worlds score)) (below players)) lines at.each in
+    let each = length-map (below players) (line_of (all_played gauntlet players worlds score)) in
     let all = length-below players in
-    lf_flat_map (table_line_text names) lines (omega (arith, counted, each, all, some)) (lf_table_line names)
+    lf_flat_map (table_line_text leads names) lines (omega (arith, counted, each, all, some)) (lf_table_line leads names)
 
 -- the lines of games stand before it
-pub lf_printed : (worlds names : List (List ℕ)) (score : ℕ → ℕ → ℕ → Score) (text : List ℕ) → 1 ≤ length names → IsPrintedCupText worlds names score text → EndsInLf text
-lf_printed worlds names score text some told =
+pub lf_printed : (format : Format) (worlds names : List (List ℕ)) (score : ℕ → ℕ → ℕ → Score) (text : List ℕ) → 1 ≤ length names → IsPrintedCupText format worlds names score text → EndsInLf text
+lf_printed format worlds names score text some told =
     subst EndsInLf (sym told.is)
-    (lf_last (games_text worlds names (cup_played worlds names score) 1) (standing_text names told.lines) (lf_standing names (length names) (length worlds) score told.lines some told.standing))
+    (lf_last (games_text format worlds names (cup_played format worlds names score) 1) (standing_text format.leads names told.lines)
+    (lf_standing format.leads format.gauntlet names (length names) (length worlds * format.seeds.count) score told.lines some told.standing))
 
 -- the line of the seed
 lf_seed : (seed : ℕ) → EndsInLf (seed_text seed)

@@ -45,9 +45,26 @@ pub gen_asked : job_of (asked_in Gen (words_of (codes "gen 7 --blobs 2 --rocks 3
 unfolding is_among rest_after is_file_name is_dumps dumps_of decimal_value
 gen_asked = refl
 
-pub cup_asked : job_of (asked_in Cup (words_of (codes "cup --worlds w x --brains a b --games --workers 3 --rounds 2 --seed 1"))) ≡ cup_job (codes "w" ∷ codes "x" ∷ []) (codes "a" ∷ codes "b" ∷ []) 1 2 3 true
+pub cup_asked : job_of (asked_in Cup (words_of (codes "cup --worlds w x --brains a b --games --workers 3 --rounds 2 --seed 1")))
+    ≡ cup_job (codes "w" ∷ codes "x" ∷ []) (codes "a" ∷ codes "b" ∷ []) (record { gauntlet = false; leads = false; seeds = record { first = 1; count = 1 }; shows_seeds = false }) 2 3 true
 unfolding is_among rest_after is_file_name is_dumps dumps_of decimal_value
 cup_asked = refl
+
+-- each option of a cup alone
+pub cup_seeds_asked : job_of (asked_in Cup (words_of (codes "cup --worlds w --brains a b --seed 7 --seeds 3 --rounds 2")))
+    ≡ cup_job (codes "w" ∷ []) (codes "a" ∷ codes "b" ∷ []) (record { gauntlet = false; leads = false; seeds = record { first = 7; count = 3 }; shows_seeds = true }) 2 1 false
+unfolding is_among rest_after is_file_name is_dumps dumps_of decimal_value
+cup_seeds_asked = refl
+
+pub cup_leads_asked : job_of (asked_in Cup (words_of (codes "cup --worlds w --brains a b --seed 7 --leads --rounds 2")))
+    ≡ cup_job (codes "w" ∷ []) (codes "a" ∷ codes "b" ∷ []) (record { gauntlet = false; leads = true; seeds = record { first = 7; count = 1 }; shows_seeds = false }) 2 1 false
+unfolding is_among rest_after is_file_name is_dumps dumps_of decimal_value
+cup_leads_asked = refl
+
+pub cup_gauntlet_asked : job_of (asked_in Cup (words_of (codes "cup --worlds w --brains a b --seed 7 --gauntlet --rounds 2")))
+    ≡ cup_job (codes "w" ∷ []) (codes "a" ∷ codes "b" ∷ []) (record { gauntlet = true; leads = false; seeds = record { first = 7; count = 1 }; shows_seeds = false }) 2 1 false
+unfolding is_among rest_after is_file_name is_dumps dumps_of decimal_value
+cup_gauntlet_asked = refl
 
 pub view_asked : job_of (asked_in View (words_of (codes "view w r b k --rounds 5 --seed 7"))) ≡ view_job (codes "w") (codes "r") (codes "b") (codes "k") 7 5
 unfolding is_among rest_after is_file_name is_dumps dumps_of decimal_value

@@ -10,8 +10,9 @@ use Rattle.command_words.specs.declared.table.NameList.TheVariants.{Worlds, Brai
 use Rattle.ant_commands.specs.declared.commands.setups.GenShape.{GenShape}
 use Rattle.ant_commands.specs.Help.{help_text, version_text}
 use Rattle.ant_commands.specs.Job.{Job, plain_job}
+use Rattle.tournament.specs.declared.format.Format.{Format}
 use Rattle.ant_commands.specs.Outputs.{CupInPlay, IsAsmOutput, IsCupOutput, IsViewOutput, Tells, TellsGenerated, TellsMinimised, TellsSame, TellsWorkload, advance_output, brain_contents, brain_file, break_file, contest_shape, cup_files, events_output, game_contents, game_files, is_text_of, labelled_file, match_output, no_contents, pair_contents, profile_output, resume_output, roster_contents, save_contents, save_file, save_output, shape_named, show_output, trace_output, view_contents, world_contents, world_file}
-use Rattle.ant_commands.specs.Setups.{ResumeSetup, RunSetup, ToldSetup, TraceSetup, resume_of, save_setup_of, setup_of, shape_of, told_of, trace_of}
+use Rattle.ant_commands.specs.Setups.{ResumeSetup, RunSetup, ToldSetup, TraceSetup, format_of, resume_of, save_setup_of, setup_of, shape_of, told_of, trace_of}
 
 abbrev pub show_job : List ℕ → ℕ → Job
 show_job world seed = plain_job (world_file world ∷ []) (Tells world_contents (is_text_of (show_output seed)))
@@ -28,9 +29,9 @@ run_job world red black setup = record (plain_job (game_files world red black) (
 abbrev pub gen_job : ℕ → GenShape → Job
 gen_job seed shape = record (plain_job [] (Tells no_contents (λ nothing. TellsGenerated seed (shape_named shape)))) { Lacks = HasNoRoom seed (shape_named shape) }
 
-abbrev pub cup_job : List (List ℕ) → List (List ℕ) → ℕ → ℕ → ℕ → Bool → Job
-cup_job worlds brains seed rounds workers games =
-    record (plain_job (cup_files worlds brains) (Tells roster_contents (IsCupOutput games worlds brains seed rounds))) { InPlay = CupInPlay games worlds brains seed rounds }
+abbrev pub cup_job : List (List ℕ) → List (List ℕ) → Format → ℕ → ℕ → Bool → Job
+cup_job worlds brains format rounds workers games =
+    record (plain_job (cup_files worlds brains) (Tells roster_contents (IsCupOutput games worlds brains format rounds))) { InPlay = CupInPlay games worlds brains format rounds }
 
 abbrev pub view_job : List ℕ → List ℕ → List ℕ → List ℕ → ℕ → ℕ → Job
 view_job world red black breaks seed rounds = plain_job (game_files world red black ++ break_file breaks ∷ []) (Tells view_contents (IsViewOutput seed rounds))
@@ -75,7 +76,7 @@ job_by Brain a = brain_job (a.file 0)
 job_by Minimise a = minimise_job (a.file 0) (a.has States)
 job_by Run a = run_job (a.file 0) (a.file 1) (a.file 2) (setup_of a)
 job_by Gen a = gen_job (a.number 0) (shape_of a)
-job_by Cup a = cup_job (a.names Worlds) (a.names Brains) (a.option Seed) (a.option Rounds) (a.option Workers) (a.has Games)
+job_by Cup a = cup_job (a.names Worlds) (a.names Brains) (format_of a) (a.option Rounds) (a.option Workers) (a.has Games)
 job_by View a = view_job (a.file 0) (a.file 1) (a.file 2) (a.file 3) (a.option Seed) (a.option Rounds)
 job_by Workload a = workload_job (a.number 0) (a.number 1) (a.number 2)
 job_by Help a = help_job

@@ -36,7 +36,9 @@ use Rattle.ant_commands.specs.Files.{AreAccepted, FileContent, Reads}
 use Rattle.ant_commands.specs.Files.FileContent.{SaveContent}
 use Rattle.ant_commands.specs.Files.FileKind.{SaveFile}
 use Rattle.ant_commands.specs.Job.{HasRoom, IsJobText, files_of}
-use Rattle.ant_commands.specs.Outputs.{ReadGame, chosen_rounds, game_contents, game_files, match_output, minds_named, nowhere, save_contents, score_between, sheet_named}
+use Rattle.ant_commands.specs.Outputs.{ReadGame, chosen_rounds, game_contents, game_files, match_output, minds_named, nowhere, save_contents, score_in_cup, sheet_named}
+use Rattle.tournament.specs.Seeds.{seed_at, world_at}
+use Rattle.tournament.specs.declared.format.Seeds.{Seeds}
 use Rattle.ant_commands.specs.Verdict.{IsJudged}
 use Rattle.ant_commands.specs.Verdict.FilesVerdict.{AllAccepted}
 
@@ -79,13 +81,13 @@ WindowsChangeCountsAlone =
     (world red black : List ℕ) (setup : RunSetup) (window : ℕ) (contents : List FileContent) (text : List ℕ) → setup.stats ≡ false
     → IsJobText (run_job world red black setup) contents text → IsJobText (run_job world red black (record setup { window = window })) contents text
 
--- the score of a game of a cup, between two players of a list on a world of a list, is the one that `run` prints of the same world, brains, seed
--- and rounds by the contest's rules
+-- the score of a game of a cup, between two players of a list on a world of a list with one of the cup's seeds, is the one that `run` prints of
+-- the same world, brains, seed and rounds by the contest's rules
 abbrev pub CupGamesAreRuns : Type 0
 CupGamesAreRuns =
-    (worlds : List Grid) (players : List (List Instr)) (setup : RunSetup) (world red black : ℕ) → sheet_named setup ≡ contest → setup.dumps ≡ NoDump → setup.stats ≡ false
-    → match_output setup (record { world = slice_index_or worlds world nowhere; red = slice_index_or players red []; black = slice_index_or players black [] })
-    ≡ seed_text setup.seed +++ score_text (score_between worlds players setup.seed setup.rounds world red black)
+    (worlds : List Grid) (players : List (List Instr)) (seeds : Seeds) (setup : RunSetup) (n red black : ℕ) → setup.seed ≡ seed_at seeds n → sheet_named setup ≡ contest → setup.dumps ≡ NoDump → setup.stats ≡ false
+    → match_output setup (record { world = slice_index_or worlds (world_at seeds n) nowhere; red = slice_index_or players red []; black = slice_index_or players black [] })
+    ≡ seed_text setup.seed +++ score_text (score_in_cup worlds players seeds setup.rounds n red black)
 
 -- a command within the limits whose files were accepted, and whose elements have room, has an output
 abbrev pub HasOutput : Type 0

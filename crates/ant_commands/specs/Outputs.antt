@@ -1,5 +1,5 @@
 -- What each command reads and writes: one equation a command.
-use Rattle.std.specs.Prelude.{◌≡◌, ℕ, ◌≤◌, Bool, true, false, List, [], ◌∷◌, ◌++◌, length, map, nat_eq, slice_index_or, codes, decimal, Option, if◌then◌else◌}
+use Rattle.std.specs.Prelude.{◌≡◌, ℕ, ◌≤◌, ◌*◌, Bool, true, false, List, [], ◌∷◌, ◌++◌, length, map, nat_eq, slice_index_or, codes, decimal, Option, if◌then◌else◌}
 use Rattle.std.specs.List.{list_any}
 use Rattle.ant_base.specs.Layout.{◌+++◌}
 use Rattle.game_reports.specs.Trace.{trace_text}
@@ -41,9 +41,11 @@ use Rattle.match_save.specs.Saved.{SavedValue, save_text}
 use Rattle.match_save.specs.Saves.{saved_after}
 use Rattle.dump_print.specs.Texts.{seed_text, dump_text, score_text, stats_text}
 use Rattle.ant_commands.specs.Setups.{ResumeSetup, RunSetup, ToldSetup, TraceSetup}
-use Rattle.tournament.specs.Games.{all_played}
 use Rattle.tournament.specs.Text.{IsCupText}
-use Rattle.tournament.specs.Printed.{IsPrintedCupText, games_text}
+use Rattle.tournament.specs.Printed.{IsPrintedCupText, first_played, games_text}
+use Rattle.tournament.specs.Seeds.{seed_at, world_at}
+use Rattle.tournament.specs.declared.format.Format.{Format}
+use Rattle.tournament.specs.declared.format.Seeds.{Seeds}
 use Rattle.world_gen.specs.declared.shape.Shape.{Shape}
 use Rattle.world_gen.specs.Food.{food_on}
 use Rattle.world_gen.specs.Generated.{IsGenerated}
@@ -254,16 +256,21 @@ unfoldable pub score_between : List Grid → List (List Instr) → ℕ → ℕ �
 score_between worlds players seed rounds world red black =
     score_of (world_after (minds_between players red black) seed (world_of (slice_index_or worlds world nowhere)) rounds)
 
--- the output of `cup`: the standing of all games between the players on all worlds; with `--games` the line of each game before it
-abbrev pub IsCupOutput : Bool → List (List ℕ) → List (List ℕ) → ℕ → ℕ → ReadCup → List ℕ → Type 0
-IsCupOutput false worlds names seed rounds cup text = IsCupText names (length cup.players) (length cup.worlds) (score_between cup.worlds cup.players seed rounds) text
-IsCupOutput true worlds names seed rounds cup text = IsPrintedCupText worlds names (score_between cup.worlds cup.players seed rounds) text
+-- the score of a game of a cup, where n is a world with one of the seeds
+abbrev pub score_in_cup : List Grid → List (List Instr) → Seeds → ℕ → ℕ → ℕ → ℕ → Score
+score_in_cup worlds players seeds rounds n red black = score_between worlds players (seed_at seeds n) rounds (world_at seeds n) red black
+
+-- the output of `cup`: the standing of all games between the players on all worlds with all seeds; with `--games` the line of each game before it
+abbrev pub IsCupOutput : Bool → List (List ℕ) → List (List ℕ) → Format → ℕ → ReadCup → List ℕ → Type 0
+IsCupOutput false worlds names format rounds cup text =
+    IsCupText format.leads format.gauntlet names (length cup.players) (length cup.worlds * format.seeds.count) (score_in_cup cup.worlds cup.players format.seeds rounds) text
+IsCupOutput true worlds names format rounds cup text = IsPrintedCupText format worlds names (score_in_cup cup.worlds cup.players format.seeds rounds) text
 
 -- the lines of all games on the first worlds of such a cup, on none or on all
-pub record TellsFirstWorlds (worlds names : List (List ℕ)) (seed rounds : ℕ) (cup : ReadCup) (text : List ℕ) : Type 0 where
+pub record TellsFirstWorlds (worlds names : List (List ℕ)) (format : Format) (rounds : ℕ) (cup : ReadCup) (text : List ℕ) : Type 0 where
   pub told : ℕ
   pub some : told ≤ length worlds
-  pub is : text ≡ games_text worlds names (all_played (length names) told (score_between cup.worlds cup.players seed rounds)) 1
+  pub is : text ≡ games_text format worlds names (first_played format names told (score_in_cup cup.worlds cup.players format.seeds rounds)) 1
 
 -- the shape that the words of `gen` name
 abbrev pub shape_named : GenShape → Shape
@@ -324,6 +331,6 @@ IsAsmOutput false false = Tells program_contents (is_text_of (λ program. brain_
 IsAsmOutput labels lines = Tells source_contents (is_text_of (source_text labels lines))
 
 -- what a `cup` has written that tells its games: the lines of all games on its first worlds
-abbrev pub CupInPlay : Bool → List (List ℕ) → List (List ℕ) → ℕ → ℕ → List FileContent → List ℕ → Type 0
-CupInPlay false worlds brains seed rounds contents front = ⊥
-CupInPlay true worlds brains seed rounds contents front = Tells roster_contents (TellsFirstWorlds worlds brains seed rounds) contents front
+abbrev pub CupInPlay : Bool → List (List ℕ) → List (List ℕ) → Format → ℕ → List FileContent → List ℕ → Type 0
+CupInPlay false worlds brains format rounds contents front = ⊥
+CupInPlay true worlds brains format rounds contents front = Tells roster_contents (TellsFirstWorlds worlds brains format rounds) contents front

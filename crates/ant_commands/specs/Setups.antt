@@ -7,10 +7,11 @@ use Rattle.command_words.specs.Slots.{AreNames, DumpChoice}
 use Rattle.command_words.specs.Slots.DumpChoice.{NoDump}
 use Rattle.command_words.specs.Table.{HasFile, HasNumberOption}
 use Rattle.command_words.specs.Words.{plain_dumps}
-use Rattle.command_words.specs.declared.limits.NumberKind.TheVariants.{SeedNumber, RoundCount, WorkerCount, WindowSize, FoeCount, CorpseFood, RestRounds, SideLength, ElementCount}
+use Rattle.command_words.specs.declared.limits.NumberKind.TheVariants.{SeedNumber, RoundCount, WorkerCount, WindowSize, FoeCount, CorpseFood, RestRounds, SideLength, ElementCount, SeedCount}
 use Rattle.command_words.specs.declared.table.CommandKind.{CommandKind}
-use Rattle.command_words.specs.declared.table.Choice.TheVariants.{Seed, Rounds, Workers, Window, Surround, Corpse, Rest, Stats, Far, Width, Height, Rocks, Blobs, From}
+use Rattle.command_words.specs.declared.table.Choice.TheVariants.{Seed, Seeds, Rounds, Workers, Window, Surround, Corpse, Rest, Stats, Far, Width, Height, Rocks, Blobs, From, Leads, Gauntlet}
 use Rattle.command_words.specs.declared.table.NameList.TheVariants.{Worlds, Brains}
+use Rattle.tournament.specs.declared.format.Format.{Format}
 use Rattle.ant_commands.specs.declared.commands.game.GameWords.{GameWords}
 use Rattle.ant_commands.specs.declared.commands.setups.GenShape.{GenShape}
 use Rattle.ant_commands.specs.declared.commands.setups.ResumeOptions.{ResumeOptions}
@@ -111,11 +112,22 @@ pub record ShapeWithin (shape : GenShape) : Type 0 where
   pub rocks : IsWithin ElementCount shape.rocks
   pub blobs : IsWithin ElementCount shape.blobs
 
+-- the format of a cup: with `--gauntlet` the games of the first brain alone, with `--leads` the leads, the seeds from that of `--seed` on, and
+-- these in the lines of games if `--seeds` is given
+abbrev pub format_of : PlainAsked → Format
+format_of asked = record {
+  gauntlet = asked.has Gauntlet;
+  leads = asked.has Leads;
+  seeds = record { first = asked.option Seed; count = asked.option Seeds };
+  shows_seeds = asked.has Seeds;
+}
+
 -- the names and the numbers of a cup are within the limits
-pub record CupWithin (worlds brains : List (List ℕ)) (seed rounds workers : ℕ) : Type 0 where
+pub record CupWithin (worlds brains : List (List ℕ)) (format : Format) (rounds workers : ℕ) : Type 0 where
   pub world_names : AreNames Worlds worlds
   pub brain_names : AreNames Brains brains
-  pub seed_within : IsWithin SeedNumber seed
+  pub seed_within : IsWithin SeedNumber format.seeds.first
+  pub seeds_within : IsWithin SeedCount format.seeds.count
   pub rounds_within : IsWithin RoundCount rounds
   pub workers_within : IsWithin WorkerCount workers
 

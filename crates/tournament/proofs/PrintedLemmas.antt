@@ -19,15 +19,10 @@ use Rattle.tournament.specs.Laws.{GamesAddUp, WorldsInOrder}
 use Rattle.tournament.specs.Standing.{Ranks, food_against, food_for, is_won, is_lost, is_drawn, line_of}
 use Rattle.tournament.specs.Text.{standing_text}
 use Rattle.tournament.specs.Printed.{IsPrintedCupText, PrintedBy, cup_played, first_played, game_line_text, games_text}
-use Rattle.tournament.proofs.GamesLemmas.{All-games_between, games_of-between, games_of-more, length-games_between, length-games_of}
+use Rattle.tournament.proofs.GamesLemmas.{All-games_between, games_of-between, length-games_between, length-games_of}
 use Rattle.tournament.proofs.SortedLines.{has_standing}
 
--- the scores of the games on one world more come last
-pub all_played-more : (gauntlet : Bool) (players worlds : ℕ) (score : ℕ → ℕ → ℕ → Score) → all_played gauntlet players (worlds + 1) score ≡ all_played gauntlet players worlds score ++ world_played gauntlet players worlds score
-all_played-more gauntlet players worlds score =
-    ap (map (played_by score)) (games_of-more gauntlet players worlds) ∙ map-append (played_by score) (games_of gauntlet players worlds) (games_on gauntlet players worlds)
-
--- so do those on some worlds more
+-- the scores of the games on some worlds more come last
 pub all_played-between : (gauntlet : Bool) (players worlds count : ℕ) (score : ℕ → ℕ → ℕ → Score)
     → all_played gauntlet players (worlds + count) score ≡ all_played gauntlet players worlds score ++ worlds_played gauntlet players worlds count score
 all_played-between gauntlet players worlds count score =

@@ -14,10 +14,12 @@ use Rattle.command_words.specs.declared.table.NameList.TheVariants.{Brains, Worl
 use Rattle.match_run.specs.Run.{most_rounds}
 use Rattle.tournament.specs.declared.games.Pairing.{Pairing}
 use Rattle.tournament.specs.declared.games.Played.{Played}
+use Rattle.tournament.specs.Seeds.{world_at}
+use Rattle.tournament.specs.declared.format.Seeds.{Seeds}
 use Rattle.tournament.specs.Plays.{ArePlayed, CanBePlayedBy, PlaysGames}
 use Rattle.ant_commands.specs.declared.commands.cup.Games.{Games}
 use Rattle.ant_commands.specs.Files.{File, FileKind}
-use Rattle.ant_commands.specs.Outputs.{minds_between, nowhere, score_between}
+use Rattle.ant_commands.specs.Outputs.{minds_between, nowhere, score_in_cup}
 
 -- the files of these names, of one kind
 abbrev pub files_named : FileKind → List (List ℕ) → List File
@@ -37,22 +39,24 @@ pub record AreReady (worlds : List Grid) (players : List (List Instr)) : Type 0 
   pub opened : AllByRecursion Opens worlds
   pub sound : AllByRecursion (λ (player : List Instr). 1 ≤ length player) players
 
--- a game that can be played: its world and its players are there, and fit
-pub record CanBePlayed (worlds : List Grid) (players : List (List Instr)) (rounds world red black : ℕ) : Type 0 where
-  pub world_there : world < length worlds
+-- a game that can be played, where n is a world with one of the seeds: its world and its players are there, and fit
+pub record CanBePlayed (worlds : List Grid) (players : List (List Instr)) (seeds : Seeds) (rounds n red black : ℕ) : Type 0 where
+  pub some_seeds : 1 ≤ seeds.count
+  pub world_there : world_at seeds n < length worlds
   pub red_there : red < length players
   pub black_there : black < length players
-  pub fit : Fits (world_of (slice_index_or worlds world nowhere)) (minds_between players red black)
+  pub fit : Fits (world_of (slice_index_or worlds (world_at seeds n) nowhere)) (minds_between players red black)
   pub few_rounds : rounds ≤ most_rounds
 
 -- a cup's games that can be played by so many workers, and what they come to
 abbrev pub CanPlay : ℕ → Games → List Pairing → Type 0
-CanPlay workers games = CanBePlayedBy workers (CanBePlayed games.worlds.now games.players.now games.rounds)
+CanPlay workers games = CanBePlayedBy workers (CanBePlayed games.worlds.now games.players.now games.seeds games.rounds)
 
 abbrev pub GivesScores : {A : Type 0} → Games → List Pairing → Result (Vec Played A) OutOfMemory → Type 0
-GivesScores games = ArePlayed (score_between games.worlds.now games.players.now games.seed games.rounds)
+GivesScores games = ArePlayed (score_in_cup games.worlds.now games.players.now games.seeds games.rounds)
 
 module _ {P A : Type 0} (g : Shared P (Bor Games × (Bor (List Pairing) × (ℕ × Unit {0}))) (Result (Vec Played A) OutOfMemory)) where
   -- a function plays the games of cups that can be played, each with its score
   abbrev pub PlaysCup : P → Type 0
-  PlaysCup play = PlaysGames g (λ games. CanBePlayed games.worlds.now games.players.now games.rounds) (λ games. score_between games.worlds.now games.players.now games.seed games.rounds) play
+  PlaysCup play = PlaysGames g (λ games. CanBePlayed games.worlds.now games.players.now games.seeds games.rounds)
+      (λ games. score_in_cup games.worlds.now games.players.now games.seeds games.rounds) play

@@ -1,17 +1,17 @@
 // The command `cup`.
-ghost use Rattle.std.specs.Prelude.{◌≡◌, ◌≤◌, length, IfOk};
+ghost use Rattle.std.specs.Prelude.{◌≡◌, ◌*◌, ◌≤◌, length, IfOk};
 ghost use Rattle.ant_commands.specs.Jobs.{cup_job};
 ghost use Rattle.ant_commands.specs.Setups.{CupWithin};
 ghost use Rattle.command_words.specs.Limits.{IsWithin};
 ghost use Rattle.command_words.specs.Words.{texts};
-ghost use Rattle.command_words.specs.declared.limits.NumberKind.TheVariants.{WorkerCount};
+ghost use Rattle.command_words.specs.declared.limits.NumberKind.TheVariants.{SeedCount, WorkerCount};
 ghost use Rattle.command_words.specs.Slots.{AllDiffer};
 ghost use Rattle.match_run.specs.Run.{most_rounds};
 ghost use Rattle.tournament.specs.Standing.{IsStandingOf};
 ghost use Rattle.tournament.specs.Printed.{Printed};
 ghost use Rattle.ant_commands.specs.Inner.Cups.{AreReady, CanBePlayed, PlaysCup};
 ghost use Rattle.ant_commands.specs.Inner.Reading.{CarriesOut, ReadsFiles, ending_of, outcome_of};
-ghost use Rattle.ant_commands.specs.Outputs.{cup_contents, cup_files, score_between};
+ghost use Rattle.ant_commands.specs.Outputs.{cup_contents, cup_files, score_in_cup};
 
 use crate::commands::setups::CupEntry;
 use crate::files::read_files;
@@ -23,8 +23,8 @@ use cell_world::{Score, World};
 use match_run::{OutOfMemory, play_score};
 use std::alloc::Global;
 use tournament::{
-    Names, Pairing, Played, PushFault, Referee, Standing, play_all_by, play_and_print,
-    push_standing,
+    Format, Names, Pairing, Played, PushFault, Referee, Seeds, Standing, play_all_by,
+    play_and_print, push_standing,
 };
 
 // What the files of a cup were read as.
@@ -39,27 +39,28 @@ struct Roster {
 pub struct Games<'c> {
     pub worlds: &'c [World],
     pub players: &'c [Brain],
-    pub seed: u32,
+    pub seeds: Seeds,
     pub rounds: u32,
 }
 
 impl Referee for Games<'_> {
     ghost use Rattle.ant_commands.specs.Inner.Cups.{CanBePlayed};
-    ghost use Rattle.ant_commands.specs.Outputs.{score_between};
+    ghost use Rattle.ant_commands.specs.Outputs.{score_in_cup};
 
-    ghost score = { λ games. score_between games.worlds.now games.players.now games.seed games.rounds };
+    ghost score = { λ games. score_in_cup games.worlds.now games.players.now games.seeds games.rounds };
 
-    ghost knows = { λ games. CanBePlayed games.worlds.now games.players.now games.rounds };
+    ghost knows = { λ games. CanBePlayed games.worlds.now games.players.now games.seeds games.rounds };
 
-    #[tactic(auto, using(crate::proofs::Cups::score_between_copy))]
+    #[tactic(auto, using(crate::proofs::Cups::score_in_cup_copy))]
     fn game(&self, alloc: Global, world: u32, red: u32, black: u32) -> Result<Score, OutOfMemory> {
-        let field = self.worlds[world as usize].copy(alloc)?;
+        let field = self.worlds[self.seeds.world_at(world) as usize].copy(alloc)?;
         let brains = Brains {
             red: &self.players[red as usize],
             black: &self.players[black as usize],
             sheet: Sheet::contest(),
         };
-        Ok(play_score(field, brains, self.seed, self.rounds))
+        let seed = self.seeds.seed_at(world);
+        Ok(play_score(field, brains, seed, self.rounds))
     }
 }
 
@@ -81,27 +82,36 @@ fn roster_of<'w, S: Shelf>(
 fn standing_of<P: Fn(&Games<'_>, &[Pairing], u32) -> Result<Vec<Played>, OutOfMemory>>(
     alloc: Global,
     roster: &Roster,
-    seed: u32,
+    format: Format,
     rounds: u32,
     workers: u32,
     play: &P,
 ) -> Result<Standing, OutOfMemory>
     requires ready { AreReady roster.now.worlds.items roster.now.players.items }
+    requires seeds { IsWithin SeedCount format.seeds.count }
     requires few_rounds { rounds ≤ most_rounds }
     requires workers { IsWithin WorkerCount workers }
     requires plays { PlaysCup P.Fn play.now }
-    ensures { IfOk result (λ standing. IsStandingOf (length roster.now.players.items) (length roster.now.worlds.items)
-        (score_between roster.now.worlds.items roster.now.players.items seed rounds) standing) }
+    ensures { IfOk result (λ standing. IsStandingOf format.gauntlet (length roster.now.players.items) (length roster.now.worlds.items * format.seeds.count)
+        (score_in_cup roster.now.worlds.items roster.now.players.items format.seeds rounds) standing) }
 {
     let games = Games {
         worlds: &roster.worlds,
         players: &roster.players,
-        seed,
+        seeds: format.seeds,
         rounds,
     };
     let players = games.players.len() as u32;
-    let worlds = games.worlds.len() as u32;
-    play_all_by(alloc, &games, players, worlds, workers, play)
+    let worlds = games.worlds.len() as u32 * format.seeds.count;
+    play_all_by(
+        alloc,
+        &games,
+        format.gauntlet,
+        players,
+        worlds,
+        workers,
+        play,
+    )
 }
 
 // Plays the games world by world, and pushes their lines after each world; the standing comes last.
@@ -113,22 +123,31 @@ fn print_games<K: Sink, P: Fn(&Games<'_>, &[Pairing], u32) -> Result<Vec<Played>
     play: &P,
     out: &mut K,
 ) -> Result<(), PushFault>
-    requires within { CupWithin (texts entry.worlds.now) (texts entry.brains.now) entry.seed entry.rounds entry.workers }
+    requires within { CupWithin (texts entry.worlds.now) (texts entry.brains.now) entry.format entry.rounds entry.workers }
     requires ready { AreReady roster.now.worlds.items roster.now.players.items }
     requires worlds { length roster.now.worlds.items ≡ length (texts entry.worlds.now) }
     requires players { length roster.now.players.items ≡ length (texts entry.brains.now) }
     requires names { names.now ≡ texts entry.brains.now }
     requires plays { PlaysCup P.Fn play.now }
-    ensures { Printed (K.state out.old) (K.state out.new) (texts entry.entry.worlds.now) (texts entry.entry.brains.now)
-        (score_between roster.now.worlds.items roster.now.players.items entry.entry.seed entry.entry.rounds) result }
+    ensures { Printed (K.state out.old) (K.state out.new) entry.entry.format (texts entry.entry.worlds.now) (texts entry.entry.brains.now)
+        (score_in_cup roster.now.worlds.items roster.now.players.items entry.entry.format.seeds entry.entry.rounds) result }
 {
     let games = Games {
         worlds: &roster.worlds,
         players: &roster.players,
-        seed: entry.seed,
+        seeds: entry.format.seeds,
         rounds: entry.rounds,
     };
-    play_and_print(alloc, &games, entry.worlds, names, entry.workers, play, out)
+    play_and_print(
+        alloc,
+        &games,
+        entry.format,
+        entry.worlds,
+        names,
+        entry.workers,
+        play,
+        out,
+    )
 }
 
 // The names of the players, which are different.
@@ -157,10 +176,10 @@ pub fn cup<
     shelf: &mut S,
     out: &mut K,
 ) -> Result<(), CommandStop<'w>>
-    requires within { CupWithin (texts entry.worlds.now) (texts entry.brains.now) entry.seed entry.rounds entry.workers }
+    requires within { CupWithin (texts entry.worlds.now) (texts entry.brains.now) entry.format entry.rounds entry.workers }
     requires plays { PlaysCup P.Fn play.now }
     ensures { CarriesOut
-        (cup_job (texts entry.entry.worlds.now) (texts entry.entry.brains.now) entry.entry.seed entry.entry.rounds entry.entry.workers entry.entry.games)
+        (cup_job (texts entry.entry.worlds.now) (texts entry.entry.brains.now) entry.entry.format entry.entry.rounds entry.entry.workers entry.entry.games)
         (S.state shelf.old) (S.state shelf.new) (K.state out.old) (K.state out.new) (ending_of result) }
 {
     let roster = roster_of(alloc, entry, shelf)?;
@@ -171,10 +190,10 @@ pub fn cup<
     let standing = standing_of(
         alloc,
         &roster,
-        entry.seed,
+        entry.format,
         entry.rounds,
         entry.workers,
         play,
     )?;
-    after_push(push_standing(&standing, &names, out))
+    after_push(push_standing(&standing, entry.format.leads, &names, out))
 }

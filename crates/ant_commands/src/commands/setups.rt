@@ -3,12 +3,13 @@ ghost use Rattle.std.specs.Prelude.{◌≡◌};
 ghost use Rattle.command_words.specs.Command.{AskedWithin, plain};
 ghost use Rattle.command_words.specs.declared.table.CommandKind.TheVariants.{Cup, Gen, Resume, Run, Save};
 ghost use Rattle.command_words.specs.Words.{texts};
-ghost use Rattle.command_words.specs.declared.table.Choice.TheVariants.{Seed, Rounds, Workers, Games};
+ghost use Rattle.command_words.specs.declared.table.Choice.TheVariants.{Rounds, Workers, Games};
 ghost use Rattle.command_words.specs.declared.table.NameList.TheVariants.{Worlds, Brains};
-ghost use Rattle.ant_commands.specs.Setups.{CupWithin, SetupWithin, plain_resume, plain_setup, resume_of, save_setup_of, setup_of, shape_of};
+ghost use Rattle.ant_commands.specs.Setups.{CupWithin, SetupWithin, format_of, plain_resume, plain_setup, resume_of, save_setup_of, setup_of, shape_of};
 
 use crate::commands::game::GameWords;
 use command_words::{Asked, Choice, DumpRounds, NameList};
+use tournament::{Format, Seeds};
 
 /// What the words of `run` say, or what holds if they don't say it.
 #[derive(Drop)]
@@ -34,8 +35,8 @@ pub struct CupEntry<'w> {
     pub worlds: &'w [String],
     /// the names of the brains' files, 2 to 16, no two the same
     pub brains: &'w [String],
-    /// the seed of each game's random numbers, from 0 to 4,294,967,295
-    pub seed: u32,
+    /// which games there are, with which seeds, and what is printed of them
+    pub format: Format,
     /// how many rounds each game has, from 0 to 1,000,000
     pub rounds: u32,
     /// how many workers play, from 1 to 16
@@ -117,10 +118,10 @@ impl<'w> CupEntry<'w> {
     pub fn of(asked: Asked<'w>) -> Self
         requires kind { asked.kind ≡ Cup }
         requires within { AskedWithin (plain asked) }
-        ensures within { CupWithin (texts result.worlds.now) (texts result.brains.now) result.seed result.rounds result.workers }
+        ensures within { CupWithin (texts result.worlds.now) (texts result.brains.now) result.format result.rounds result.workers }
         ensures worlds { texts result.worlds.now ≡ (plain asked.entry).names Worlds }
         ensures brains { texts result.brains.now ≡ (plain asked.entry).names Brains }
-        ensures seed { result.seed ≡ (plain asked.entry).option Seed }
+        ensures format { result.format ≡ format_of (plain asked.entry) }
         ensures rounds { result.rounds ≡ (plain asked.entry).option Rounds }
         ensures workers { result.workers ≡ (plain asked.entry).option Workers }
         ensures games { result.games ≡ (plain asked.entry).has Games }
@@ -128,11 +129,27 @@ impl<'w> CupEntry<'w> {
         CupEntry {
             worlds: asked.names(NameList::Worlds),
             brains: asked.names(NameList::Brains),
-            seed: asked.option(Choice::Seed),
+            format: format_of(asked),
             rounds: asked.option(Choice::Rounds),
             workers: asked.option(Choice::Workers),
             games: asked.has(Choice::Games),
         }
+    }
+}
+
+// The format of a cup.
+fn format_of(asked: Asked<'_>) -> Format
+    requires { asked.kind ≡ Cup }
+    ensures { result ≡ format_of (plain asked.entry) }
+{
+    Format {
+        gauntlet: asked.has(Choice::Gauntlet),
+        leads: asked.has(Choice::Leads),
+        seeds: Seeds {
+            first: asked.option(Choice::Seed),
+            count: asked.option(Choice::Seeds),
+        },
+        shows_seeds: asked.has(Choice::Seeds),
     }
 }
 
