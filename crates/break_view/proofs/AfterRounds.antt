@@ -18,12 +18,17 @@ pub record IsAfter (minds : Minds) (seed : ℕ) (w : World) (round : ℕ) (grid 
   pub place : stream.place ≤ round * most_ants
   pub fits : Fits (world_of grid) minds
 
--- no round is played
-pub IsAfter-none : (minds : Minds) (seed : ℕ) (grid : Grid) (stream : SeedAndPlace) → stream.seed ≡ seed → stream.place ≡ 0 → Fits (world_of grid) minds → IsAfter minds seed (world_of grid) 0 grid stream
-IsAfter-none minds seed grid stream same begins fits = record {
-  moment = ap (moment_at (world_of grid)) begins;
-  same_seed = same;
-  place = omega arith;
+-- the first rounds are played, from the start on
+pub IsAfter-passed : (minds : Minds) (seed : ℕ) (grid : Grid) (stream : SeedAndPlace) (rounds : ℕ) (next : Grid) (later : SeedAndPlace) → stream.seed ≡ seed → stream.place ≡ 0
+    → moment_from next later ≡ after_rounds minds stream.seed (moment_from grid stream) rounds → later.seed ≡ stream.seed → later.place ≤ stream.place + rounds * most_ants → Fits (world_of next) minds
+    → IsAfter minds seed (world_of grid) rounds next later
+IsAfter-passed minds seed grid stream rounds next later same begins passed kept few fits = record {
+  moment =
+      passed
+      ∙ ap (λ (s : ℕ). after_rounds minds s (moment_from grid stream) rounds) same
+      ∙ ap (λ (place : ℕ). after_rounds minds seed (moment_at (world_of grid) place) rounds) begins;
+  same_seed = kept ∙ same;
+  place = omega (arith, few, begins);
   fits = fits;
 }
 

@@ -10,6 +10,7 @@ pub mod QuietTurns
 -- The first stop, and that there is one.
 pub mod ViewLaws
 pub mod FirstStops
+pub mod QuietRounds
 pub mod AfterRounds
 pub mod WatchedRounds
 pub mod ViewText
@@ -18,6 +19,7 @@ pub mod WorkedTexts
 pub mod WorkedBreaks
 pub mod WorkedEdges
 pub mod WorkedEnds
+pub mod WorkedFrom
 pub mod WorkedGame
 pub mod WorkedSeeds
 -- Laws, used.

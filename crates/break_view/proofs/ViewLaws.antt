@@ -56,10 +56,10 @@ none_in few more stand w r t none = go (first_met 1 few w r t) refl
 
 pub fewer_stop_later : FewerStopLater
 fewer_stop_later = record {
-  later = λ minds seed rounds w few more stop earlier stand here there before.
+  later = λ minds seed rounds from w few more stop earlier stand here there before.
       let none = none_in few more stand (world_at minds seed w stop.round stop.id) stop.round stop.id (there.none_before stop.round stop.id here.turn before) in
       never stop.which (sym none ∙ here.met);
-  never = λ minds seed rounds w few more stand quiet r t turn. none_in few more stand (world_at minds seed w r t) r t (quiet r t turn);
+  never = λ minds seed rounds from w few more stand quiet r t turn. none_in few more stand (world_at minds seed w r t) r t (quiet r t turn);
 }
   where
     never : (which : ℕ) → ◌≡◌ {A = Option ℕ} None (Some which) → ⊥
@@ -67,10 +67,12 @@ fewer_stop_later = record {
 
 pub stops_follow_turns : StopsFollowTurns
 stops_follow_turns = record {
-  round = λ minds seed rounds w items stop first. first.turn.begun;
-  no_round = λ minds seed w items r t turn. absurd (let begun = turn.begun in let played = turn.played in omega (arith, begun, played));
-  no_ant = λ minds seed rounds w items none r t turn. absurd (let made = turn.made in omega (arith, made, none));
-  no_break = λ minds seed rounds w r t turn. refl;
+  round = λ minds seed rounds from w items stop first. first.turn.begun;
+  reached = λ minds seed rounds from w items stop first. first.turn.reached;
+  no_round = λ minds seed from w items r t turn. absurd (let begun = turn.begun in let played = turn.played in omega (arith, begun, played));
+  none_reached = λ minds seed rounds from w items below r t turn. absurd (let reached = turn.reached in let played = turn.played in omega (arith, reached, played, below));
+  no_ant = λ minds seed rounds from w items none r t turn. absurd (let made = turn.made in omega (arith, made, none));
+  no_break = λ minds seed rounds from w r t turn. refl;
 }
 
 -- a turn before another is played where the other is
@@ -79,34 +81,34 @@ within r t round id rounds (inl before) played = omega (arith, before, played)
 within r t round id rounds (inr before) played = let same = before.0 in omega (arith, same, played)
 
 pub later_rounds_add_nothing : LaterRoundsAddNothing
-later_rounds_add_nothing minds seed rounds more w items stop le first =
+later_rounds_add_nothing minds seed rounds more from w items stop le first =
     record {
-      turn = record { begun = first.turn.begun; played = (let played = first.turn.played in omega (arith, played, le)); made = first.turn.made };
+      turn = record { begun = first.turn.begun; reached = first.turn.reached; played = (let played = first.turn.played in omega (arith, played, le)); made = first.turn.made };
       met = first.met;
-      none_before = λ r t turn before. first.none_before r t (record { begun = turn.begun; played = within r t stop.round stop.id rounds before first.turn.played; made = turn.made }) before;
+      none_before = λ r t turn before. first.none_before r t (record { begun = turn.begun; reached = turn.reached; played = within r t stop.round stop.id rounds before first.turn.played; made = turn.made }) before;
     }
 
-module _ (minds : Minds) (seed rounds : ℕ) (w : World) (items : List Break) where
+module _ (minds : Minds) (seed rounds from : ℕ) (w : World) (items : List Break) where
   -- no first stop is before another
-  not_before : (a b : Stop) → IsFirstStop minds seed rounds w items a → IsFirstStop minds seed rounds w items b → IsEarlier a.round a.id b.round b.id → ⊥
+  not_before : (a b : Stop) → IsFirstStop minds seed rounds from w items a → IsFirstStop minds seed rounds from w items b → IsEarlier a.round a.id b.round b.id → ⊥
   not_before a b here there before =
       let e : ◌≡◌ {A = Option ℕ} None (Some a.which) = sym (there.none_before a.round a.id here.turn before) ∙ here.met in cc
 
-  same_round : (a b : Stop) → IsFirstStop minds seed rounds w items a → IsFirstStop minds seed rounds w items b → a.round ≤ b.round
+  same_round : (a b : Stop) → IsFirstStop minds seed rounds from w items a → IsFirstStop minds seed rounds from w items b → a.round ≤ b.round
   same_round a b here there = go (nat_lt b.round a.round) refl
     where
       go : (t : Bool) → nat_lt b.round a.round ≡ t → a.round ≤ b.round
       go true e = absurd (not_before b a there here (inl (ltb-true b.round a.round e)))
       go false e = ltb-false b.round a.round e
 
-  same_id : (a b : Stop) → IsFirstStop minds seed rounds w items a → IsFirstStop minds seed rounds w items b → b.round ≡ a.round → a.id ≤ b.id
+  same_id : (a b : Stop) → IsFirstStop minds seed rounds from w items a → IsFirstStop minds seed rounds from w items b → b.round ≡ a.round → a.id ≤ b.id
   same_id a b here there same = go (nat_lt b.id a.id) refl
     where
       go : (t : Bool) → nat_lt b.id a.id ≡ t → a.id ≤ b.id
       go true e = absurd (not_before b a there here (inr (same, ltb-true b.id a.id e)))
       go false e = ltb-false b.id a.id e
 
-  one_stop : (a b : Stop) → IsFirstStop minds seed rounds w items a → IsFirstStop minds seed rounds w items b → a ≡ b
+  one_stop : (a b : Stop) → IsFirstStop minds seed rounds from w items a → IsFirstStop minds seed rounds from w items b → a ≡ b
   one_stop a b here there =
       let up = same_round a b here there in
       let down = same_round b a there here in
@@ -121,10 +123,10 @@ module _ (minds : Minds) (seed rounds : ℕ) (w : World) (items : List Break) wh
       made : ℕ → ℕ → ℕ → Stop
       made r t k = record { round = r; id = t; which = k }
 
-  not_both : (a : Stop) → IsFirstStop minds seed rounds w items a → HasNoStop minds seed rounds w items → ⊥
+  not_both : (a : Stop) → IsFirstStop minds seed rounds from w items a → HasNoStop minds seed rounds from w items → ⊥
   not_both a here quiet = let e : ◌≡◌ {A = Option ℕ} None (Some a.which) = sym (quiet a.round a.id here.turn) ∙ here.met in cc
 
-  one_end : (a b : Option Stop) (u v : World) → EndsAt minds seed rounds w items a u → EndsAt minds seed rounds w items b v → (a ≡ b) × (u ≡ v)
+  one_end : (a b : Option Stop) (u v : World) → EndsAt minds seed rounds from w items a u → EndsAt minds seed rounds from w items b v → (a ≡ b) × (u ≡ v)
   one_end None None u v here there = (refl, here.1 ∙ sym there.1)
   one_end None (Some b) u v here there = absurd (not_both b there.0 here.0)
   one_end (Some a) None u v here there = absurd (not_both a here.0 there.0)
@@ -132,15 +134,15 @@ module _ (minds : Minds) (seed rounds : ℕ) (w : World) (items : List Break) wh
       let same = one_stop a b here.0 there.0 in
       (ap Some same, here.1 ∙ ap (λ (s : Stop). world_at minds seed w s.round s.id) same ∙ sym there.1)
 
-  one_view : (text other : List ℕ) → IsViewText minds seed rounds w items text → IsViewText minds seed rounds w items other → text ≡ other
+  one_view : (text other : List ℕ) → IsViewText minds seed rounds from w items text → IsViewText minds seed rounds from w items other → text ≡ other
   one_view text other here there =
       let same = one_end here.stop there.stop here.end there.end here.ends there.ends in
       here.view ∙ ap₂ (λ (v : World) (stop : Option Stop). view_text v seed rounds stop) same.1 same.0 ∙ sym there.view
 
 pub one_first_stop : OneFirstStop
 one_first_stop = record {
-  one = λ minds seed rounds w items a b here there. one_stop minds seed rounds w items a b here there;
-  never_both = λ minds seed rounds w items a here quiet. not_both minds seed rounds w items a here quiet;
-  one_end = λ minds seed rounds w items a b u v here there. one_end minds seed rounds w items a b u v here there;
-  one_view = λ minds seed rounds w items text other here there. one_view minds seed rounds w items text other here there;
+  one = λ minds seed rounds from w items a b here there. one_stop minds seed rounds from w items a b here there;
+  never_both = λ minds seed rounds from w items a here quiet. not_both minds seed rounds from w items a here quiet;
+  one_end = λ minds seed rounds from w items a b u v here there. one_end minds seed rounds from w items a b u v here there;
+  one_view = λ minds seed rounds from w items text other here there. one_view minds seed rounds from w items text other here there;
 }

@@ -12,7 +12,7 @@ use Rattle.cell_world.specs.World.{World}
 use Rattle.cell_world.specs.declared.score.Score.{Score}
 use Rattle.match_run.specs.Inner.Alone.{moment_from}
 use Rattle.match_run.proofs.AloneLemmas.{IsTaken}
-use Rattle.break_view.proofs.AfterRounds.{IsAfter, IsAfter-none, IsAfter-more, IsAfter-world}
+use Rattle.break_view.proofs.AfterRounds.{IsAfter, IsAfter-more, IsAfter-world}
 use Rattle.break_view.specs.declared.breaks.Break.{Break}
 use Rattle.break_view.specs.declared.stop.Stop.{Stop}
 use Rattle.break_view.specs.Met.{first_met}
@@ -44,20 +44,21 @@ unfolding world_in_round
 met-taken items r id taken = ap (λ (m : Moment). first_met 1 items m.world r id) (sym taken.moment)
 
 -- the game so far: so many rounds were played, none of them with a stop
-pub record IsWatched (minds : Minds) (seed : ℕ) (w : World) (items : List Break) (round : ℕ) (grid : Grid) (stream : SeedAndPlace) (score : Score) : Type 0 where
+pub record IsWatched (minds : Minds) (seed from : ℕ) (w : World) (items : List Break) (round : ℕ) (grid : Grid) (stream : SeedAndPlace) (score : Score) : Type 0 where
   pub scored : score ≡ score_of (world_of grid)
   pub after : IsAfter minds seed w round grid stream
-  pub quiet : HasNoStop minds seed round w items
+  pub quiet : HasNoStop minds seed round from w items
 
--- no round is played yet
-pub watched-none : (minds : Minds) (seed : ℕ) (items : List Break) (grid : Grid) (stream : SeedAndPlace) (score : Score) → stream.seed ≡ seed → stream.place ≡ 0 → Fits (world_of grid) minds → score ≡ score_of (world_of grid) → IsWatched minds seed (world_of grid) items 0 grid stream score
-watched-none minds seed items grid stream score same begins fits scored = record {
+-- the rounds before `from` were played, or all rounds
+pub watched-passed : (minds : Minds) (seed from : ℕ) (w : World) (items : List Break) (round : ℕ) (grid : Grid) (stream : SeedAndPlace) (score : Score) → round ≤ from - 1 → IsAfter minds seed w round grid stream → score ≡ score_of (world_of grid)
+    → IsWatched minds seed from w items round grid stream score
+watched-passed minds seed from w items round grid stream score before after scored = record {
   scored = scored;
-  after = IsAfter-none minds seed grid stream same begins fits;
-  quiet = λ r t turn. absurd (let begun = turn.begun in let played = turn.played in omega (arith, begun, played));
+  after = after;
+  quiet = λ r t turn. absurd (let begun = turn.begun in let reached = turn.reached in let played = turn.played in omega (arith, begun, reached, played, before));
 }
 
-module _ {minds : Minds} {seed : ℕ} {w : World} {items : List Break} {round : ℕ} {grid : Grid} {stream : SeedAndPlace} {score : Score} (watched : IsWatched minds seed w items round grid stream score) where
+module _ {minds : Minds} {seed from : ℕ} {w : World} {items : List Break} {round : ℕ} {grid : Grid} {stream : SeedAndPlace} {score : Score} (watched : IsWatched minds seed from w items round grid stream score) where
   -- rounds make no id
   ids_kept : grid.ids ≡ w.ids
   ids_kept = ap (λ (m : Moment). m.world.ids) watched.after.moment ∙ after_rounds-ids minds seed (start_of w) round
@@ -76,45 +77,46 @@ module _ {minds : Minds} {seed : ℕ} {w : World} {items : List Break} {round : 
 
   -- one round more without a stop
   pub watched-more : (next : Grid) (later : SeedAndPlace) (now : Score) → Passes minds stream.seed (moment_from grid stream) items (round + 1) (moment_from next later)
-      → later.seed ≡ stream.seed → later.place ≤ stream.place + most_ants → Fits (world_of next) minds → now ≡ score_of (world_of next) → IsWatched minds seed w items (round + 1) next later now
+      → later.seed ≡ stream.seed → later.place ≤ stream.place + most_ants → Fits (world_of next) minds → now ≡ score_of (world_of next) → IsWatched minds seed from w items (round + 1) next later now
   watched-more next later now passes same few fits scored = record {
     scored = scored;
     after = IsAfter-more watched.after next later (record { moment = passes.moment; seed = same; place = few; fit = fits });
     quiet = λ r t turn. go r t turn (nat_lt r (round + 1)) refl;
   }
     where
-      go : (r t : ℕ) → IsTurn w (round + 1) r t → (b : Bool) → nat_lt r (round + 1) ≡ b → met_at minds seed w items r t ≡ None
-      go r t turn true e = watched.quiet r t (record { begun = turn.begun; played = (let below = ltb-true r (round + 1) e in omega (arith, below)); made = turn.made })
+      go : (r t : ℕ) → IsTurn w (round + 1) from r t → (b : Bool) → nat_lt r (round + 1) ≡ b → met_at minds seed w items r t ≡ None
+      go r t turn true e = watched.quiet r t (record { begun = turn.begun; reached = turn.reached; played = (let below = ltb-true r (round + 1) e in omega (arith, below)); made = turn.made })
       go r t turn false e =
-          let from = ltb-false r (round + 1) e in
+          let bound = ltb-false r (round + 1) e in
           let played = turn.played in
-          let now : r ≡ round + 1 = omega (arith, from, played) in
+          let now : r ≡ round + 1 = omega (arith, bound, played) in
           let made : t < grid.ids = (let below = turn.made in omega (arith, below, ids_kept)) in
           met_here r t now ∙ passes.quiet t made
 
   -- the stop of the round that begins now is the game's first
-  pub first_stop : (rounds : ℕ) (stop : Stop) (end : Moment) → round + 1 ≤ rounds → StopsIn minds stream.seed (moment_from grid stream) items (round + 1) stop end → EndsAt minds seed rounds w items (Some stop) end.world
+  pub first_stop : (rounds : ℕ) (stop : Stop) (end : Moment) → from ≤ round + 1 → round + 1 ≤ rounds → StopsIn minds stream.seed (moment_from grid stream) items (round + 1) stop end → EndsAt minds seed rounds from w items (Some stop) end.world
   unfolding world_in_round
-  first_stop rounds stop end some stops = (
+  first_stop rounds stop end come some stops = (
     record { turn = turn; met = met_here stop.round stop.id stops.round ∙ stops.met; none_before = λ r t other before. earlier r t other before },
     ap (λ (m : Moment). m.world) stops.moment ∙ sym (world_here stop.id) ∙ ap (λ (k : ℕ). world_at minds seed w k stop.id) (sym stops.round),
   )
     where
-      turn : IsTurn w rounds stop.round stop.id
+      turn : IsTurn w rounds from stop.round stop.id
       turn = record {
         begun = (let now = stops.round in omega (arith, now));
+        reached = (let now = stops.round in omega (arith, now, come));
         played = (let now = stops.round in omega (arith, now, some));
         made = (let made = stops.made in omega (arith, made, ids_kept));
       }
 
-      earlier : (r t : ℕ) → IsTurn w rounds r t → IsEarlier r t stop.round stop.id → met_at minds seed w items r t ≡ None
-      earlier r t other (inl before) = watched.quiet r t (record { begun = other.begun; played = (let now = stops.round in omega (arith, now, before)); made = other.made })
+      earlier : (r t : ℕ) → IsTurn w rounds from r t → IsEarlier r t stop.round stop.id → met_at minds seed w items r t ≡ None
+      earlier r t other (inl before) = watched.quiet r t (record { begun = other.begun; reached = other.reached; played = (let now = stops.round in omega (arith, now, before)); made = other.made })
       earlier r t other (inr before) = met_here r t (before.0 ∙ stops.round) ∙ stops.quiet t before.1
 
   -- a round that ends with a stop
-  pub ends_stopped : (rounds : ℕ) (stop : Option Stop) (end : Moment) → round + 1 ≤ rounds → is_some stop ≡ true → RoundEnds minds stream.seed (moment_from grid stream) items (round + 1) stop end → EndsAt minds seed rounds w items stop end.world
-  ends_stopped rounds None end some is ends = absurd (let never : false ≡ true = is in cc)
-  ends_stopped rounds (Some stop) end some is ends = first_stop rounds stop end some ends
+  pub ends_stopped : (rounds : ℕ) (stop : Option Stop) (end : Moment) → from ≤ round + 1 → round + 1 ≤ rounds → is_some stop ≡ true → RoundEnds minds stream.seed (moment_from grid stream) items (round + 1) stop end → EndsAt minds seed rounds from w items stop end.world
+  ends_stopped rounds None end come some is ends = absurd (let never : false ≡ true = is in cc)
+  ends_stopped rounds (Some stop) end come some is ends = first_stop rounds stop end come some ends
 
   -- a round that ends without a stop
   pub ends_passed : (stop : Option Stop) (end : Moment) → is_some stop ≡ false → RoundEnds minds stream.seed (moment_from grid stream) items (round + 1) stop end → Passes minds stream.seed (moment_from grid stream) items (round + 1) end
@@ -122,5 +124,5 @@ module _ {minds : Minds} {seed : ℕ} {w : World} {items : List Break} {round : 
   ends_passed (Some stop) end is ends = absurd (let never : true ≡ false = is in cc)
 
   -- a game that ends without a stop
-  pub ends_without : (rounds : ℕ) → round ≡ rounds → EndsAt minds seed rounds w items None (world_of grid)
-  ends_without rounds all = subst (λ (k : ℕ). EndsAt minds seed k w items None (world_of grid)) all (watched.quiet, IsAfter-world watched.after)
+  pub ends_without : (rounds : ℕ) → round ≡ rounds → EndsAt minds seed rounds from w items None (world_of grid)
+  ends_without rounds all = subst (λ (k : ℕ). EndsAt minds seed k from w items None (world_of grid)) all (watched.quiet, IsAfter-world watched.after)

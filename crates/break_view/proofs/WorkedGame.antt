@@ -47,10 +47,10 @@ unfolding world_in_round after_turn turn place_in opening cell_in rock floor put
 killed_then = (refl, refl)
 
 -- so the game stops there first
-pub killed_first : IsFirstStop minds 12345 5 start (Killed 2 ∷ []) (record { round = 1; id = 1; which = 1 })
+pub killed_first : IsFirstStop minds 12345 5 0 start (Killed 2 ∷ []) (record { round = 1; id = 1; which = 1 })
 unfolding opening
 killed_first = record {
-  turn = record { begun = omega arith; played = omega arith; made = omega arith };
+  turn = record { begun = omega arith; reached = omega arith; played = omega arith; made = omega arith };
   met = killed_then.0;
   none_before = λ r t turn before. before_it r t turn before;
 }
@@ -58,7 +58,7 @@ killed_first = record {
     at_first : (r t : ℕ) → r ≡ 1 → t ≡ 0 → met_at minds 12345 start (Killed 2 ∷ []) r t ≡ None
     at_first r t round id = subst (λ (k : ℕ). met_at minds 12345 start (Killed 2 ∷ []) k t ≡ None) (sym round) (subst (λ (k : ℕ). met_at minds 12345 start (Killed 2 ∷ []) 1 k ≡ None) (sym id) killed_then.1)
 
-    before_it : (r t : ℕ) → IsTurn start 5 r t → IsEarlier r t 1 1 → met_at minds 12345 start (Killed 2 ∷ []) r t ≡ None
+    before_it : (r t : ℕ) → IsTurn start 5 0 r t → IsEarlier r t 1 1 → met_at minds 12345 start (Killed 2 ∷ []) r t ≡ None
     before_it r t turn (inl before) = absurd (let begun = turn.begun in omega (arith, begun, before))
     before_it r t turn (inr before) = at_first r t before.0 (let below = before.1 in omega (arith, below))
 
@@ -68,6 +68,6 @@ unfolding world_in_round after_turn turn place_in opening cell_in rock floor put
 two_hold = (refl, refl, refl)
 
 -- the turn of a dead ant is a turn: after the one of id 2, which died before it, there is a stop in round 2
-dead_turns : IsTurn start 5 2 2 × (met_at minds 12345 start (Killed 2 ∷ []) 1 2 ≡ Some 1)
+dead_turns : IsTurn start 5 0 2 2 × (met_at minds 12345 start (Killed 2 ∷ []) 1 2 ≡ Some 1)
 unfolding opening world_in_round after_turn turn place_in cell_in rock floor put_cell same_pos adjacent_pos neighbours_of directions stepped is_surrounded check_at killed_at places_around drawn random_at state_at
-dead_turns = (record { begun = omega arith; played = omega arith; made = omega arith }, refl)
+dead_turns = (record { begun = omega arith; reached = omega arith; played = omega arith; made = omega arith }, refl)

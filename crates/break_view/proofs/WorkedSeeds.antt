@@ -50,10 +50,10 @@ unfolding world_after world_in_round after_round after_turn turn place_in cell_i
 seed_decides = (refl, refl, refl, refl)
 
 -- so the game stops there first
-drawn_first : IsFirstStop drawing 12345 5 lone breaks drawn_stop
+drawn_first : IsFirstStop drawing 12345 5 0 lone breaks drawn_stop
 unfolding opening
 drawn_first = record {
-  turn = record { begun = omega arith; played = omega arith; made = omega arith };
+  turn = record { begun = omega arith; reached = omega arith; played = omega arith; made = omega arith };
   met = seed_decides.1;
   none_before = λ r t turn before. before_it r t turn before;
 }
@@ -61,16 +61,16 @@ drawn_first = record {
     at_first : (r t : ℕ) → r ≡ 1 → t ≡ 0 → met_at drawing 12345 lone breaks r t ≡ None
     at_first r t round id = subst (λ (k : ℕ). met_at drawing 12345 lone breaks k t ≡ None) (sym round) (subst (λ (k : ℕ). met_at drawing 12345 lone breaks 1 k ≡ None) (sym id) seed_decides.0)
 
-    before_it : (r t : ℕ) → IsTurn lone 5 r t → IsEarlier r t 2 0 → met_at drawing 12345 lone breaks r t ≡ None
+    before_it : (r t : ℕ) → IsTurn lone 5 0 r t → IsEarlier r t 2 0 → met_at drawing 12345 lone breaks r t ≡ None
     before_it r t turn (inl before) = at_first r t (let begun = turn.begun in omega (arith, begun, before)) (let made = turn.made in omega (arith, made))
     before_it r t turn (inr before) = absurd (let below = before.1 in omega (arith, below))
 
 -- the view of that seed is of that stop, and leaves the ant in state 3; without a stop it leaves it there, too
-drawn_view : IsViewText drawing 12345 5 lone breaks (view_text (world_at drawing 12345 lone 2 0) 12345 5 (Some drawn_stop))
+drawn_view : IsViewText drawing 12345 5 0 lone breaks (view_text (world_at drawing 12345 lone 2 0) 12345 5 (Some drawn_stop))
 drawn_view = record { stop = Some drawn_stop; end = world_at drawing 12345 lone 2 0; ends = (drawn_first, refl); view = refl }
 
-drawn_at_stop : (end : World) → EndsAt drawing 12345 5 lone breaks (Some drawn_stop) end → state_in end ≡ 3
+drawn_at_stop : (end : World) → EndsAt drawing 12345 5 0 lone breaks (Some drawn_stop) end → state_in end ≡ 3
 drawn_at_stop end ends = ap state_in ends.1 ∙ seed_decides.2
 
-drawn_without_stop : (end : World) → EndsAt drawing 12345 2 lone [] None end → state_in end ≡ 3
+drawn_without_stop : (end : World) → EndsAt drawing 12345 2 0 lone [] None end → state_in end ≡ 3
 drawn_without_stop end ends = ap state_in ends.1 ∙ seed_decides.3

@@ -25,14 +25,14 @@ end_text w rounds None = no_stop_line rounds
 unfoldable pub view_text : World → ℕ → ℕ → Option Stop → List ℕ
 view_text w seed rounds stop = seed_text seed +++ end_text w rounds stop
 
--- the text is the view of the game that begins in w: of its first stop, or that it has none
-pub record IsViewText (minds : Minds) (seed rounds : ℕ) (w : World) (items : List Break) (text : List ℕ) : Type 0 where
+-- the text is the view of the game that begins in w: of its first stop in a round from `from` on, or that it has none
+pub record IsViewText (minds : Minds) (seed rounds from : ℕ) (w : World) (items : List Break) (text : List ℕ) : Type 0 where
   pub stop : Option Stop
   pub end : World
-  pub ends : EndsAt minds seed rounds w items stop end
+  pub ends : EndsAt minds seed rounds from w items stop end
   pub view : text ≡ view_text end seed rounds stop
 
 -- the view of the game that begins in w, as a function
-unfoldable pub view_of : Minds → ℕ → ℕ → World → List Break → List ℕ
-view_of minds seed rounds w items =
-    view_text (end_of minds seed rounds w (first_stop minds seed w items rounds)) seed rounds (first_stop minds seed w items rounds)
+unfoldable pub view_of : Minds → ℕ → ℕ → ℕ → World → List Break → List ℕ
+view_of minds seed rounds from w items =
+    view_text (end_of minds seed rounds w (first_stop minds seed w items from rounds)) seed rounds (first_stop minds seed w items from rounds)

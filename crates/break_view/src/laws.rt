@@ -1,5 +1,5 @@
 // What holds of all texts of breaks and of all games with breaks, as laws of their definitions.
-ghost use Rattle.break_view.specs.Laws.{EndsAreFound, FewerStopLater, LaterRoundsAddNothing, OneFirstStop, OneListOrOneFault, StopsFollowTurns};
+ghost use Rattle.break_view.specs.Laws.{EndsAreFound, FewerStopLater, LaterRoundsAddNothing, OneFirstStop, OneListOrOneFault, QuietRoundsArePassed, StopsFollowTurns};
 
 /// A law: every text has exactly one list of breaks or exactly one fault, and never both.
 pub fn one_list_or_one_fault()
@@ -18,8 +18,8 @@ pub fn fewer_stop_later()
     ensures { FewerStopLater }
 {}
 
-/// A law: a break counts only after a turn: a stop is in round 1 or later, and there is none without rounds, without ants or without
-/// breaks.
+/// A law: a break counts only after a turn: a stop is in round 1 or later and not before the round from which on breaks are looked for,
+/// and there is none without rounds, without ants or without breaks, or if that round is after the last one.
 #[tactic(auto, using(crate::proofs::ViewLaws::stops_follow_turns))]
 pub fn stops_follow_turns()
     ensures { StopsFollowTurns }
@@ -36,4 +36,11 @@ pub fn later_rounds_add_nothing()
 #[tactic(auto, using(crate::proofs::FirstStops::ends_are_found))]
 pub fn ends_are_found()
     ensures { EndsAreFound }
+{}
+
+/// A law: rounds in which no turn would stop the game can be passed over: its view from a round on is that from any later round, if no turn
+/// between them would stop it. So a view from round 0 on is that from round 1 on.
+#[tactic(auto, using(crate::proofs::QuietRounds::quiet_rounds_are_passed))]
+pub fn quiet_rounds_are_passed()
+    ensures { QuietRoundsArePassed }
 {}

@@ -14,6 +14,7 @@ ghost use Rattle.break_view.specs.Inner.Changes.{IsNamed};
 
 use crate::breaks::Breaks;
 use crate::met::met_now;
+use crate::passed_rounds::pass_rounds;
 use crate::states::{Watch, name_states};
 use crate::watched_turn::take_watched;
 use ant_random::Stream;
@@ -32,15 +33,15 @@ pub struct Stop {
     pub which: u32,
 }
 
-/// Plays a game until a break holds after a turn, and gives the first such stop; `None` exactly where no break holds after any turn of
-/// the rounds.
+/// Plays a game until a break holds after a turn of a round from `from` on, and returns the first such stop; `None` exactly if no break
+/// holds after any turn of these rounds.
 ///
 /// Each ant's state is below the length of its colour's brain, as in every opening world; the seed is any, and the rounds are at most
-/// 1,000,000. The turns are those of the ids in rising order, from 0, round after round, with the random numbers of the seed from place 0
+/// 1,000,000. The first round, `from`, is any: with 0 and 1 breaks are looked for from the first turn on, and above the rounds never. The turns are those of the ids in rising order, from 0, round after round, with the random numbers of the seed from place 0
 /// on; the turn of a dead id is a turn. The world is left as it is after the stop's turn, or after all rounds. A break that holds before
-/// the first turn counts only if it holds after it.
+/// the first turn of round `from` counts only if it holds after it.
 ///
-/// It takes no memory. The breaks are asked one by one only after the first turn of a round, after a turn in which an ant went, was killed or
+/// It takes no memory. The rounds before `from` are played as a game is that nobody watches. In the others the breaks are asked one by one only after the first turn of a round, after a turn in which an ant went, was killed or
 /// changed the food of its cell, and where a break asks for the state that the ant has then, which a table of each colour names; no other
 /// turn can make a break hold. Each costs one look-up at most: of a cell, of the place of an ant, or of the food on the hills, which is kept
 /// from turn to turn. All cells are looked at only once, and once more after each turn that killed.
@@ -49,14 +50,17 @@ pub fn find_stop(
     brains: Brains<'_>,
     seed: u32,
     rounds: u32,
+    from: u32,
     breaks: &Breaks,
 ) -> Option<Stop>
     requires fit { Fits (world_of world.old) (minds_of brains) }
     requires few_rounds { rounds ≤ most_rounds }
-    ensures { EndsAt (minds_of brains.entry) seed rounds (world_of world.old) breaks.now result (world_of world.new) }
+    ensures { EndsAt (minds_of brains.entry) seed rounds from (world_of world.old) breaks.now result (world_of world.new) }
 {
     let items = breaks.items();
     let mut stream = Stream::from_seed(seed);
+    let passed = rounds.min(from.saturating_sub(1));
+    pass_rounds(world, brains, &mut stream, passed);
     let mut score = world.score();
     let (mut red, mut black) = ([false; MOST_STATES], [false; MOST_STATES]);
     name_states(items, &mut red, &mut black);
@@ -65,7 +69,7 @@ pub fn find_stop(
         red: &red,
         black: &black,
     };
-    for round in 0..rounds {
+    for round in passed..rounds {
         let stop = stop_in_round(world, brains, &mut stream, &mut score, round + 1, watch);
         if stop.is_some() {
             return stop;

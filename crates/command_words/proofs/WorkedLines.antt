@@ -332,11 +332,22 @@ pub short_help : IsRefusedAt (words_of (codes "-h")) 1
 unfolding command_kind_of choice_of is_among rest_after is_file_name is_dumps dumps_of decimal_value
 short_help = read-refuses (words_of (codes "-h")) 1 refl
 
--- `view`
+-- `view`, in which breaks are looked for from round 0 on, if no option says otherwise
 pub view_command : Says View (codes "view w r b k --rounds 5 --seed 12345")
-    (AtFile 0 (codes "w") ∷ AtFile 1 (codes "r") ∷ AtFile 2 (codes "b") ∷ AtFile 3 (codes "k") ∷ OptionIs Seed 12345 ∷ OptionIs Rounds 5 ∷ [])
+    (AtFile 0 (codes "w") ∷ AtFile 1 (codes "r") ∷ AtFile 2 (codes "b") ∷ AtFile 3 (codes "k") ∷ OptionIs Seed 12345 ∷ OptionIs Rounds 5 ∷ OptionIs From 0 ∷ [])
 unfolding command_kind_of choice_of is_among rest_after is_file_name is_dumps dumps_of decimal_value
-view_command = says _ _ _ refl (refl, (refl, (refl, (refl, (refl, (refl, tt))))))
+view_command = says _ _ _ refl (refl, (refl, (refl, (refl, (refl, (refl, (refl, tt)))))))
+
+-- the first round that is looked at, also before the other options and above the rounds, and with leading zeros
+pub view_from : Says View (codes "view w r b k --from 1000000 --rounds 5 --seed 12345")
+    (AtFile 0 (codes "w") ∷ AtFile 1 (codes "r") ∷ AtFile 2 (codes "b") ∷ AtFile 3 (codes "k") ∷ OptionIs Seed 12345 ∷ OptionIs Rounds 5 ∷ OptionIs From 1000000 ∷ [])
+unfolding command_kind_of choice_of is_among rest_after is_file_name is_dumps dumps_of decimal_value
+view_from = says _ _ _ refl (refl, (refl, (refl, (refl, (refl, (refl, (refl, tt)))))))
+
+pub view_from_between : Says View (codes "view w r b k --seed 1 --from 0018 --rounds 1000000")
+    (AtFile 0 (codes "w") ∷ AtFile 1 (codes "r") ∷ AtFile 2 (codes "b") ∷ AtFile 3 (codes "k") ∷ OptionIs Seed 1 ∷ OptionIs Rounds 1000000 ∷ OptionIs From 18 ∷ [])
+unfolding command_kind_of choice_of is_among rest_after is_file_name is_dumps dumps_of decimal_value
+view_from_between = says _ _ _ refl (refl, (refl, (refl, (refl, (refl, (refl, (refl, tt)))))))
 
 -- `workload`
 pub workload_command : Says Workload (codes "workload 12345 1000 4")
@@ -698,6 +709,19 @@ run_takes_no_width = read-refuses (words_of (codes "run w r b --width 150")) 5 r
 pub view_without_breaks : IsRefusedAt (words_of (codes "view w r b --seed 1")) 5
 unfolding command_kind_of choice_of is_among rest_after is_file_name is_dumps dumps_of decimal_value
 view_without_breaks = read-refuses (words_of (codes "view w r b --seed 1")) 5 refl
+
+-- 1,000,001 is no round of a view, nor is a number of 11 digits, and one first round is enough
+pub view_from_too_late : IsRefusedAt (words_of (codes "view w r b k --from 1000001")) 7
+unfolding command_kind_of choice_of is_among rest_after is_file_name is_dumps dumps_of decimal_value
+view_from_too_late = read-refuses (words_of (codes "view w r b k --from 1000001")) 7 refl
+
+pub view_from_too_long : IsRefusedAt (words_of (codes "view w r b k --from 00000000001")) 7
+unfolding command_kind_of choice_of is_among rest_after is_file_name is_dumps dumps_of decimal_value
+view_from_too_long = read-refuses (words_of (codes "view w r b k --from 00000000001")) 7 refl
+
+pub view_from_twice : IsRefusedAt (words_of (codes "view w r b k --from 1 --from 1")) 8
+unfolding command_kind_of choice_of is_among rest_after is_file_name is_dumps dumps_of decimal_value
+view_from_twice = read-refuses (words_of (codes "view w r b k --from 1 --from 1")) 8 refl
 
 -- `view` takes no workers
 pub view_takes_no_workers : IsRefusedAt (words_of (codes "view w r b k --workers 1")) 6

@@ -125,10 +125,10 @@ unfolding command_kind_of choice_of is_among rest_after is_file_name is_dumps du
 cup_takes_few = refused_after (codes "cup --worlds w --brains a b") 7 ((codes "--labels") ∷ (codes "--states") ∷ (game_options ++ shape_options))
     (refl, (refl, (refl, (refl, (refl, (refl, (refl, (refl, (refl, (refl, (refl, (refl, (refl, tt)))))))))))))
 
--- `view` takes a seed and rounds alone
-pub view_takes_two : AreRefusedAfter (codes "view w r b k") 6 ((codes "--workers") ∷ (game_options ++ shape_options))
+-- `view` takes a seed, rounds and the first one that is looked at alone
+pub view_takes_three : AreRefusedAfter (codes "view w r b k") 6 ((codes "--workers") ∷ (game_options ++ shape_options))
 unfolding command_kind_of choice_of is_among rest_after is_file_name is_dumps dumps_of decimal_value
-view_takes_two = refused_after (codes "view w r b k") 6 ((codes "--workers") ∷ (game_options ++ shape_options))
+view_takes_three = refused_after (codes "view w r b k") 6 ((codes "--workers") ∷ (game_options ++ shape_options))
     (refl, (refl, (refl, (refl, (refl, (refl, (refl, (refl, (refl, (refl, (refl, (refl, tt))))))))))))
 
 -- `trace` takes no dumps, no workers, no windows, no counts, and no option of a world

@@ -238,7 +238,7 @@ impl CommandKind {
             CommandKind::View => CommandRow {
                 word: "view",
                 places: &[FILE, FILE, FILE, FILE],
-                choices: &[Choice::Seed, Choice::Rounds],
+                choices: &[Choice::Seed, Choice::Rounds, Choice::From],
                 names: " WORLD RED BLACK BREAKS",
                 says: "plays a game up to the first of its breaks, and prints the world there",
             },

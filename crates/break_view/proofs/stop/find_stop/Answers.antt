@@ -1,9 +1,11 @@
 use Rattle.std.proofs.Common.{◌≡◌, ◌+◌, List, sym, ◌∙◌, subst, arith}
 use Rattle.ant_turn.specs.Minds.{minds_of}
+use Rattle.cell_world.specs.Grid.{world_of}
 use Rattle.match_run.specs.Inner.Alone.{moment_from}
 use Rattle.break_view.specs.declared.breaks.Break.{Break}
 use Rattle.break_view.specs.Inner.Rounds.{RoundEnds}
-use Rattle.break_view.proofs.WatchedRounds.{watched-none, watched-more, ends_stopped, ends_passed, ends_without}
+use Rattle.break_view.proofs.AfterRounds.{IsAfter-passed}
+use Rattle.break_view.proofs.WatchedRounds.{watched-passed, watched-more, ends_stopped, ends_passed, ends_without}
 use Rattle.break_view.proofs.stop.find_stop.Goals as goal
 use Rattle.break_view.proofs.stop.find_stop.Goals.{After-is_some}
 
@@ -14,11 +16,16 @@ ended c =
     c.items-items.ensures.list c.stop_in_round-stop.ensures.end
 
 pub loop-round-init : goal.loop-round-init
-loop-round-init c = watched-none (minds_of c.args.brains) c.args.seed c.args.breaks.now c.args.world.now c.from_seed-stream.result c.score-score.result c.from_seed-stream.ensures.seed c.from_seed-stream.ensures.place c.requires.fit c.score-score.ensures.score
+loop-round-init c =
+    watched-passed (minds_of c.args.brains) c.args.seed c.args.from (world_of c.args.world.now) c.args.breaks.now c.min-passed.result c.pass_rounds.new.world c.pass_rounds.new.stream c.score-score.result
+    (omega (arith, c.min-passed.ensures, c.saturating_sub.ensures))
+    (IsAfter-passed (minds_of c.args.brains) c.args.seed c.args.world.now c.from_seed-stream.result c.min-passed.result c.pass_rounds.new.world c.pass_rounds.new.stream c.from_seed-stream.ensures.seed c.from_seed-stream.ensures.place
+    c.pass_rounds.ensures.moment c.pass_rounds.ensures.seed c.pass_rounds.ensures.place c.pass_rounds.ensures.fit)
+    c.score-score.ensures.score
 
 pub returns-then-is_some : goal.returns-then-is_some
 returns-then-is_some c =
-    ends_stopped c.loop-round.invariant c.args.rounds c.stop_in_round-stop.result _ (omega (arith, c.loop-round-test.true)) (sym c.is_some.ensures ∙ c.if-is_some.true)
+    ends_stopped c.loop-round.invariant c.args.rounds c.stop_in_round-stop.result _ (omega (arith, c.loop-round-test.true, c.min-passed.ensures, c.saturating_sub.ensures)) (omega (arith, c.loop-round-test.true)) (sym c.is_some.ensures ∙ c.if-is_some.true)
     (ended (goal.at.returns-then-is_some c).After-is_some)
 
 pub loop-round-preserved : goal.loop-round-preserved

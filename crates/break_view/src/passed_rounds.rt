@@ -1,0 +1,58 @@
+// Rounds that are played before breaks are looked for.
+ghost use Rattle.std.specs.Prelude.{◌≡◌, ◌+◌, ◌*◌, ◌<◌, ◌≤◌, ◌^◌};
+ghost use Rattle.ant_turn.specs.Minds.{Fits, minds_of};
+ghost use Rattle.ant_turn.specs.Rounds.{after_rounds};
+ghost use Rattle.cell_world.specs.Grid.{world_of};
+ghost use Rattle.cell_world.specs.Limits.{most_ants};
+ghost use Rattle.match_run.specs.Inner.Alone.{moment_from};
+
+use ant_random::Stream;
+use ant_turn::{Brains, act};
+use cell_world::{PlacedAnt, World};
+use match_run::{Watch, watch_rounds};
+
+// Plays so many rounds, and looks at none of their turns.
+pub(crate) fn pass_rounds(world: &mut World, brains: Brains<'_>, stream: &mut Stream, rounds: u32)
+    requires fit { Fits (world_of world.old) (minds_of brains) }
+    requires place { stream.old.place + rounds * most_ants < 2 ^ 63 }
+    ensures moment { moment_from world.new stream.new ≡ after_rounds (minds_of brains.entry) stream.old.seed (moment_from world.old stream.old) rounds }
+    ensures seed { stream.new.seed ≡ stream.old.seed }
+    ensures place { stream.new.place ≤ stream.old.place + rounds * most_ants }
+    ensures fit { Fits (world_of world.new) (minds_of brains.entry) }
+{
+    let _watched = watch_rounds(&Unwatched, world, &brains, stream, rounds, &mut ());
+}
+
+// Takes each turn, and looks for nothing.
+struct Unwatched;
+
+impl Watch for Unwatched {
+    ghost use Rattle.std.specs.Prelude.{⊤, [], IsTrue};
+    ghost use Rattle.std.specs.Result.{is_ok};
+
+    type On = World;
+
+    type Log = ();
+
+    type Stop = ();
+
+    ghost Told = { ⊤ };
+
+    ghost telling = { λ _ _ _ _ _ _. [] };
+
+    ghost logs = { λ _ _ _ _ result. IsTrue (is_ok result) };
+
+    #[inline(always)]
+    fn turn(
+        &self,
+        board: &mut World,
+        brains: &Brains<'_>,
+        stream: &mut Stream,
+        standing: PlacedAnt,
+        _round: u32,
+        _log: &mut (),
+    ) -> Result<(), ()> {
+        let _deed = act(board, *brains, stream, standing);
+        Ok(())
+    }
+}
