@@ -20,7 +20,7 @@ class Words:
     """Commands with their options, and options with their limits and defaults and with what they take, as the definitions have them."""
 
     def __init__(self, folder="crates/command_words/specs"):
-        texts = [read(file) for file in source_files(folder, ".antt") if "/Inner/" not in file]
+        texts = [re.sub(r"\n    +", " ", read(file)) for file in source_files(folder, ".antt") if "/Inner/" not in file]
         rows = {kind: (word, choices) for kind, word, choices in only(texts, r'^row_of (\w+) = command_row \(codes "([^"]+)"\).* (\[\]|\([^()]*\))$')}
         options = only(texts, r'^option_row (\w+) = (needed|number|dump|flag)_option \(codes "([^"]+)"\) ?(\w*) ?(\d*)')
         kinds = only(texts, r"^kinds = (.*) ∷ \[\]$")[0].split(" ∷ ")
