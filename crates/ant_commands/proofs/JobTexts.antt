@@ -19,7 +19,7 @@ use Rattle.brain_same.specs.Text.{comparison_text, way_text}
 use Rattle.break_view.proofs.ViewLaws.{one_first_stop}
 use Rattle.break_view.specs.Texts.{view_of}
 use Rattle.cell_world.specs.Grid.{Grid, world_of}
-use Rattle.ant_commands.specs.Setups.{CupWithin, RunSetup, ShapeWithin, format_of, resume_of, save_setup_of, setup_of, shape_of, told_of, trace_of}
+use Rattle.ant_commands.specs.Setups.{CupWithin, RunSetup, ShapeWithin, ant_of, report_of, format_of, resume_of, save_setup_of, setup_of, shape_of}
 use Rattle.ant_commands.specs.Jobs.{asm_job, brain_job, cup_job, gen_job, help_job, job_by, job_of, minimise_job, same_job, version_job, view_job, workload_job}
 use Rattle.ant_commands.specs.declared.commands.setups.GenShape.{GenShape}
 use Rattle.match_run.specs.Counts.{whole_text}
@@ -38,18 +38,18 @@ use Rattle.world_read.specs.Canonical.{canonical_text}
 use Rattle.world_read.specs.Opened.{kinds_of}
 use Rattle.ant_commands.specs.Files.{AreAccepted, File, FileContent}
 use Rattle.ant_commands.specs.Help.{help_text, version_text}
-use Rattle.ant_commands.specs.Outputs.{IsAsmOutput, IsCupOutput, IsViewOutput, ReadCup, ReadGame, ReadPair, ReadProgram, ReadView, Tells, TellsGenerated, TellsMinimised, TellsSame, TellsWorkload, advance_output, brain_contents, brain_file, pair_contents, contest_shape, roster_contents, cup_files, events_output, game_contents, game_files, is_text_of, labelled_file, match_output, minimise_output, profile_output, program_contents, resume_output, save_output, score_in_cup, shape_named, show_output, source_contents, source_text, summary_of, trace_output, workload_text}
+use Rattle.ant_commands.specs.Outputs.{IsAsmOutput, IsCupOutput, IsViewOutput, ReadCup, ReadGame, ReadPair, ReadProgram, ReadView, Tells, TellsGenerated, TellsMinimised, TellsSame, TellsWorkload, acts_output, advance_output, brain_contents, brain_file, pair_contents, contest_shape, roster_contents, cup_files, events_output, game_contents, game_files, is_text_of, labelled_file, match_output, minimise_output, profile_output, program_contents, resume_output, save_output, score_in_cup, shape_named, show_output, source_contents, source_text, summary_of, trace_output, workload_text}
 use Rattle.ant_commands.specs.Job.{Job, plain_job}
 use Rattle.command_words.specs.Command.{AskedWithin, PlainAsked}
 use Rattle.command_words.specs.declared.table.CommandKind.{CommandKind}
-use Rattle.command_words.specs.declared.table.CommandKind.TheVariants.{Advance, Asm, Brain, Cup, Events, Gen, Help, HelpWord, Minimise, Profile, Resume, Run, Same, Save, Show, Trace, Version, View, Workload}
-use Rattle.command_words.specs.declared.table.Choice.TheVariants.{Seed, Rounds, Workers, Labels, Lines, Way, States, Games}
+use Rattle.command_words.specs.declared.table.CommandKind.TheVariants.{Acts, Advance, Asm, Brain, Cup, Events, Gen, Help, HelpWord, Minimise, Profile, Resume, Run, Same, Save, Show, Trace, Version, View, Workload}
+use Rattle.command_words.specs.declared.table.Choice.TheVariants.{Seed, Rounds, Workers, Labels, Lines, Way, States, Games, Food}
 use Rattle.command_words.specs.declared.table.NameList.TheVariants.{Worlds, Brains}
 use Rattle.ant_commands.proofs.SetupLemmas.{cup-within, shape-within}
 use Rattle.ant_commands.specs.Laws.{HasOutput, OneText, TellsNoLabel, TextsEndInLf, WindowsChangeCountsAlone}
 use Rattle.ant_commands.proofs.Cups.{players_counted}
 use Rattle.ant_commands.proofs.ReadContents.{IsReading, has_text_of, has_told, one_text_of, one_told, read_brain, read_cup, read_game, read_none, read_pair, read_program, read_save, read_source, read_view, read_world}
-use Rattle.ant_commands.proofs.TextEnds.{EndsInLf, lf_advance, lf_brain, lf_canonical, lf_comparison, lf_difference, lf_events, lf_last, lf_help, lf_match, lf_minimised, lf_profile, lf_rest, lf_save, lf_show, lf_standing, lf_state_lines, lf_states, lf_printed, lf_trace, lf_version, lf_view, lf_workload, lines_labels}
+use Rattle.ant_commands.proofs.TextEnds.{EndsInLf, lf_acts, lf_advance, lf_brain, lf_canonical, lf_comparison, lf_difference, lf_events, lf_last, lf_help, lf_match, lf_minimised, lf_profile, lf_rest, lf_save, lf_show, lf_standing, lf_state_lines, lf_states, lf_printed, lf_trace, lf_version, lf_view, lf_workload, lines_labels}
 use Rattle.ant_commands.proofs.Viewed.{view_of-view}
 
 -- what is told ends in LF
@@ -337,10 +337,11 @@ laws_by Version a is = version-laws a
 laws_by Asm a is = asm-laws a is (a.file 0)
 laws_by Save a is = text_laws a _ _ (read_of a) (save_output (save_setup_of a)) (lf_save (save_setup_of a))
 laws_by Resume a is = text_laws a _ _ (read_save (a.file 0) (a.option Rounds)) (resume_output (resume_of a)) (lf_rest (resume_of a))
-laws_by Trace a is = text_laws a _ _ (read_of a) (trace_output (a.number 3) (trace_of a)) (lf_trace (a.number 3) (trace_of a))
+laws_by Trace a is = text_laws a _ _ (read_of a) (trace_output (a.number 3) (report_of a)) (lf_trace (a.number 3) (report_of a))
 laws_by Same a is = same-laws a (a.file 0) (a.file 1) (a.has Way)
-laws_by Events a is = text_laws a _ _ (read_of a) (events_output (told_of a)) (lf_events (told_of a))
-laws_by Profile a is = text_laws a _ _ (read_of a) (profile_output (told_of a)) (lf_profile (told_of a))
+laws_by Events a is = text_laws a _ _ (read_of a) (events_output (a.has Food) (report_of a)) (lf_events (a.has Food) (report_of a))
+laws_by Acts a is = text_laws a _ _ (read_of a) (acts_output (ant_of a) (report_of a)) (lf_acts (ant_of a) (report_of a))
+laws_by Profile a is = text_laws a _ _ (read_of a) (profile_output (report_of a)) (lf_profile (report_of a))
 laws_by Advance a is = text_laws a _ _ (read_save (a.file 0) (a.option Rounds)) (advance_output (a.option Rounds)) (lf_advance (a.option Rounds))
 
 pub laws_of : (a : PlainAsked) → JobLaws a (job_of a)

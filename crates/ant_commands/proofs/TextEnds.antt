@@ -1,6 +1,6 @@
 -- Each text that a command writes ends in LF.
 use Rattle.std.proofs.Common.{◌≡◌, ◌⊎◌, inl, inr, ℕ, zero, suc, ◌≤◌, Bool, true, false, List, [], ◌∷◌, ◌++◌, length, map, get_or, Option, Some, None, ◌+◌, refl, sym, ◌∙◌, subst, append-nil, arith}
-use Rattle.std.proofs.lemmas.Bool.{false≢true}
+use Rattle.std.proofs.lemmas.Bool.{cond_both, false≢true}
 use Rattle.std.proofs.lemmas.List.{length-map}
 use Rattle.std.proofs.lemmas.List.Sorted.{length_permutation}
 use Rattle.std.specs.List.{flat_map}
@@ -37,13 +37,15 @@ use Rattle.cell_world.specs.declared.cell.Cell.{Cell}
 use Rattle.cell_world.specs.declared.kind.Kind.{Kind}
 use Rattle.cell_world.specs.declared.kind.Kind.TheVariants.{Rock}
 use Rattle.cell_world.specs.declared.score.Score.{Score}
-use Rattle.ant_commands.specs.Setups.{ResumeSetup, RunSetup, ToldSetup, TraceSetup}
+use Rattle.ant_commands.specs.Setups.{ReportSetup, ResumeSetup, RunSetup, ToldSetup}
 use Rattle.dump_print.specs.Content.{colour_text}
 use Rattle.dump_print.specs.Texts.{cell_line, cell_words, cells_text, dump_text, row_text, score_text, seed_text, seed_words, stats_text}
 use Rattle.dump_print.specs.declared.totals.Totals.{Totals}
-use Rattle.game_reports.specs.Events.{events_text, turn_lines}
+use Rattle.game_reports.specs.Acts.{act_lines, acts_text}
+use Rattle.game_reports.specs.Events.{event_lines}
+use Rattle.game_reports.specs.Report.{report_lines, report_text}
 use Rattle.game_reports.specs.Profile.{brain_lines, executed_in_rounds, met_of, met_text, profile_text, state_line as tally_of_state, tally_line, times_of}
-use Rattle.match_run.specs.Told.{told_in_rounds}
+use Rattle.match_run.specs.Seen.{Seen}
 use Rattle.line_tokens.specs.Fields.{LineField, field_text, further_text, line_text}
 use Rattle.match_run.specs.Counts.{counts_text, totals_of, whole_text, both}
 use Rattle.match_run.specs.Run.{dumps_text, run_text, world_after}
@@ -66,7 +68,7 @@ use Rattle.world_read.specs.Canonical.{canonical_text, cell_text, line_of_row, s
 use Rattle.ant_commands.specs.declared.commands.workload.Summary.{Summary}
 use Rattle.ant_commands.specs.Help.{head_lines, help_text, tail_lines, version_text}
 use Rattle.command_words.specs.Help.{table_text}
-use Rattle.ant_commands.specs.Outputs.{ReadGame, advance_output, trace_output, chosen_rounds, events_output, match_output, minds_named, profile_output, resume_output, save_output, show_output, summary_lines, told_minds, workload_text}
+use Rattle.ant_commands.specs.Outputs.{acts_output, ReadGame, advance_output, trace_output, chosen_rounds, events_output, match_output, minds_named, profile_output, resume_output, save_output, show_output, summary_lines, told_minds, workload_text}
 
 -- a text that ends in LF
 pub record EndsInLf (text : List ℕ) : Type 0 where
@@ -381,7 +383,7 @@ unfolding way_text unmade_text
 lines_end true worlds id from n = lines_numbered (told_line worlds id from) n (lines_told worlds id from)
 lines_end false worlds id from n = inr (lf_last (codes "no ant of id ") (decimal id +++ codes "\n") (lf_last (decimal id) (codes "\n") lf_end))
 
-pub lf_trace : (id : ℕ) (setup : TraceSetup) (game : ReadGame) → EndsInLf (trace_output id setup game)
+pub lf_trace : (id : ℕ) (setup : ReportSetup) (game : ReadGame) → EndsInLf (trace_output id setup game)
 unfolding trace_output trace_text
 lf_trace id setup game =
     let told : ToldSetup = setup.told in
@@ -389,14 +391,27 @@ lf_trace id setup game =
     lf_then (seed_text told.seed) _ (lf_seed told.seed)
     (lines_end (nat_lt id w.ids) (λ i. world_after (told_minds told game) told.seed w (setup.from + i)) id setup.from (told.rounds + 1 - setup.from))
 
--- who died and how the score went
-pub lf_events : (setup : ToldSetup) (game : ReadGame) → EndsInLf (events_output setup game)
-unfolding events_output events_text
-lf_events setup game =
-    let minds : Minds = told_minds setup game in
-    let lines : List (List ℕ) = told_in_rounds (turn_lines minds setup.seed) minds setup.seed (start_of (world_of game.world)) setup.rounds in
-    lf_then (seed_text setup.seed) (flat_map (λ words. words +++ codes "\n") lines) (lf_seed setup.seed)
+-- any lines of what is seen of turns
+lf_report : (told : Seen → List (List ℕ)) (from : ℕ) (minds : Minds) (seed : ℕ) (w : World) (rounds : ℕ) → EndsInLf (report_text told from minds seed w rounds)
+unfolding report_text
+lf_report told from minds seed w rounds =
+    let lines : List (List ℕ) = report_lines told from minds seed w rounds in
+    lf_then (seed_text seed) (flat_map (λ words. words +++ codes "\n") lines) (lf_seed seed)
     (lines_flat_map (λ words. words +++ codes "\n") lines (λ words. lf_last words (codes "\n") lf_end))
+
+-- who died, who took and dropped food, and how the score went
+pub lf_events : (food : Bool) (setup : ReportSetup) (game : ReadGame) → EndsInLf (events_output food setup game)
+unfolding events_output
+lf_events food setup game = lf_report (event_lines food) setup.from (told_minds setup.told game) setup.told.seed (world_of game.world) setup.told.rounds
+
+-- what the ants executed
+pub lf_acts : (one : Option ℕ) (setup : ReportSetup) (game : ReadGame) → EndsInLf (acts_output one setup game)
+unfolding acts_output acts_text unmade_text
+lf_acts None setup game = lf_report (act_lines None) setup.from (told_minds setup.told game) setup.told.seed (world_of game.world) setup.told.rounds
+lf_acts (Some id) setup game =
+    cond_both (nat_lt id (world_of game.world).ids) _ _ EndsInLf
+    (λ _. lf_report (act_lines (Some id)) setup.from (told_minds setup.told game) setup.told.seed (world_of game.world) setup.told.rounds)
+    (λ _. lf_last (seed_text setup.told.seed) _ (lf_last (codes "no ant of id ") (decimal id +++ codes "\n") (lf_last (decimal id) (codes "\n") lf_end)))
 
 -- how often each state was executed
 lf_tally : (colour : Colour) (state : ℕ) (instruction : Instr) (times met : ℕ) → EndsInLf (tally_line colour state instruction times met)
@@ -408,21 +423,22 @@ lf_tally colour state instruction times met =
     lf_last (colour_text colour) _ (lf_last (codes " ") _ (lf_last (decimal state) _ (lf_last (codes ": ") often (lf_last (decimal times) _ (lf_last (codes " times") answers
     (lf_last (met_text instruction met) line (lf_last (codes ": ") (instruction_text instruction) (lf_instruction instruction))))))))
 
-lines_tallies : (minds : Minds) (seed : ℕ) (w : World) (rounds : ℕ) (colour : Colour) (brain : List Instr) → AreLines (brain_lines colour brain (executed_in_rounds minds seed w rounds))
+lines_tallies : (minds : Minds) (seed : ℕ) (w : World) (rounds from : ℕ) (colour : Colour) (brain : List Instr) → AreLines (brain_lines colour brain (executed_in_rounds minds seed w rounds from))
 unfolding brain_lines
-lines_tallies minds seed w rounds colour brain =
-    let list = executed_in_rounds minds seed w rounds in
+lines_tallies minds seed w rounds from colour brain =
+    let list = executed_in_rounds minds seed w rounds from in
     lines_numbered (tally_of_state colour brain list) (length brain)
     (λ state. inr (lf_tally colour state (instruction_at brain state) (times_of list colour state) (met_of list colour state)))
 
-pub lf_profile : (setup : ToldSetup) (game : ReadGame) → EndsInLf (profile_output setup game)
+pub lf_profile : (setup : ReportSetup) (game : ReadGame) → EndsInLf (profile_output setup game)
 unfolding profile_output profile_text
 lf_profile setup game =
-    let minds : Minds = told_minds setup game in
+    let told : ToldSetup = setup.told in
+    let minds : Minds = told_minds told game in
     let w : World = world_of game.world in
-    let list = executed_in_rounds minds setup.seed w setup.rounds in
-    lf_then (seed_text setup.seed) (brain_lines Red game.red list +++ brain_lines Black game.black list) (lf_seed setup.seed)
-    (lines_then (brain_lines Red game.red list) (brain_lines Black game.black list) (lines_tallies minds setup.seed w setup.rounds Red game.red) (lines_tallies minds setup.seed w setup.rounds Black game.black))
+    let list = executed_in_rounds minds told.seed w told.rounds setup.from in
+    lf_then (seed_text told.seed) (brain_lines Red game.red list +++ brain_lines Black game.black list) (lf_seed told.seed)
+    (lines_then (brain_lines Red game.red list) (brain_lines Black game.black list) (lines_tallies minds told.seed w told.rounds setup.from Red game.red) (lines_tallies minds told.seed w told.rounds setup.from Black game.black))
 
 -- what two brains come to
 lf_found : (found : Found) → EndsInLf (found_text found)

@@ -1,5 +1,5 @@
 -- What a command line of each command asks for, as its job: which word is which file, and which option which number.
-use Rattle.std.proofs.Common.{◌≡◌, ℕ, List, ◌∷◌, [], Some, ap, codes, false, true, refl, ◌∙◌}
+use Rattle.std.proofs.Common.{◌≡◌, ℕ, List, ◌∷◌, [], Some, None, ap, codes, false, true, refl, ◌∙◌}
 use Rattle.std.specs.Fmt.{digits}
 use Rattle.ant_asm.specs.Source.{ReadSource}
 use Rattle.ant_base.specs.Layout.{◌+++◌}
@@ -17,13 +17,13 @@ use Rattle.match_save.specs.Text.{draft_lines, draft_text, instruction_line}
 use Rattle.command_words.specs.Command.{asked_in, is_among, rest_after}
 use Rattle.command_words.specs.Slots.{dumps_of, is_dumps, is_file_name}
 use Rattle.command_words.specs.Slots.DumpChoice.{EveryDump, NoDump}
-use Rattle.command_words.specs.declared.table.CommandKind.TheVariants.{Advance, Asm, Brain, Cup, Events, Gen, Help, HelpWord, Minimise, Profile, Resume, Run, Same, Save, Show, Trace, Version, View, Workload}
+use Rattle.command_words.specs.declared.table.CommandKind.TheVariants.{Acts, Advance, Asm, Brain, Cup, Events, Gen, Help, HelpWord, Minimise, Profile, Resume, Run, Same, Save, Show, Trace, Version, View, Workload}
 use Rattle.command_words.proofs.WorkedLines.{words_of}
 use Rattle.ant_commands.specs.Files.FileKind.{LabelledFile, SaveFile}
 use Rattle.ant_commands.specs.Job.{files_of}
 use Rattle.ant_commands.specs.Outputs.{ReadGame, advance_output, source_text, told_minds}
 use Rattle.ant_commands.specs.Setups.{told_of}
-use Rattle.ant_commands.specs.Jobs.{advance_job, asm_job, brain_job, cup_job, events_job, gen_job, help_job, job_of, minimise_job, profile_job, resume_job, run_job, same_job, save_job, show_job, trace_job, version_job, view_job, workload_job}
+use Rattle.ant_commands.specs.Jobs.{acts_job, advance_job, asm_job, brain_job, cup_job, events_job, gen_job, help_job, job_of, minimise_job, profile_job, resume_job, run_job, same_job, save_job, show_job, trace_job, version_job, view_job, workload_job}
 
 pub show_asked : job_of (asked_in Show (words_of (codes "show w 7"))) ≡ show_job (codes "w") 7
 unfolding is_among rest_after is_file_name is_dumps dumps_of decimal_value
@@ -162,11 +162,23 @@ pub same_way_asked : job_of (asked_in Same (words_of (codes "same a b --way"))) 
 unfolding is_among rest_after is_file_name is_dumps dumps_of decimal_value
 same_way_asked = refl
 
-pub events_asked : job_of (asked_in Events (words_of (codes "events w r b --rest 1 --corpse 2 --surround 6 --rounds 5 --seed 7"))) ≡ events_job (codes "w") (codes "r") (codes "b") (record { seed = 7; rounds = 5; surround = 6; corpse = 2; rest = 1 })
+pub events_asked : job_of (asked_in Events (words_of (codes "events w r b --rest 1 --corpse 2 --surround 6 --from 3 --rounds 5 --seed 7"))) ≡ events_job (codes "w") (codes "r") (codes "b") false (record { told = record { seed = 7; rounds = 5; surround = 6; corpse = 2; rest = 1 }; from = 3 })
 unfolding is_among rest_after is_file_name is_dumps dumps_of decimal_value
 events_asked = refl
 
-pub profile_asked : job_of (asked_in Profile (words_of (codes "profile w r b --rest 1 --corpse 2 --surround 6 --rounds 5 --seed 7"))) ≡ profile_job (codes "w") (codes "r") (codes "b") (record { seed = 7; rounds = 5; surround = 6; corpse = 2; rest = 1 })
+pub events_food_asked : job_of (asked_in Events (words_of (codes "events w r b --food --rounds 5 --seed 7"))) ≡ events_job (codes "w") (codes "r") (codes "b") true (record { told = record { seed = 7; rounds = 5; surround = 5; corpse = 3; rest = 14 }; from = 0 })
+unfolding is_among rest_after is_file_name is_dumps dumps_of decimal_value
+events_food_asked = refl
+
+pub acts_asked : job_of (asked_in Acts (words_of (codes "acts w r b --rest 1 --corpse 2 --surround 6 --from 3 --rounds 5 --seed 7"))) ≡ acts_job (codes "w") (codes "r") (codes "b") None (record { told = record { seed = 7; rounds = 5; surround = 6; corpse = 2; rest = 1 }; from = 3 })
+unfolding is_among rest_after is_file_name is_dumps dumps_of decimal_value
+acts_asked = refl
+
+pub acts_one_asked : job_of (asked_in Acts (words_of (codes "acts w r b --ant 0 --rounds 5 --seed 7"))) ≡ acts_job (codes "w") (codes "r") (codes "b") (Some 0) (record { told = record { seed = 7; rounds = 5; surround = 5; corpse = 3; rest = 14 }; from = 0 })
+unfolding is_among rest_after is_file_name is_dumps dumps_of decimal_value
+acts_one_asked = refl
+
+pub profile_asked : job_of (asked_in Profile (words_of (codes "profile w r b --rest 1 --corpse 2 --surround 6 --from 3 --rounds 5 --seed 7"))) ≡ profile_job (codes "w") (codes "r") (codes "b") (record { told = record { seed = 7; rounds = 5; surround = 6; corpse = 2; rest = 1 }; from = 3 })
 unfolding is_among rest_after is_file_name is_dumps dumps_of decimal_value
 profile_asked = refl
 

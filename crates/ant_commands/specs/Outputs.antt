@@ -31,8 +31,10 @@ use Rattle.command_words.specs.Slots.{DumpChoice}
 use Rattle.command_words.specs.Table.{default_of}
 use Rattle.command_words.specs.declared.table.Choice.TheVariants.{Blobs, Height, Rocks, Width, Window}
 use Rattle.command_words.specs.Slots.DumpChoice.{NoDump, EveryDump, ChosenDumps}
-use Rattle.game_reports.specs.Events.{events_text}
+use Rattle.game_reports.specs.Acts.{acts_text}
+use Rattle.game_reports.specs.Events.{event_lines}
 use Rattle.game_reports.specs.Profile.{profile_text}
+use Rattle.game_reports.specs.Report.{report_text}
 use Rattle.match_run.specs.Counts.{totals_of, whole_text}
 use Rattle.match_run.specs.Run.{world_after}
 use Rattle.match_save.specs.Advanced.{advanced}
@@ -40,7 +42,7 @@ use Rattle.match_save.specs.Resumed.{resumed_text}
 use Rattle.match_save.specs.Saved.{SavedValue, save_text}
 use Rattle.match_save.specs.Saves.{saved_after}
 use Rattle.dump_print.specs.Texts.{seed_text, dump_text, score_text, stats_text}
-use Rattle.ant_commands.specs.Setups.{ResumeSetup, RunSetup, ToldSetup, TraceSetup}
+use Rattle.ant_commands.specs.Setups.{ResumeSetup, RunSetup, ToldSetup, ReportSetup}
 use Rattle.tournament.specs.Text.{IsCupText}
 use Rattle.tournament.specs.Printed.{IsPrintedCupText, first_played, games_text}
 use Rattle.tournament.specs.Seeds.{seed_at, world_at}
@@ -167,7 +169,7 @@ chosen_rounds (ChosenDumps numbers) round = list_any (λ number. nat_eq number r
 abbrev pub sheet_named : RunSetup → Sheet
 sheet_named setup = record { surround = setup.surround; corpse = setup.corpse; rest = setup.rest }
 
--- the numbers of the rules that the words of `events`, `profile` or `trace` name
+-- the numbers of the rules that the words of `events`, `acts`, `profile` or `trace` name
 abbrev pub told_sheet : ToldSetup → Sheet
 told_sheet setup = record { surround = setup.surround; corpse = setup.corpse; rest = setup.rest }
 
@@ -197,17 +199,23 @@ abbrev pub told_minds : ToldSetup → ReadGame → Minds
 told_minds setup game = record { red = game.red; black = game.black; sheet = told_sheet setup }
 
 -- the output of `trace`: the line of the seed, and a line for one ant after each round from `--from` on, up to its death
-unfoldable pub trace_output : ℕ → TraceSetup → ReadGame → List ℕ
+unfoldable pub trace_output : ℕ → ReportSetup → ReadGame → List ℕ
 trace_output id setup game = trace_text (told_minds setup.told game) setup.told.seed (world_of game.world) setup.told.rounds id setup.from
 
--- the output of `events`: the line of the seed, and for each turn in order a line for each ant that is killed in it and one for the score if it
--- changed
-unfoldable pub events_output : ToldSetup → ReadGame → List ℕ
-events_output setup game = events_text (told_minds setup game) setup.seed (world_of game.world) setup.rounds
+-- the output of `events`: the line of the seed, and for each turn from round `--from` on, in order, a line for each ant that is killed in it, with
+-- `--food` one for the particle that its ant takes or drops, and one for the score if it changed
+unfoldable pub events_output : Bool → ReportSetup → ReadGame → List ℕ
+events_output food setup game = report_text (event_lines food) setup.from (told_minds setup.told game) setup.told.seed (world_of game.world) setup.told.rounds
 
--- the output of `profile`: the line of the seed, and a line for each state of the red brain and then of the black one
-unfoldable pub profile_output : ToldSetup → ReadGame → List ℕ
-profile_output setup game = profile_text (told_minds setup game) setup.seed (world_of game.world) setup.rounds
+-- the output of `acts`: the line of the seed, and a line for each turn from round `--from` on in which an ant executes an instruction; with `--ant`
+-- those of this ant alone
+unfoldable pub acts_output : Option ℕ → ReportSetup → ReadGame → List ℕ
+acts_output one setup game = acts_text (told_minds setup.told game) setup.told.seed (world_of game.world) setup.told.rounds one setup.from
+
+-- the output of `profile`: the line of the seed, and a line for each state of the red brain and then of the black one, of the turns from round
+-- `--from` on
+unfoldable pub profile_output : ReportSetup → ReadGame → List ℕ
+profile_output setup game = profile_text (told_minds setup.told game) setup.told.seed (world_of game.world) setup.told.rounds setup.from
 
 -- what the two brains come to
 pub record TellsComparison (pair : ReadPair) (text : List ℕ) : Type 0 where

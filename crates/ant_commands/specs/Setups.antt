@@ -1,5 +1,5 @@
 -- What the options of a command say, as its own record, and the limits of its numbers.
-use Rattle.std.specs.Prelude.{ℕ, Bool, false, List}
+use Rattle.std.specs.Prelude.{ℕ, Bool, false, if◌then◌else◌, List, Option, Some, None}
 use Rattle.ant_turn.specs.Sheet.{sheet_of}
 use Rattle.command_words.specs.Command.{AreWithin, PlainAsked}
 use Rattle.command_words.specs.Limits.{IsWithin}
@@ -9,7 +9,7 @@ use Rattle.command_words.specs.Table.{HasFile, HasNumberOption}
 use Rattle.command_words.specs.Words.{plain_dumps}
 use Rattle.command_words.specs.declared.limits.NumberKind.TheVariants.{SeedNumber, RoundCount, WorkerCount, WindowSize, FoeCount, CorpseFood, RestRounds, SideLength, ElementCount, SeedCount}
 use Rattle.command_words.specs.declared.table.CommandKind.{CommandKind}
-use Rattle.command_words.specs.declared.table.Choice.TheVariants.{Seed, Seeds, Rounds, Workers, Window, Surround, Corpse, Rest, Stats, Far, Width, Height, Rocks, Blobs, From, Leads, Gauntlet}
+use Rattle.command_words.specs.declared.table.Choice.TheVariants.{Seed, Seeds, Rounds, Workers, Window, Surround, Corpse, Rest, Stats, Far, Width, Height, Rocks, Blobs, From, Ant, Leads, Gauntlet}
 use Rattle.command_words.specs.declared.table.NameList.TheVariants.{Worlds, Brains}
 use Rattle.tournament.specs.declared.format.Format.{Format}
 use Rattle.ant_commands.specs.declared.commands.game.GameWords.{GameWords}
@@ -37,7 +37,7 @@ pub record ResumeSetup : Type 0 where
   pub workers : ℕ
   pub stats : Bool
 
--- what the options of `events` say, and those of `profile`
+-- what the options of a game that is told say: its numbers
 pub record ToldSetup : Type 0 where
   pub seed : ℕ
   pub rounds : ℕ
@@ -45,8 +45,8 @@ pub record ToldSetup : Type 0 where
   pub corpse : ℕ
   pub rest : ℕ
 
--- those of `trace` say the first round too
-pub record TraceSetup : Type 0 where
+-- those of `trace`, `events`, `acts` and `profile` say the first round that is told too
+pub record ReportSetup : Type 0 where
   pub told : ToldSetup
   pub from : ℕ
 
@@ -69,7 +69,7 @@ setup_of asked = record {
 abbrev pub save_setup_of : PlainAsked → RunSetup
 save_setup_of asked = record (setup_of asked) { dumps = NoDump; stats = false; far = false }
 
--- what one of `resume`, of `events` or `profile`, of `trace`, or of `gen` says
+-- what one of `resume`, of a game that is told, of its first round too, or of `gen` says
 abbrev pub resume_of : PlainAsked → ResumeSetup
 resume_of asked = record { rounds = asked.option Rounds; dumps = asked.dumps; workers = asked.option Workers; stats = asked.has Stats }
 
@@ -82,8 +82,12 @@ told_of asked = record {
   rest = asked.option Rest;
 }
 
-abbrev pub trace_of : PlainAsked → TraceSetup
-trace_of asked = record { told = told_of asked; from = asked.option From }
+abbrev pub report_of : PlainAsked → ReportSetup
+report_of asked = record { told = told_of asked; from = asked.option From }
+
+-- the one ant that `acts` tells of, if it is named
+abbrev pub ant_of : PlainAsked → Option ℕ
+ant_of asked = if asked.has Ant then Some (asked.option Ant) else None
 
 abbrev pub shape_of : PlainAsked → GenShape
 shape_of asked = record { width = asked.option Width; height = asked.option Height; rocks = asked.option Rocks; blobs = asked.option Blobs }

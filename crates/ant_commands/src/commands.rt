@@ -8,6 +8,7 @@ ghost use Rattle.ant_commands.specs.Inner.Reading.{CarriesOut, ending_of};
 ghost use Rattle.ant_commands.specs.Job.{workers_named};
 ghost use Rattle.ant_commands.specs.Jobs.{job_of};
 
+mod acts;
 mod advance;
 mod asm;
 mod brain;
@@ -31,6 +32,7 @@ mod trace;
 mod view;
 mod workload;
 
+use crate::commands::acts::acts;
 use crate::commands::advance::advance;
 use crate::commands::asm::asm;
 use crate::commands::brain::brain;
@@ -45,7 +47,7 @@ use crate::commands::resume::resume;
 use crate::commands::run::run;
 use crate::commands::same::same;
 use crate::commands::save::save;
-use crate::commands::setups::{CupEntry, GenShape, ResumeOptions, RunWords};
+use crate::commands::setups::{CupEntry, GenShape, ResumeOptions, RunWords, ant_of};
 use crate::commands::show::show;
 use crate::commands::trace::trace;
 use crate::commands::view::view;
@@ -136,8 +138,29 @@ pub fn dispatch<
             shelf,
             out,
         ),
-        CommandKind::Events => events(alloc, GameWords::of(asked), shelf, out),
-        CommandKind::Profile => profile(alloc, GameWords::of(asked), shelf, out),
+        CommandKind::Events => events(
+            alloc,
+            GameWords::of(asked),
+            asked.option(Choice::From),
+            asked.has(Choice::Food),
+            shelf,
+            out,
+        ),
+        CommandKind::Acts => acts(
+            alloc,
+            GameWords::of(asked),
+            asked.option(Choice::From),
+            ant_of(asked),
+            shelf,
+            out,
+        ),
+        CommandKind::Profile => profile(
+            alloc,
+            GameWords::of(asked),
+            asked.option(Choice::From),
+            shelf,
+            out,
+        ),
         CommandKind::Advance => advance(
             alloc,
             crew,

@@ -2,6 +2,7 @@
 // with commands in it is a `static`, and so is a command that a function varies: where they are constants, a function builds them piece by
 // piece. The texts of one `static` are proved together, and what that costs grows with the square of their length: so a long table is one of
 // its own, or several.
+mod acts;
 mod assembled;
 mod brains;
 mod compared;

@@ -5,7 +5,8 @@ ghost use Rattle.ant_turn.specs.Minds.{Fits};
 ghost use Rattle.cell_world.specs.Grid.{world_of};
 ghost use Rattle.ant_commands.specs.Jobs.{events_job};
 ghost use Rattle.ant_commands.specs.Setups.{plain_told};
-ghost use Rattle.game_reports.specs.Events.{events_text};
+ghost use Rattle.game_reports.specs.Events.{event_lines};
+ghost use Rattle.game_reports.specs.Report.{report_text};
 ghost use Rattle.match_run.specs.Run.{most_rounds};
 ghost use Rattle.ant_commands.specs.Inner.Plans.{minds_by};
 ghost use Rattle.ant_commands.specs.Inner.Reading.{CarriesOut, ending_of};
@@ -14,19 +15,21 @@ use crate::commands::game::{GameWords, Setting, setting_of};
 use crate::stop::{CommandStop, after_push};
 use ant_base::{Failed, Shelf, Sink};
 use ant_turn::{Brains, Sheet};
+use game_reports::ReportPlan;
 use std::alloc::Global;
 
-// Plays a game, and pushes who died in it and how the score went.
+// Plays a game, and pushes who died in it, how the score went and, if that is asked for, who took and dropped food.
 fn push_events<K: Sink>(
     setting: Setting,
     sheet: Sheet,
-    seed: u32,
-    rounds: u32,
+    plan: ReportPlan,
+    food: bool,
     out: &mut K,
 ) -> Result<(), Failed>
     requires fit { Fits (world_of setting.world) (minds_by setting sheet) }
-    requires few_rounds { rounds ≤ most_rounds }
-    ensures { Pushed (K.state out.old) (K.state out.new) (events_text (minds_by setting sheet) seed (world_of setting.world) rounds) result }
+    requires few_rounds { plan.rounds ≤ most_rounds }
+    ensures { Pushed (K.state out.old) (K.state out.new)
+        (report_text (event_lines food) plan.from (minds_by setting sheet) plan.seed (world_of setting.world) plan.rounds) result }
 {
     let Setting { world, red, black } = setting;
     let brains = Brains {
@@ -34,20 +37,28 @@ fn push_events<K: Sink>(
         black: &black,
         sheet,
     };
-    game_reports::events(world, brains, seed, rounds, out)
+    game_reports::events(world, brains, plan, food, out)
 }
 
-/// Plays a game turn by turn, and writes who died in it and how the score went.
+/// Plays a game turn by turn, and writes who died in it, how the score went and, if that is asked for, who took and dropped food, from a round on.
 pub fn events<'w, S: Shelf, K: Sink>(
     alloc: Global,
     game: GameWords<'w>,
+    from: u32,
+    food: bool,
     shelf: &mut S,
     out: &mut K,
 ) -> Result<(), CommandStop<'w>>
     requires { game.rounds ≤ most_rounds }
-    ensures { CarriesOut (events_job game.entry.names.world.now game.entry.names.red.now game.entry.names.black.now (plain_told game.entry))
+    ensures { CarriesOut (events_job game.entry.names.world.now game.entry.names.red.now game.entry.names.black.now food
+        (record { told = plain_told game.entry; from = from }))
         (S.state shelf.old) (S.state shelf.new) (K.state out.old) (K.state out.new) (ending_of result) }
 {
+    let plan = ReportPlan {
+        seed: game.seed,
+        rounds: game.rounds,
+        from,
+    };
     let setting = setting_of(alloc, game.names, shelf)?;
-    after_push(push_events(setting, game.sheet, game.seed, game.rounds, out))
+    after_push(push_events(setting, game.sheet, plan, food, out))
 }

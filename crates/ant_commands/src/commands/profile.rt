@@ -14,6 +14,7 @@ use crate::commands::game::{GameWords, Setting, setting_of};
 use crate::stop::CommandStop;
 use ant_base::{PushFault, Shelf, Sink};
 use ant_turn::{Brains, Sheet};
+use game_reports::ReportPlan;
 use std::alloc::Global;
 
 // Plays a game, and pushes how often each state was executed in it.
@@ -21,13 +22,13 @@ fn push_profile<K: Sink>(
     alloc: Global,
     setting: Setting,
     sheet: Sheet,
-    seed: u32,
-    rounds: u32,
+    plan: ReportPlan,
     out: &mut K,
 ) -> Result<(), PushFault>
     requires fit { Fits (world_of setting.world) (minds_by setting sheet) }
-    requires few_rounds { rounds ≤ most_rounds }
-    ensures { PushedBefore (K.state out.old) (K.state out.new) (profile_text (minds_by setting sheet) seed (world_of setting.world) rounds) result }
+    requires few_rounds { plan.rounds ≤ most_rounds }
+    ensures { PushedBefore (K.state out.old) (K.state out.new)
+        (profile_text (minds_by setting sheet) plan.seed (world_of setting.world) plan.rounds plan.from) result }
 {
     let Setting { world, red, black } = setting;
     let brains = Brains {
@@ -35,21 +36,28 @@ fn push_profile<K: Sink>(
         black: &black,
         sheet,
     };
-    game_reports::profile(alloc, world, brains, seed, rounds, out)
+    game_reports::profile(alloc, world, brains, plan, out)
 }
 
-/// Plays a game turn by turn, and writes how often each state was executed in it. Nothing is written before the last round is played.
+/// Plays a game turn by turn, and writes how often each state was executed in it from a round on. Nothing is written before the last round is played.
 pub fn profile<'w, S: Shelf, K: Sink>(
     alloc: Global,
     game: GameWords<'w>,
+    from: u32,
     shelf: &mut S,
     out: &mut K,
 ) -> Result<(), CommandStop<'w>>
     requires { game.rounds ≤ most_rounds }
-    ensures { CarriesOut (profile_job game.entry.names.world.now game.entry.names.red.now game.entry.names.black.now (plain_told game.entry))
+    ensures { CarriesOut (profile_job game.entry.names.world.now game.entry.names.red.now game.entry.names.black.now
+        (record { told = plain_told game.entry; from = from }))
         (S.state shelf.old) (S.state shelf.new) (K.state out.old) (K.state out.new) (ending_of result) }
 {
+    let plan = ReportPlan {
+        seed: game.seed,
+        rounds: game.rounds,
+        from,
+    };
     let setting = setting_of(alloc, game.names, shelf)?;
-    push_profile(alloc, setting, game.sheet, game.seed, game.rounds, out)?;
+    push_profile(alloc, setting, game.sheet, plan, out)?;
     Ok(())
 }

@@ -1,11 +1,11 @@
 // What a command line says to each command, as its own struct.
 ghost use Rattle.std.specs.Prelude.{◌≡◌};
 ghost use Rattle.command_words.specs.Command.{AskedWithin, plain};
-ghost use Rattle.command_words.specs.declared.table.CommandKind.TheVariants.{Cup, Gen, Resume, Run, Save};
+ghost use Rattle.command_words.specs.declared.table.CommandKind.TheVariants.{Acts, Cup, Gen, Resume, Run, Save};
 ghost use Rattle.command_words.specs.Words.{texts};
 ghost use Rattle.command_words.specs.declared.table.Choice.TheVariants.{Rounds, Workers, Games};
 ghost use Rattle.command_words.specs.declared.table.NameList.TheVariants.{Worlds, Brains};
-ghost use Rattle.ant_commands.specs.Setups.{CupWithin, SetupWithin, format_of, plain_resume, plain_setup, resume_of, save_setup_of, setup_of, shape_of};
+ghost use Rattle.ant_commands.specs.Setups.{CupWithin, SetupWithin, ant_of, format_of, plain_resume, plain_setup, resume_of, save_setup_of, setup_of, shape_of};
 
 use crate::commands::game::GameWords;
 use command_words::{Asked, Choice, DumpRounds, NameList};
@@ -181,4 +181,15 @@ impl GenShape {
             blobs: asked.option(Choice::Blobs) as u8,
         }
     }
+}
+
+/// The one ant that `acts` tells of, if its words name one: an id from 0 to 16,383.
+pub fn ant_of(asked: Asked<'_>) -> Option<u32>
+    requires { asked.kind ≡ Acts }
+    ensures { result ≡ ant_of (plain asked.entry) }
+{
+    if asked.has(Choice::Ant) {
+        return Some(asked.option(Choice::Ant));
+    }
+    None
 }

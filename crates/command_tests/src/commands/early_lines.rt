@@ -45,13 +45,17 @@ fn crowd(alloc: Global) -> Result<String, Fail> {
     Ok(text)
 }
 
-// Words, and the text up to where the output fails: in the line of the death in round 1; in the line of round 1; and in
-// the line of the second game on the small world, before a game on the other one. Above black ant 245 are 122 red ants
+// Words, and the text up to where the output fails: in the line of the death in round 1; in the line of the first
+// turn; in the line of round 1; and in the line of the second game on the small world, before a game on the other one. Above black ant 245 are 122 red ants
 // in row 1, and a black and 122 red ones in row 2.
-const EARLY: [(&str, &str); 3] = [
+const EARLY: [(&str, &str); 4] = [
     (
         "events w r b --seed 12345 --rounds 1000000",
         "random seed: 12345\nround 1, black ant 245: red ant 246",
+    ),
+    (
+        "acts w r b --seed 12345 --rounds 1000000",
+        "random seed: 12345\nround 1, red ant 0: on (7, 1)",
     ),
     (
         "trace w r b 0 --seed 12345 --rounds 1000000",

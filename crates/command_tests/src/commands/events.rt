@@ -12,9 +12,38 @@ const AMBUSH: Job<'static> = Job {
     ..NO_JOB
 };
 
-// Words, and what is told: of no round, of a death and the score that it makes, of a death without food, of more food, and of six foes, which
-// nobody has.
-const EVENTS: [(&str, &str); 5] = [
+// A red ant beside a particle: it takes the particle home, drops it there in round 7 and takes it away again in round 8.
+const FETCH: Job<'static> = Job {
+    line: "",
+    world: "4\n3\n# # # #\n # + 1 #\n# # # #\n",
+    red: "Move 1 1\nPickUp 2 2\nTurn Left 3\nTurn Left 4\nTurn Left 5\nMove 6 6\nDrop 7\nPickUp 8 8\nDrop 8",
+    black: "Drop 0",
+    ..NO_JOB
+};
+
+// Words, and what is told of its game: all; with food; and that from a round on.
+const FETCHED: [(&str, &str); 4] = [
+    (
+        "events w r b --rest 0 --seed 12345 --rounds 8",
+        "random seed: 12345\nround 7, red ant 0: score: red 1 black 0\nround 8, red ant 0: score: red 0 black 0\n",
+    ),
+    (
+        "events w r b --food --rest 0 --seed 12345 --rounds 8",
+        "random seed: 12345\nround 2, red ant 0: state 1 takes food on (2, 1)\nround 7, red ant 0: state 6 drops food on (1, 1), red hill\nround 7, red ant 0: score: red 1 black 0\nround 8, red ant 0: state 7 takes food on (1, 1), red hill\nround 8, red ant 0: score: red 0 black 0\n",
+    ),
+    (
+        "events w r b --from 8 --rest 0 --food --seed 12345 --rounds 8",
+        "random seed: 12345\nround 8, red ant 0: state 7 takes food on (1, 1), red hill\nround 8, red ant 0: score: red 0 black 0\n",
+    ),
+    (
+        "events w r b --rest 0 --food --seed 12345 --rounds 8 --from 9",
+        "random seed: 12345\n",
+    ),
+];
+
+// Words, and what is told: of no round, of a death and the score that it makes, of a death without food, of more food, of six foes, which
+// nobody has, and from the first and the second round on.
+const EVENTS: [(&str, &str); 7] = [
     (
         "events w r b --seed 12345 --rounds 0",
         "random seed: 12345\n",
@@ -35,11 +64,19 @@ const EVENTS: [(&str, &str); 5] = [
         "events w r b --surround 6 --rounds 9 --seed 12345",
         "random seed: 12345\n",
     ),
+    (
+        "events w r b --from 1 --rounds 9 --seed 12345",
+        "random seed: 12345\nround 1, black ant 1: red ant 2 dies on (3, 3)\nround 1, black ant 1: score: red 3 black 0\n",
+    ),
+    (
+        "events w r b --rounds 9 --seed 12345 --from 2",
+        "random seed: 12345\n",
+    ),
 ];
 
 // The first two numbers of this seed are odd and even. Red ant 2 dies before its turn, black ant 1 rests behind its step or goes on, and the
-// other black ants are blocked.
-const PROFILES: [(&str, &str); 5] = [
+// other black ants are blocked. Of the turns before the first round none counts.
+const PROFILES: [(&str, &str); 7] = [
     (
         "profile w r b --seed 12345 --rounds 0",
         "random seed: 12345\nred 0: 0 times, 0 met: Flip 2 0 0\nblack 0: 0 times, 0 met: Move 0 0\n",
@@ -60,6 +97,14 @@ const PROFILES: [(&str, &str); 5] = [
         "profile w r b --surround 6 --corpse 0 --rounds 1 --seed 12345",
         "random seed: 12345\nred 0: 2 times, 1 met: Flip 2 0 0\nblack 0: 5 times, 1 met: Move 0 0\n",
     ),
+    (
+        "profile w r b --from 2 --rounds 2 --seed 12345",
+        "random seed: 12345\nred 0: 1 times, 1 met: Flip 2 0 0\nblack 0: 4 times, 0 met: Move 0 0\n",
+    ),
+    (
+        "profile w r b --rounds 2 --seed 12345 --from 3",
+        "random seed: 12345\nred 0: 0 times, 0 met: Flip 2 0 0\nblack 0: 0 times, 0 met: Move 0 0\n",
+    ),
 ];
 
 // Worlds that are none.
@@ -70,6 +115,13 @@ static TOLD_EVENTS: Table<'static> = Table {
     given: Given::Line,
     status: Status::Done,
     rows: &EVENTS,
+};
+
+static TOLD_FOOD: Table<'static> = Table {
+    job: FETCH,
+    given: Given::Line,
+    status: Status::Done,
+    rows: &FETCHED,
 };
 
 static TOLD_PROFILES: Table<'static> = Table {
@@ -102,6 +154,7 @@ static NO_PROFILE: Table<'static> = Table {
 #[test]
 fn events_are_told_by_their_words(rt: HostRuntime) -> Result<(), Fail> {
     check_rows(&rt, rt.alloc(), &TOLD_EVENTS)?;
+    check_rows(&rt, rt.alloc(), &TOLD_FOOD)?;
     check_rows(&rt, rt.alloc(), &NO_EVENTS)
 }
 

@@ -106,7 +106,7 @@ const REFUSED_CUPS: [(&str, &str); 12] = [
 ];
 
 // The same of other commands.
-const REFUSED_OTHERS: [(&str, &str); 28] = [
+const REFUSED_OTHERS: [(&str, &str); 35] = [
     ("gen 1 --width 2", "ants: word 4 refused\n"),
     ("gen 1 --height 513", "ants: word 4 refused\n"),
     ("gen 1 --rocks 256", "ants: word 4 refused\n"),
@@ -122,6 +122,13 @@ const REFUSED_OTHERS: [(&str, &str); 28] = [
     ("trace w r b 16384", "ants: word 5 refused\n"),
     ("trace w r b 1 --from 1000001", "ants: word 7 refused\n"),
     ("trace w r b 1 --workers 2", "ants: word 6 refused\n"),
+    ("events w r b --food 1", "ants: word 6 refused\n"),
+    ("events w r b --ant 1", "ants: word 5 refused\n"),
+    ("profile w r b --from 1000001", "ants: word 6 refused\n"),
+    ("profile w r b --food", "ants: word 5 refused\n"),
+    ("acts w r b 1", "ants: word 5 refused\n"),
+    ("acts w r b --ant 16384", "ants: word 6 refused\n"),
+    ("acts w r b --from 00000000001", "ants: word 6 refused\n"),
     ("same r", "ants: word 3 refused\n"),
     ("same r b w", "ants: word 4 refused\n"),
     ("workload", "ants: word 2 refused\n"),

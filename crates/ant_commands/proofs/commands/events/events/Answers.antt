@@ -11,7 +11,7 @@ use Rattle.ant_commands.proofs.commands.events.events.Goals as goal
 
 pub returns-in_err-setting : goal.returns-in_err-setting
 returns-in_err-setting g c =
-    carries_stop (events_job c.args.game.names.world.now c.args.game.names.red.now c.args.game.names.black.now (plain_told c.args.game)) (g.S.Shelf.state c.args.shelf.now) (g.S.Shelf.state c.setting_of.new.shelf) (g.K.Sink.state c.args.out.now)
+    carries_stop (events_job c.args.game.names.world.now c.args.game.names.red.now c.args.game.names.black.now c.args.food (record { told = plain_told c.args.game; from = c.args.from })) (g.S.Shelf.state c.args.shelf.now) (g.S.Shelf.state c.setting_of.new.shelf) (g.K.Sink.state c.args.out.now)
     c.from_residual.result c.in_err-setting.field-0.0 c.from_residual.ensures.1 c.in_err-setting.ensures
 
 pub push_events-requires-clause-fit : goal.push_events-requires-clause-fit
@@ -21,7 +21,7 @@ push_events-requires-clause-fit g c =
 pub returns : goal.returns
 unfolding events_output
 returns g c =
-    carries_pushed (events_job c.args.game.names.world.now c.args.game.names.red.now c.args.game.names.black.now (plain_told c.args.game)) (g.S.Shelf.state c.args.shelf.now) (g.S.Shelf.state c.setting_of.new.shelf) (g.K.Sink.state c.args.out.now) (g.K.Sink.state c.push_events.new.out)
+    carries_pushed (events_job c.args.game.names.world.now c.args.game.names.red.now c.args.game.names.black.now c.args.food (record { told = plain_told c.args.game; from = c.args.from })) (g.S.Shelf.state c.args.shelf.now) (g.S.Shelf.state c.setting_of.new.shelf) (g.K.Sink.state c.args.out.now) (g.K.Sink.state c.push_events.new.out)
     (setting_contents c.in_ok-setting.setting) c.after_push.result c.push_events.result c.after_push.ensures c.in_ok-setting.ensures
-    (events_output (plain_told c.args.game) (game_read c.in_ok-setting.setting)) (tells c.in_ok-setting.setting (events_output (plain_told c.args.game)))
+    (events_output c.args.food (record { told = plain_told c.args.game; from = c.args.from }) (game_read c.in_ok-setting.setting)) (tells c.in_ok-setting.setting (events_output c.args.food (record { told = plain_told c.args.game; from = c.args.from })))
     c.push_events.ensures
