@@ -22,7 +22,7 @@ use Rattle.break_view.specs.declared.stop.Stop.{Stop}
 use Rattle.break_view.specs.Faulty.{IsBreakFault}
 use Rattle.break_view.specs.Grammar.{IsBreakText}
 use Rattle.break_view.specs.Laws.{EndsAreFound, FewerStopLater, LaterRoundsAddNothing, OneFirstStop, OneListOrOneFault, QuietRoundsArePassed, StopsFollowTurns}
-use Rattle.break_view.specs.Stops.{EndsAt, HasNoStop, IsEarlier, IsFirstStop, IsTurn, met_at, world_at, world_in_round}
+use Rattle.break_view.specs.Stops.{EndsAt, HasNoStop, IsEarlier, IsFirstStop, met_at, world_at, world_in_round}
 use Rattle.break_view.specs.Texts.{IsViewText, view_of, view_text}
 use Rattle.break_view.proofs.WorkedFrom.{again, held_before}
 use Rattle.break_view.proofs.WorkedGame.{killed_first, minds, start}

@@ -1,5 +1,5 @@
 -- What holds of all texts of breaks and of all games with breaks.
-use Rattle.std.specs.Prelude.{◌≡◌, ◌⊎◌, ℕ, ◌<◌, ◌≤◌, List, [], Option}
+use Rattle.std.specs.Prelude.{◌≡◌, ◌⊎◌, ℕ, ◌<◌, ◌≤◌, List, [], Option, None}
 use Rattle.std.specs.List.{Contains}
 use Rattle.cell_world.specs.World.{World}
 use Rattle.ant_turn.specs.Minds.{Minds}
