@@ -14,7 +14,7 @@ use Rattle.ant_commands.specs.Laws.{CupGamesAreRuns}
 use Rattle.ant_commands.specs.Outputs.{chosen_rounds, match_output, minds_between, nowhere, score_between}
 use Rattle.ant_base.specs.Layout.{◌+++◌}
 use Rattle.dump_print.specs.Texts.{score_text, seed_text}
-use Rattle.tournament.specs.Seeds.{seed_at, world_at}
+use Rattle.tournament.specs.Seeds.{world_at}
 
 pub cup_games_are_runs : CupGamesAreRuns
 unfolding match_output score_between
