@@ -30,7 +30,7 @@ own-split blocks (NamedLine.Instruction line) rest at after way size is = ap (λ
 own-split blocks (NamedLine.Use line name block) rest at after way size is =
     ap (λ (n : ℕ). own_states rest n after way) (let e : at + outline_size (slice_index_or blocks block Closed) ≡ at + size = omega (arith, is) in e)
 
-inner-split : (blocks : List Outline) (line : NamedLine) (rest : Outline) (at after : ℕ) (way : List WayStep) (size : ℕ) → size ≡ outline_size (line_before blocks line Closed) →
+pub inner-split : (blocks : List Outline) (line : NamedLine) (rest : Outline) (at after : ℕ) (way : List WayStep) (size : ℕ) → size ≡ outline_size (line_before blocks line Closed) →
     inner_states (line_before blocks line rest) at after way ≡ used_states blocks line at (state_at (outline_size rest) (at + size) after) way ++ inner_states rest (at + size) after way
 inner-split blocks (NamedLine.Label name) rest at after way size is = ap (λ (n : ℕ). inner_states rest n after way) (let e : at ≡ at + size = omega (arith, is) in e)
 inner-split blocks (NamedLine.Instruction line) rest at after way size is = ap (λ (n : ℕ). inner_states rest n after way) (let e : at + 1 ≡ at + size = omega (arith, is) in e)
@@ -44,7 +44,7 @@ line_states blocks (NamedLine.Label name) at way = []
 line_states blocks (NamedLine.Instruction line) at way = (record { state = at; line = line; way = way }) ∷ []
 line_states blocks (NamedLine.Use line name block) at way = told_lines (slice_index_or blocks block Closed) at (further way name.items line)
 
-lines-split : (blocks : List Outline) (line : NamedLine) (rest : Outline) (at : ℕ) (way : List WayStep) (size : ℕ) → size ≡ outline_size (line_before blocks line Closed) →
+pub lines-split : (blocks : List Outline) (line : NamedLine) (rest : Outline) (at : ℕ) (way : List WayStep) (size : ℕ) → size ≡ outline_size (line_before blocks line Closed) →
     told_lines (line_before blocks line rest) at way ≡ line_states blocks line at way ++ told_lines rest (at + size) way
 lines-split blocks (NamedLine.Label name) rest at way size is = ap (λ (n : ℕ). told_lines rest n way) (let e : at ≡ at + size = omega (arith, is) in e)
 lines-split blocks (NamedLine.Instruction line) rest at way size is =
@@ -54,13 +54,13 @@ lines-split blocks (NamedLine.Use line name block) rest at way size is =
     (let e : at + outline_size (slice_index_or blocks block Closed) ≡ at + size = omega (arith, is) in e)
 
 -- there is a body of a number that is known
-the_named : (bodies : List NamedBody) (number : ℕ) → number < length bodies → (body : NamedBody) × (slice_get bodies number ≡ Some body)
+pub the_named : (bodies : List NamedBody) (number : ℕ) → number < length bodies → (body : NamedBody) × (slice_get bodies number ≡ Some body)
 the_named [] number known = absurd (omega arith)
 the_named (body ∷ bodies) zero known = (body, refl)
 the_named (body ∷ bodies) (suc number) known = the_named bodies number (omega arith)
 
 -- a line tells its size, where that is at most so much
-line-size : (bodies : List NamedBody) (line : NamedLine) → AreGoodNamed [] bodies → IsUseBelow (length bodies) line → outline_size (line_before (outlines_of bodies) line Closed) ≤ most_size →
+pub line-size : (bodies : List NamedBody) (line : NamedLine) → AreGoodNamed [] bodies → IsUseBelow (length bodies) line → outline_size (line_before (outlines_of bodies) line Closed) ≤ most_size →
     line_size bodies line ≡ outline_size (line_before (outlines_of bodies) line Closed)
 line-size bodies (NamedLine.Use line name block) good below few =
     let there = the_named bodies block below in

@@ -1,10 +1,13 @@
 -- The texts of ways, of labels and of lines, in parts.
-use Rattle.std.proofs.Common.{◌≡◌, ℕ, List, [], ◌∷◌, ◌++◌, codes, refl, sym, ap, ◌∙◌, append_assoc, append-nil}
+use Rattle.std.proofs.Common.{◌≡◌, ℕ, ◌+◌, ◌<◌, List, [], ◌∷◌, ◌++◌, codes, drop, get_or, length, refl, sym, ap, ◌∙◌, append_assoc, append-nil}
 use Rattle.std.specs.Prelude.{decimal}
+use Rattle.std.proofs.lemmas.List.{drop_more}
 use Rattle.ant_base.specs.Layout.{◌+++◌}
+use Rattle.ant_asm.specs.declared.level.Level.{Level}
 use Rattle.ant_asm.specs.Labels.{LabelState, WayStep, label_text, labels_text, way_text}
 use Rattle.ant_asm.specs.StateLines.{StateLine, state_line_text, state_lines_text, uses_text}
 use Rattle.ant_asm.specs.Inner.Outlines.{further}
+use Rattle.ant_asm.specs.Inner.Ways.{steps_of}
 
 -- the text of one use
 abbrev pub use_text : List ℕ → ℕ → List ℕ
@@ -14,6 +17,15 @@ pub way_text_further : (way : List WayStep) (name : List ℕ) (line : ℕ) → w
 way_text_further [] name line = append-nil (use_text name line)
 way_text_further (step ∷ way) name line =
     ap (λ (t : List ℕ). use_text step.name step.line ++ t) (way_text_further way name line) ∙ sym (append_assoc (use_text step.name step.line) (way_text way) (use_text name line))
+
+-- those of bodies that were left, from the first on
+pub way_text-next : (levels : List Level) (i : ℕ) (other : Level) → i < length levels →
+    way_text (steps_of (drop i levels)) ≡ use_text (get_or levels i other).step.name.now (get_or levels i other).step.line ++ way_text (steps_of (drop (i + 1) levels))
+way_text-next levels i other inside = ap (λ (l : List Level). way_text (steps_of l)) (drop_more levels i other inside)
+
+pub uses_text-next : (before : List ℕ) (levels : List Level) (i : ℕ) (other : Level) → i < length levels →
+    uses_text before (steps_of (drop i levels)) ≡ (before +++ (get_or levels i other).step.name.now +++ codes "@" +++ decimal (get_or levels i other).step.line) ++ uses_text (codes "/") (steps_of (drop (i + 1) levels))
+uses_text-next before levels i other inside = ap (λ (l : List Level). uses_text before (steps_of l)) (drop_more levels i other inside)
 
 pub labels_text-append : (front back : List LabelState) → labels_text (front ++ back) ≡ labels_text front ++ labels_text back
 labels_text-append [] back = refl

@@ -52,3 +52,27 @@ state-is at end after left sum = ap (λ (b : Bool). if b then after else at) (sa
         let e : at ≡ end = eqb-true at end first in let z : left ≡ 0 = omega (arith, e, sum) in let never : true ≡ false = sym (eq-eqb left 0 z) ∙ second in absurd (cc)
     same false true first second =
         let z : left ≡ 0 = eqb-true left 0 second in let e : at ≡ end = omega (arith, z, sum) in let never : true ≡ false = sym (eq-eqb at end e) ∙ first in absurd (cc)
+
+-- a text was told; this one is the rest of it
+pub record IsToldTo (all left : List ℕ) (old new : SinkState) : Type 0 where
+  pub told : List ℕ
+  pub pushed : PushedAll old new told
+  pub rest : told ++ left ≡ all
+
+pub to_none : (all : List ℕ) (state : SinkState) → IsToldTo all all state state
+to_none all state = record { told = []; pushed = all_of_nothing state; rest = refl }
+
+pub to_more : (all left more later : List ℕ) (old mid new : SinkState) → IsToldTo all left old mid → PushedAll mid new more → left ≡ more ++ later → IsToldTo all later old new
+to_more all left more later old mid new before pushed split = record {
+  told = before.told ++ more;
+  pushed = all_then old mid new before.told more before.pushed pushed;
+  rest = append_assoc before.told more later ∙ ap (λ (t : List ℕ). before.told ++ t) (sym split) ∙ before.rest;
+}
+
+pub to_front : (all left more later : List ℕ) (old mid new : SinkState) → IsToldTo all left old mid → PushedFront mid new more → left ≡ more ++ later → PushedFront old new all
+to_front all left more later old mid new before pushed split =
+    subst (PushedFront old new) (ap (λ (t : List ℕ). before.told ++ t) (sym split) ∙ before.rest)
+    (front_then old mid new before.told (more ++ later) before.pushed (front_more mid new more later pushed))
+
+pub to_end : (all left : List ℕ) (old new : SinkState) → IsToldTo all left old new → left ≡ [] → PushedAll old new all
+to_end all left old new before none = subst (PushedAll old new) (sym (append-nil before.told) ∙ ap (λ (t : List ℕ). before.told ++ t) (sym none) ∙ before.rest) before.pushed

@@ -35,6 +35,7 @@ pub mod LabelStates
 pub mod LineStates
 pub mod LabelWalk
 pub mod LabelSteps
+pub mod Walks
 pub mod SourceRead
 pub mod LineInstructions
 -- Worked values.

@@ -8,7 +8,7 @@ use Rattle.ant_asm.specs.declared.named.NamedBody.{NamedBody}
 use Rattle.ant_asm.specs.declared.named.NamedLine.{NamedLine}
 use Rattle.ant_asm.specs.Labels.{Outline}
 use Rattle.ant_asm.specs.Labels.Outline.{Closed, Labelled, Instructed, Used}
-use Rattle.ant_asm.specs.Inner.Outlines.{AreGoodNamed, IsGoodNamed, IsUseBelow, line_before, lines_before, most_size, outline_at, outline_in, outline_size, outlines_from, outlines_of}
+use Rattle.ant_asm.specs.Inner.Outlines.{AreGoodNamed, IsGoodNamed, IsUseBelow, counted_from, line_before, lines_before, most_size, outline_at, outline_in, outline_size, outlines_from, outlines_of}
 
 -- lines and further lines
 pub lines_before-append : (blocks : List Outline) (front back : List NamedLine) (others : Outline) → lines_before blocks (front ++ back) others ≡ lines_before blocks front (lines_before blocks back others)
@@ -60,6 +60,7 @@ use_below-more n m more it is = tt
 pub good-more : (blocks more : List Outline) (body : NamedBody) → IsGoodNamed blocks body → IsGoodNamed (blocks ++ more) body
 good-more blocks more body good = record {
   uses = AllByRecursion-weaker (IsUseBelow (length blocks)) (IsUseBelow (length (blocks ++ more))) body.lines.items good.uses (use_below-more (length blocks) (length (blocks ++ more)) (longer blocks));
+  counted = good.counted;
   size = subst (λ (o : Outline). outline_size o ≤ most_size → body.size ≡ outline_size o) (sym (lines_before-agree blocks more body.lines.items Closed good.uses)) good.size;
 }
   where
@@ -81,6 +82,7 @@ outlines_from-front blocks (body ∷ bodies) =
 -- what is known of the body of a number, behind so many blocks
 record IsAt (blocks : List Outline) (bodies : List NamedBody) (n : ℕ) (body : NamedBody) : Type 0 where
   uses : AllByRecursion (IsUseBelow n) body.lines.items
+  counted : body.counted.items ≡ counted_from 0 body.lines.items
   size : outline_size (slice_index_or (outlines_from blocks bodies) n Closed) ≤ most_size → body.size ≡ outline_size (slice_index_or (outlines_from blocks bodies) n Closed)
   is : slice_index_or (outlines_from blocks bodies) n Closed ≡ outline_in (outlines_from blocks bodies) body
 
@@ -95,17 +97,19 @@ is-at blocks (other ∷ bodies) zero body at good =
     ap (λ (l : List Outline). slice_index_or l (length blocks + 0) Closed) whole ∙ get_or-append-add blocks (outline_in blocks other ∷ front.0) 0 Closed ∙ ap (outline_in blocks) same in
     record {
       uses = subst (λ (n : ℕ). AllByRecursion (IsUseBelow n) body.lines.items) (let e : length blocks ≡ length blocks + 0 = omega arith in e) mine.uses;
+      counted = mine.counted;
       size = subst (λ (o : Outline). outline_size o ≤ most_size → body.size ≡ outline_size o) (sym own) mine.size;
       is = own ∙ sym (ap (λ (l : List Outline). outline_in l body) whole ∙ lines_before-agree blocks (outline_in blocks other ∷ front.0) body.lines.items Closed mine.uses);
     }
 is-at blocks (other ∷ bodies) (suc i) body at good =
     let more = length_push blocks (outline_in blocks other) in
     subst (λ (n : ℕ). IsAt blocks (other ∷ bodies) n body) (let e : length (blocks ++ outline_in blocks other ∷ []) + i ≡ length blocks + suc i = omega (arith, more) in e)
-    (let later = is-at (blocks ++ outline_in blocks other ∷ []) bodies i body at good.1 in record { uses = later.uses; size = later.size; is = later.is })
+    (let later = is-at (blocks ++ outline_in blocks other ∷ []) bodies i body at good.1 in record { uses = later.uses; counted = later.counted; size = later.size; is = later.is })
 
 -- what is known of the body of a number
 pub record IsNamedAt (bodies : List NamedBody) (n : ℕ) (body : NamedBody) : Type 0 where
   pub uses : AllByRecursion (IsUseBelow n) body.lines.items
+  pub counted : body.counted.items ≡ counted_from 0 body.lines.items
   pub size : outline_size (outline_at bodies n) ≤ most_size → body.size ≡ outline_size (outline_at bodies n)
   pub is : outline_at bodies n ≡ outline_in (outlines_of bodies) body
 
@@ -113,17 +117,34 @@ pub named-at : (bodies : List NamedBody) (n : ℕ) (body : NamedBody) → slice_
 named-at bodies n body at good =
     let there = is-at [] bodies n body at good in
     let here : 0 + n ≡ n = omega arith in
-    subst (λ (k : ℕ). IsNamedAt bodies k body) here (record { uses = there.uses; size = there.size; is = there.is })
+    subst (λ (k : ℕ). IsNamedAt bodies k body) here (record { uses = there.uses; counted = there.counted; size = there.size; is = there.is })
+
+-- further lines
+counted_from-append : (place : ℕ) (front back : List NamedLine) → counted_from place (front ++ back) ≡ counted_from place front ++ counted_from (place + length front) back
+counted_from-append place [] back = ap (λ (n : ℕ). counted_from n back) (let e : place ≡ place + 0 = omega arith in e)
+counted_from-append place (NamedLine.Label name ∷ front) back =
+    counted_from-append (suc place) front back ∙ ap (λ (n : ℕ). counted_from (suc place) front ++ counted_from n back) (let e : suc place + length front ≡ place + suc (length front) = omega arith in e)
+counted_from-append place (NamedLine.Instruction line ∷ front) back =
+    ap (λ (l : List ℕ). place ∷ l)
+    (counted_from-append (suc place) front back ∙ ap (λ (n : ℕ). counted_from (suc place) front ++ counted_from n back) (let e : suc place + length front ≡ place + suc (length front) = omega arith in e))
+counted_from-append place (NamedLine.Use line name block ∷ front) back =
+    ap (λ (l : List ℕ). place ∷ l)
+    (counted_from-append (suc place) front back ∙ ap (λ (n : ℕ). counted_from (suc place) front ++ counted_from n back) (let e : suc place + length front ≡ place + suc (length front) = omega arith in e))
 
 -- one line more
-pub good-push : (blocks : List Outline) (body new : NamedBody) (line : NamedLine) (size : ℕ) → IsGoodNamed blocks body → new.lines.items ≡ body.lines.items ++ line ∷ [] → (body.size + size ≤ most_size → new.size ≡ body.size + size) →
+pub good-push : (blocks : List Outline) (body new : NamedBody) (line : NamedLine) (size : ℕ) → IsGoodNamed blocks body → new.lines.items ≡ body.lines.items ++ line ∷ [] →
+    new.counted.items ≡ body.counted.items ++ counted_from (length body.lines.items) (line ∷ []) → (body.size + size ≤ most_size → new.size ≡ body.size + size) →
     IsUseBelow (length blocks) line → (outline_size (line_before blocks line Closed) ≤ most_size → size ≡ outline_size (line_before blocks line Closed)) → IsGoodNamed blocks new
-good-push blocks body new line size good lines grown below known =
+good-push blocks body new line size good lines counted grown below known =
     let both : outline_size (outline_in blocks new) ≡ outline_size (outline_in blocks body) + outline_size (line_before blocks line Closed) =
     ap (λ (l : List NamedLine). outline_size (lines_before blocks l Closed)) lines ∙ ap outline_size (lines_before-append blocks body.lines.items (line ∷ []) Closed)
     ∙ lines_before-size blocks body.lines.items (line_before blocks line Closed) in
     record {
       uses = subst (AllByRecursion (IsUseBelow (length blocks))) (sym lines) (AllByRecursion-push (IsUseBelow (length blocks)) body.lines.items line good.uses below);
+      counted =
+          counted ∙ ap (λ (l : List ℕ). l ++ counted_from (length body.lines.items) (line ∷ [])) good.counted
+          ∙ ap (λ (n : ℕ). counted_from 0 body.lines.items ++ counted_from n (line ∷ [])) (let e : length body.lines.items ≡ 0 + length body.lines.items = omega arith in e)
+          ∙ sym (counted_from-append 0 body.lines.items (line ∷ [])) ∙ ap (counted_from 0) (sym lines);
       size = λ few.
           let first : body.size ≡ outline_size (outline_in blocks body) = good.size (omega (arith, few, both)) in
           let second : size ≡ outline_size (line_before blocks line Closed) = known (omega (arith, few, both)) in

@@ -14,7 +14,7 @@ use Rattle.ant_asm.specs.declared.outline.Outlines.{Outlines}
 use Rattle.ant_asm.specs.Names.{Named}
 use Rattle.ant_asm.specs.Lines.{Line}
 use Rattle.ant_asm.specs.Lines.Line.{Ends, Uses}
-use Rattle.ant_asm.specs.Standing.{with_name}
+use Rattle.ant_asm.specs.Standing.{most_blocks, with_name}
 use Rattle.ant_asm.specs.Labels.{NumberedLine, Outline, block_outline, main_outline, outline_of, with_use}
 use Rattle.ant_asm.specs.Labels.NumberedLine.{At}
 use Rattle.ant_asm.specs.Labels.Outline.{Closed, Used}
@@ -53,7 +53,7 @@ put-on bodies current new blocks line block number name handed lines around is k
 
 -- the body that is read changes
 pub current-good : (o : Outlines) (new : NamedBody) → IsGoodOutlines o → IsGoodNamed (outlines_of o.bodies.items) new → IsGoodOutlines (record { current = new; around = o.around; bodies = o.bodies; blocks = o.blocks })
-current-good o new good mine = record { bodies = good.bodies; blocks = good.blocks; current = mine; around = good.around }
+current-good o new good mine = record { bodies = good.bodies; few = good.few; blocks = good.blocks; current = mine; around = good.around }
 
 -- a block ends
 module _ (o : Outlines) (good : IsGoodOutlines o) (around : Around) (is : o.around ≡ Some around) where
@@ -104,9 +104,10 @@ module _ (o : Outlines) (good : IsGoodOutlines o) (around : Around) (is : o.arou
         go true q = let same : length o.bodies.items ≡ n = cc in let all = length_push o.bodies.items o.current in omega (arith, same, all)
         go false q = let early = good.blocks name n q in let all = length_push o.bodies.items o.current in omega (arith, early, all)
 
-    pub end-good : IsGoodOutlines new
-    end-good = record {
+    pub end-good : length o.bodies.items < most_blocks → IsGoodOutlines new
+    end-good room = record {
       bodies = subst (AreGoodNamed []) (sym bodies) (AreGoodNamed-push [] o.bodies.items o.current good.bodies good.current);
+      few = let all = length_push o.bodies.items o.current in let same = ap length bodies in omega (arith, all, same, room);
       blocks = λ name n known. subst (λ (b : List NamedBody). n < length b) (sym bodies) (inside-with name n known);
       current = subst (λ (c : NamedBody). IsGoodNamed (outlines_of new.bodies.items) c) (sym current)
           (subst (λ (b : List NamedBody). IsGoodNamed (outlines_of b) around.main) (sym bodies)
@@ -120,6 +121,7 @@ pub outlines-read : (o : Outlines) (main : NamedBody) (lines : List NumberedLine
 outlines-read o main lines good mine whole is = record {
   good = AreGoodNamed-push [] o.bodies.items main good.bodies mine;
   some = let all = length_push o.bodies.items main in omega (arith, all);
+  short = let all = length_push o.bodies.items main in let few = good.few in omega (arith, all, few);
   main =
       ap₂ (λ (l : List Outline) (n : ℕ). slice_index_or l n Closed) (outlines_of-push o.bodies.items main)
       (let all = length_push o.bodies.items main in let same = outlines_of-length o.bodies.items in let e : main_of (o.bodies.items ++ main ∷ []) ≡ length (outlines_of o.bodies.items) + 0 = omega (arith, all, same) in e)

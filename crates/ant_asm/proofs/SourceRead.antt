@@ -30,6 +30,7 @@ module _ (text : List ℕ) (bodies : List Body) (named : List NamedBody) (are : 
   are-listed = record {
     good = outlines.good;
     some = outlines.some;
+    short = outlines.short;
     few = let size : outline_size (outline_at named (main_of named)) ≡ size_of main = ap outline_size outlines.main ∙ fits-size (outline_of (lines_said text)) main fits in let few = main-few text bodies are in omega (arith, size, few);
   }
 

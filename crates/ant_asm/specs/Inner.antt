@@ -8,3 +8,4 @@ pub mod View
 pub mod ProgramView
 pub mod Ways
 pub mod Outlines
+pub mod Walks

@@ -1,13 +1,16 @@
 // The labels of a program, and the states that they became.
-ghost use Rattle.std.specs.Prelude.{◌≡◌, ◌==◌, ◌+◌, ◌≤◌, ◌<◌, [], length, if◌then◌else◌};
+ghost use Rattle.std.specs.Prelude.{◌+◌, ◌≤◌, ◌<◌, [], length};
 ghost use Rattle.ant_base.specs.Sink.{Pushed};
 ghost use Rattle.ant_asm.specs.Labels.{labels_text};
 ghost use Rattle.ant_asm.specs.Inner.Flat.{most};
-ghost use Rattle.ant_asm.specs.Inner.Outlines.{AreGoodNamed, all_states, label_of, outline_at, outline_size, own_states};
+ghost use Rattle.ant_asm.specs.Inner.Outlines.{AreGoodNamed, AreListed, all_states, label_of, main_of, outline_at, outline_size, own_states};
+ghost use Rattle.ant_asm.specs.Inner.Walks.{FitsMet, met_labels};
 ghost use Rattle.ant_asm.specs.Inner.Ways.{steps_of};
 
+use crate::level::Level;
 use crate::named::{NamedBody, NamedLine, size_of};
 use crate::source::Source;
+use crate::walk::{Met, Walk, state_from};
 use crate::way::{Name, Way};
 use ant_base::{Failed, Layout, Sink, layout};
 
@@ -24,16 +27,21 @@ impl Layout for Labels<'_> {
 
     fn push_to<K: Sink>(&self, sink: &mut K) -> Result<(), Failed> {
         let source = self.0;
-        let bodies = &source.bodies;
-        push_body(bodies, bodies.len() - 1, 0, 0, &Way::Main, sink)
+        push_labels(&source.bodies, sink)
     }
 }
 
-// The number to which a label leads that stands at this number, in a body that ends at that one.
-fn state_from(at: u16, end: u16, after: u16) -> u16
-    ensures { result ≡ (if at == end then after else at) }
+// The labels of main, which is the last of these bodies, and of all that it puts in place.
+fn push_labels<K: Sink>(bodies: &[NamedBody], sink: &mut K) -> Result<(), Failed>
+    requires { AreListed bodies.now }
+    ensures { Pushed (K.state sink.old) (K.state sink.new) (labels_text (all_states (outline_at bodies.now (main_of bodies.now)) 0 0 [])) result }
 {
-    if at == end { after } else { at }
+    let mut walk = Walk::new(bodies);
+    push_met(bodies, Met::Body(walk.spot), walk.outer.as_slice(), sink)?;
+    while let Some(met) = walk.step() {
+        push_met(bodies, met, walk.outer.as_slice(), sink)?;
+    }
+    Ok(())
 }
 
 // The labels of the body of this number itself, by the number of its first instruction and that of what follows it.
@@ -42,7 +50,7 @@ fn push_own<K: Sink>(
     number: usize,
     base: u16,
     after: u16,
-    way: &Way,
+    way: &[Level],
     sink: &mut K,
 ) -> Result<(), Failed>
     requires good { AreGoodNamed [] bodies.now }
@@ -61,56 +69,35 @@ fn push_own<K: Sink>(
 }
 
 // The label of a line, if it is one.
-fn push_label<K: Sink>(line: &NamedLine, state: u16, way: &Way, sink: &mut K) -> Result<(), Failed>
+fn push_label<K: Sink>(
+    line: &NamedLine,
+    state: u16,
+    way: &[Level],
+    sink: &mut K,
+) -> Result<(), Failed>
     ensures { Pushed (K.state sink.old) (K.state sink.new) (labels_text (label_of line.now state (steps_of way.now))) result }
 {
     match line {
-        NamedLine::Label(name) => layout!(state, " ", *way, Name(name), "\n").push_to(sink),
+        NamedLine::Label(name) => layout!(state, " ", Way(way), Name(name), "\n").push_to(sink),
         NamedLine::Instruction(_) => Ok(()),
         NamedLine::Use { .. } => Ok(()),
     }
 }
 
-// The labels of a body, and then those of the blocks that it puts in place.
-fn push_body<K: Sink>(
+// The labels of a body that begins.
+fn push_met<K: Sink>(
     bodies: &[NamedBody],
-    number: usize,
-    base: u16,
-    after: u16,
-    way: &Way,
+    met: Met,
+    way: &[Level],
     sink: &mut K,
 ) -> Result<(), Failed>
     requires good { AreGoodNamed [] bodies.now }
-    requires known { number < length bodies.now }
-    requires fits { base + outline_size (outline_at bodies.now number) ≤ most }
-    ensures { Pushed (K.state sink.old) (K.state sink.new) (labels_text (all_states (outline_at bodies.now number) base after (steps_of way.now))) result }
+    requires fits { FitsMet bodies.now met }
+    ensures { Pushed (K.state sink.old) (K.state sink.new) (labels_text (met_labels bodies.now met (steps_of way.now))) result }
 {
-    push_own(bodies, number, base, after, way, sink)?;
-    let body = &bodies[number];
-    let end = base + body.size;
-    let mut next = base;
-    for line in &body.lines {
-        let at = next;
-        next = at + size_of(bodies, line);
-        match line {
-            NamedLine::Label(_) => {}
-            NamedLine::Instruction(_) => {}
-            NamedLine::Use { line, name, block } => {
-                let through = Way::Through {
-                    outer: &*way,
-                    name,
-                    line: *line,
-                };
-                push_body(
-                    bodies,
-                    *block,
-                    at,
-                    state_from(next, end, after),
-                    &through,
-                    sink,
-                )?;
-            }
-        }
+    match met {
+        Met::Nothing => Ok(()),
+        Met::Instruction { .. } => Ok(()),
+        Met::Body(spot) => push_own(bodies, spot.number, spot.at, spot.after, way, sink),
     }
-    Ok(())
 }

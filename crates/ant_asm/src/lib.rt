@@ -16,6 +16,7 @@ mod expand;
 mod fault;
 mod labels;
 mod laws;
+mod level;
 mod line;
 mod named;
 mod names;
@@ -27,6 +28,7 @@ mod scope;
 mod source;
 mod spelling;
 mod state_lines;
+mod walk;
 mod way;
 
 pub use assembly::{Assembled, assemble};

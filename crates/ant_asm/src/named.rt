@@ -1,6 +1,6 @@
 // The bodies of a program by the names in their lines.
 ghost use Rattle.std.specs.Prelude.{◌≡◌, ◌≤◌, ◌∷◌, ◌++◌, [], ◌+◌, OnOk, length};
-ghost use Rattle.ant_asm.specs.Inner.Outlines.{IsUseBelow, line_size, most_size};
+ghost use Rattle.ant_asm.specs.Inner.Outlines.{IsUseBelow, counted_from, line_size, most_size};
 
 use hex_geometry::OutOfMemory;
 use std::alloc::Global;
@@ -17,10 +17,12 @@ pub enum NamedLine {
     },
 }
 
-/// The lines of a body, and how many instructions they expand to: at most 10,000 in a program, and so never more than is counted.
+/// The lines of a body, the places of those that aren't labels, and how many instructions they expand to: at most 10,000 in a program, and so
+/// never more than is counted.
 #[derive(Drop)]
 pub struct NamedBody {
     pub lines: Vec<NamedLine>,
+    pub counted: Vec<usize>,
     pub size: u16,
 }
 
@@ -28,10 +30,12 @@ impl NamedBody {
     // A body without lines.
     pub(crate) fn new(alloc: Global) -> Self
         ensures lines { result.lines.items ≡ [] }
+        ensures counted { result.counted.items ≡ [] }
         ensures size { result.size ≡ 0 }
     {
         NamedBody {
             lines: Vec::new(alloc),
+            counted: Vec::new(alloc),
             size: 0,
         }
     }
@@ -39,8 +43,15 @@ impl NamedBody {
     // A line more, which expands to so many instructions.
     pub(crate) fn add(&mut self, line: NamedLine, size: u16) -> Result<(), OutOfMemory>
         ensures lines { OnOk result (self.new.lines.items ≡ self.old.lines.items ++ line ∷ []) }
+        ensures counted { OnOk result (self.new.counted.items ≡ self.old.counted.items ++ counted_from (length self.old.lines.items) (line ∷ [])) }
         ensures size { OnOk result (self.old.size + size ≤ most_size → self.new.size ≡ self.old.size + size) }
     {
+        let place = self.lines.len();
+        match &line {
+            NamedLine::Label(_) => {}
+            NamedLine::Instruction(_) => self.counted.push(place)?,
+            NamedLine::Use { .. } => self.counted.push(place)?,
+        }
         self.lines.push(line)?;
         self.size = self.size.saturating_add(size);
         Ok(())

@@ -11,6 +11,7 @@ ghost use Rattle.ant_asm.specs.Inner.Outlines.{IsGoodOutlines, AreOutlinesOf, re
 
 use crate::line::{Line, read_line};
 use crate::named::{NamedBody, NamedLine};
+use crate::program::MOST_BLOCKS;
 use crate::scope::block_named;
 use ant_base::Lines;
 use hex_geometry::OutOfMemory;
@@ -138,7 +139,7 @@ impl<'t> Outlines<'t> {
         self.around = Some(Around { main, name });
     }
 
-    // A block ends; in a program one has begun.
+    // A block ends; in a program one has begun, and there are at most 256.
     fn end(&mut self) -> Result<(), OutOfMemory>
         requires good { IsGoodOutlines self.old }
         ensures good { OnOk result (IsGoodOutlines self.new) }
@@ -148,6 +149,9 @@ impl<'t> Outlines<'t> {
             return Ok(());
         };
         let block = self.bodies.len();
+        if block >= MOST_BLOCKS {
+            return Err(OutOfMemory);
+        }
         let body = mem::replace(&mut self.current, around.main);
         self.bodies.push(body)?;
         self.blocks.insert(around.name, block)?;

@@ -31,7 +31,7 @@ use std::alloc::Global;
 use std::mem;
 
 /// The largest number of blocks.
-const MOST_BLOCKS: usize = 256;
+pub(crate) const MOST_BLOCKS: usize = 256;
 
 /// What stands round a block that has begun and not ended: main as far as it goes, the block's name, and the line that began it.
 #[derive(Drop)]

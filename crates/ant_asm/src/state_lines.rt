@@ -1,14 +1,16 @@
 // The states of a program, and the lines in which their instructions stand.
-ghost use Rattle.std.specs.Prelude.{◌+◌, ◌≤◌, ◌<◌, [], length};
+ghost use Rattle.std.specs.Prelude.{[]};
 ghost use Rattle.ant_base.specs.Sink.{Pushed};
 ghost use Rattle.ant_asm.specs.StateLines.{state_lines_text};
-ghost use Rattle.ant_asm.specs.Inner.Flat.{most};
-ghost use Rattle.ant_asm.specs.Inner.Outlines.{AreGoodNamed, outline_at, outline_size, told_lines};
+ghost use Rattle.ant_asm.specs.Inner.Outlines.{AreListed, main_of, outline_at, told_lines};
+ghost use Rattle.ant_asm.specs.Inner.Walks.{met_lines};
 ghost use Rattle.ant_asm.specs.Inner.Ways.{steps_of};
 
-use crate::named::{NamedBody, NamedLine, size_of};
+use crate::level::Level;
+use crate::named::NamedBody;
 use crate::source::Source;
-use crate::way::{Uses, Way};
+use crate::walk::{Met, Walk};
+use crate::way::Uses;
 use ant_base::{Failed, Layout, Sink, layout};
 
 /// Where the instruction of each state of a source stands.
@@ -25,42 +27,29 @@ impl Layout for StateLines<'_> {
 
     fn push_to<K: Sink>(&self, sink: &mut K) -> Result<(), Failed> {
         let source = self.0;
-        push_lines(&source.bodies, source.bodies.len() - 1, 0, &Way::Main, sink)
+        push_lines(&source.bodies, sink)
     }
 }
 
-// The lines of the states of a body and of what it puts in place, by the state of its first instruction.
-fn push_lines<K: Sink>(
-    bodies: &[NamedBody],
-    number: usize,
-    base: u16,
-    way: &Way,
-    sink: &mut K,
-) -> Result<(), Failed>
-    requires good { AreGoodNamed [] bodies.now }
-    requires known { number < length bodies.now }
-    requires fits { base + outline_size (outline_at bodies.now number) ≤ most }
-    ensures { Pushed (K.state sink.old) (K.state sink.new) (state_lines_text (told_lines (outline_at bodies.now number) base (steps_of way.now))) result }
+// The lines of the states of main, which is the last of these bodies, and of all that it puts in place.
+fn push_lines<K: Sink>(bodies: &[NamedBody], sink: &mut K) -> Result<(), Failed>
+    requires { AreListed bodies.now }
+    ensures { Pushed (K.state sink.old) (K.state sink.new) (state_lines_text (told_lines (outline_at bodies.now (main_of bodies.now)) 0 [])) result }
 {
-    let body = &bodies[number];
-    let mut next = base;
-    for line in &body.lines {
-        let at = next;
-        next = at + size_of(bodies, line);
-        match line {
-            NamedLine::Label(_) => {}
-            NamedLine::Instruction(line) => {
-                layout!(at, " ", *line, Uses(*way), "\n").push_to(sink)?;
-            }
-            NamedLine::Use { line, name, block } => {
-                let through = Way::Through {
-                    outer: &*way,
-                    name,
-                    line: *line,
-                };
-                push_lines(bodies, *block, at, &through, sink)?;
-            }
-        }
+    let mut walk = Walk::new(bodies);
+    while let Some(met) = walk.step() {
+        push_met(met, walk.outer.as_slice(), sink)?;
     }
     Ok(())
+}
+
+// The line of the state of an instruction that was met.
+fn push_met<K: Sink>(met: Met, way: &[Level], sink: &mut K) -> Result<(), Failed>
+    ensures { Pushed (K.state sink.old) (K.state sink.new) (state_lines_text (met_lines met (steps_of way.now))) result }
+{
+    match met {
+        Met::Nothing => Ok(()),
+        Met::Instruction { at, line } => { layout!(at, " ", line, Uses(way), "\n").push_to(sink) }
+        Met::Body(_) => Ok(()),
+    }
 }

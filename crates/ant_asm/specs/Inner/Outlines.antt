@@ -8,7 +8,7 @@ use Rattle.ant_asm.specs.declared.named.NamedLine.{NamedLine}
 use Rattle.ant_asm.specs.declared.outline.Around.{Around}
 use Rattle.ant_asm.specs.declared.outline.Outlines.{Outlines}
 use Rattle.ant_asm.specs.Lines.{Line}
-use Rattle.ant_asm.specs.Standing.{with_name}
+use Rattle.ant_asm.specs.Standing.{most_blocks, with_name}
 use Rattle.ant_asm.specs.Labels.{LabelState, NumberedLine, Outline, WayStep, block_outline, main_outline, outline_of}
 use Rattle.ant_asm.specs.Labels.NumberedLine.{At}
 use Rattle.ant_asm.specs.Labels.Outline.{Closed, Labelled, Instructed, Used}
@@ -63,9 +63,17 @@ IsUseBelow count (NamedLine.Label name) = Unit {0}
 IsUseBelow count (NamedLine.Instruction line) = Unit {0}
 IsUseBelow count (NamedLine.Use line name block) = block < count
 
--- a body behind blocks of these outlines uses these alone, and tells its size, where that is at most so much
+-- the places of the lines that aren't labels, where the first line has this place
+abbrev pub counted_from : ℕ → List NamedLine → List ℕ
+counted_from place [] = []
+counted_from place (NamedLine.Label name ∷ lines) = counted_from (suc place) lines
+counted_from place (NamedLine.Instruction line ∷ lines) = place ∷ counted_from (suc place) lines
+counted_from place (NamedLine.Use line name block ∷ lines) = place ∷ counted_from (suc place) lines
+
+-- a body behind blocks of these outlines uses these alone, and tells its size, where that is at most so much, and the places of its items
 pub record IsGoodNamed (blocks : List Outline) (body : NamedBody) : Type 0 where
   pub uses : AllByRecursion (IsUseBelow (length blocks)) body.lines.items
+  pub counted : body.counted.items ≡ counted_from 0 body.lines.items
   pub size : outline_size (outline_in blocks body) ≤ most_size → body.size ≡ outline_size (outline_in blocks body)
 
 -- so does each of some bodies
@@ -125,6 +133,7 @@ IsGoodAround blocks (Some around) = IsGoodNamed blocks around.main
 -- what was read so far is good
 pub record IsGoodOutlines (outlines : Outlines) : Type 0 where
   pub bodies : AreGoodNamed [] outlines.bodies.items
+  pub few : length outlines.bodies.items ≤ most_blocks
   pub blocks : (name : List ℕ) (n : ℕ) → known_as outlines.blocks.entries name ≡ Some n → n < length outlines.bodies.items
   pub current : IsGoodNamed (outlines_of outlines.bodies.items) outlines.current
   pub around : IsGoodAround (outlines_of outlines.bodies.items) outlines.around
@@ -137,6 +146,7 @@ main_of bodies = length bodies - 1
 pub record AreOutlinesOf (lines : List NumberedLine) (bodies : List NamedBody) : Type 0 where
   pub good : AreGoodNamed [] bodies
   pub some : 1 ≤ length bodies
+  pub short : length bodies ≤ suc most_blocks
   pub main : outline_at bodies (main_of bodies) ≡ outline_of lines
 
 -- the number to which a label leads that stands at this number, before so many instructions of its body
@@ -189,4 +199,5 @@ label_of (NamedLine.Use line name block) state way = []
 pub record AreListed (bodies : List NamedBody) : Type 0 where
   pub good : AreGoodNamed [] bodies
   pub some : 1 ≤ length bodies
+  pub short : length bodies ≤ suc most_blocks
   pub few : outline_size (outline_at bodies (main_of bodies)) ≤ most

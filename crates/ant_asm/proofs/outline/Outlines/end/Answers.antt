@@ -1,4 +1,4 @@
-use Rattle.std.proofs.Common.{ℕ, List, ◌∷◌, [], ◌++◌, sym, ap, ◌∙◌}
+use Rattle.std.proofs.Common.{ℕ, List, ◌∷◌, [], ◌++◌, sym, ap, ◌∙◌, arith}
 use Rattle.std.proofs.Math.Path.{fun_ext}
 use Rattle.ant_asm.specs.declared.named.NamedBody.{NamedBody}
 use Rattle.ant_asm.specs.Standing.{with_name}
@@ -16,6 +16,7 @@ returns-clause-good c =
     c.replace-body.ensures.after c.take.ensures.after
     (fun_ext (λ (other : List ℕ). (c.in_ok-insert.ensures.updates).0 (record { ref_ptr = around.name.ref_ptr; now = other }))
     ∙ ap (λ (n : ℕ). with_name around.name.now n (known_as o.blocks.entries)) (c.len-block.ensures ∙ o.bodies.ok.0))
+    (let room = c.if-block-ge-MOST_BLOCKS.false in let many = c.len-block.ensures in omega (arith, room, many))
 
 pub returns-clause-on : goal.returns-clause-on
 returns-clause-on c =

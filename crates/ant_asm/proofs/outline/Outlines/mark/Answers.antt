@@ -5,7 +5,7 @@ use Rattle.ant_asm.specs.Labels.{block_outline, main_outline}
 use Rattle.ant_asm.specs.Labels.NumberedLine.{At}
 use Rattle.ant_asm.specs.Labels.Outline.{Labelled}
 use Rattle.ant_asm.specs.Inner.Outlines.{blocks_named, outlines_of}
-use Rattle.ant_asm.proofs.OnAnswers.{on_both, on_ok}
+use Rattle.ant_asm.proofs.OnAnswers.{on_ok, on_three}
 use Rattle.ant_asm.proofs.OutlineLemmas.{good-push}
 use Rattle.ant_asm.proofs.OutlineReading.{add-on, current-good}
 use Rattle.ant_asm.proofs.outline.Outlines.mark.Goals as goal
@@ -13,8 +13,8 @@ use Rattle.ant_asm.proofs.outline.Outlines.mark.Goals as goal
 pub returns-clause-good : goal.returns-clause-good
 returns-clause-good c =
     let o = c.args.self.now in
-    on_both c.add.result c.add.ensures.lines c.add.ensures.size (λ lines size.
-    current-good o c.add.new.self c.requires.good (good-push (outlines_of o.bodies.items) o.current c.add.new.self (NamedLine.Label c.in_ok-name.name) 0 c.requires.good.current lines size tt (λ few. refl)))
+    on_three c.add.result c.add.ensures.lines c.add.ensures.counted c.add.ensures.size (λ lines counted size.
+    current-good o c.add.new.self c.requires.good (good-push (outlines_of o.bodies.items) o.current c.add.new.self (NamedLine.Label c.in_ok-name.name) 0 c.requires.good.current lines counted size tt (λ few. refl)))
 
 pub returns-clause-on : goal.returns-clause-on
 returns-clause-on c = λ number lines.

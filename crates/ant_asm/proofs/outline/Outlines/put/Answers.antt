@@ -3,7 +3,7 @@ use Rattle.ant_asm.specs.declared.named.NamedLine.{NamedLine}
 use Rattle.ant_asm.specs.Labels.Outline.{Used}
 use Rattle.ant_asm.specs.Inner.Outlines.{blocks_named, outline_at, outline_in_map, outlines_of}
 use Rattle.ant_asm.proofs.FlatLemmas.{read_at}
-use Rattle.ant_asm.proofs.OnAnswers.{on_both, on_ok}
+use Rattle.ant_asm.proofs.OnAnswers.{on_ok, on_three}
 use Rattle.ant_asm.proofs.OutlineLemmas.{good-push, named-at, outlines_of-length}
 use Rattle.ant_asm.proofs.OutlineReading.{current-good, put-on}
 use Rattle.ant_asm.proofs.outline.Outlines.put.Goals as goal
@@ -14,9 +14,9 @@ returns-clause-good c =
     let n = c.in-Some.block in
     let inside = c.requires.good.blocks c.args.name.now n (sym c.block_named.ensures ∙ c.in-Some.is) in
     let there = named-at o.bodies.items n c.index.result.now (read_at o.bodies.items n c.index.result.now inside c.index.ensures) c.requires.good.bodies in
-    on_both c.add.result c.add.ensures.lines c.add.ensures.size (λ lines size.
+    on_three c.add.result c.add.ensures.lines c.add.ensures.counted c.add.ensures.size (λ lines counted size.
     current-good o c.add.new.self c.requires.good
-    (good-push (outlines_of o.bodies.items) o.current c.add.new.self (NamedLine.Use c.args.line c.in_ok-name.name n) c.index.result.now.size c.requires.good.current lines size
+    (good-push (outlines_of o.bodies.items) o.current c.add.new.self (NamedLine.Use c.args.line c.in_ok-name.name n) c.index.result.now.size c.requires.good.current lines counted size
     (let all = outlines_of-length o.bodies.items in omega (arith, all, inside))
     (λ few. let same = there.size (omega (arith, few)) in omega (arith, same))))
 
