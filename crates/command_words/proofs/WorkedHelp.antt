@@ -82,7 +82,7 @@ pub help_help : command_text Help ≡ codes "  --help\n      prints this page\n"
 unfolding command_text needed_texts more_text place_lines has_free takes_line free_texts numbered
 help_help = refl
 
-pub seed_help : option_line Seed ≡ codes "  --seed N      where the random numbers begin, 0 to 4294967295; needed\n"
+pub seed_help : option_line Seed ≡ codes "  --seed N      the seed of the random numbers, 0 to 4294967295; needed\n"
 unfolding option_line numbered digits
 seed_help = refl
 
@@ -93,7 +93,7 @@ pub cup_options_help :
 unfolding option_line numbered digits
 cup_options_help = (refl, refl, refl)
 
-pub from_help : option_line From ≡ codes "  --from N      the first round that is told, 0 to 1000000; 0\n"
+pub from_help : option_line From ≡ codes "  --from N      the first round that is looked at, 0 to 1000000; 0\n"
 unfolding option_line numbered digits
 from_help = refl
 
@@ -127,14 +127,14 @@ way_help = refl
 
 -- the other commands, but for a workload
 other_commands_help :
-    (command_text Save ≡ codes "  save WORLD RED BLACK --seed N --rounds N [OPTION]..\n      plays a game up to a round, and prints all that it takes to go on\n      takes --workers --window --surround --corpse --rest\n")
+    (command_text Save ≡ codes "  save WORLD RED BLACK --seed N --rounds N [OPTION]..\n      plays a game up to a round, and prints a save of it\n      takes --workers --window --surround --corpse --rest\n")
     × (command_text Resume ≡ codes "  resume SAVE --rounds N [OPTION]..\n      goes on with a saved game, and prints the rest of what run prints\n      takes --dump --workers --stats\n")
     × (command_text View ≡ codes "  view WORLD RED BLACK BREAKS --seed N --rounds N [OPTION]..\n      plays a game up to the first of its breaks, and prints the world there\n      takes --from\n")
     × (command_text Show ≡ codes "  show WORLD SEED\n      prints a world as it is at the start of a game\n      SEED, 0 to 4294967295\n")
-    × (command_text Gen ≡ codes "  gen SEED [OPTION]..\n      prints a world in the contest's manner, made from a number\n      SEED, 0 to 4294967295\n      takes --width --height --rocks --blobs\n")
+    × (command_text Gen ≡ codes "  gen SEED [OPTION]..\n      prints a world like the contest's, generated from a number\n      SEED, 0 to 4294967295\n      takes --width --height --rocks --blobs\n")
     × (command_text Brain ≡ codes "  brain FILE\n      checks a brain, and prints it with one instruction a line\n")
     × (command_text Minimise ≡ codes "  minimise FILE [OPTION]..\n      merges equivalent states of a brain, and keeps what state 0 leads to\n      takes --states\n")
-    × (command_text Same ≡ codes "  same FILE FILE [OPTION]..\n      says whether two brains are the same but for the numbers of their states\n      takes --way\n")
+    × (command_text Same ≡ codes "  same FILE FILE [OPTION]..\n      says whether two brains are the same except for state numbers\n      takes --way\n")
     × (command_text Asm ≡ codes "  asm FILE [OPTION]..\n      prints the brain of a program with labels and blocks\n      takes --labels --lines\n")
 unfolding command_text needed_texts more_text place_lines has_free takes_line free_texts numbered digits
 other_commands_help = (refl, refl, refl, refl, refl, refl, refl, refl, refl)

@@ -75,7 +75,7 @@ command_help names says = record { names = names; says = says }
 
 abbrev pub help_row : CommandKind → CommandHelp
 help_row Run = command_help (codes " WORLD RED BLACK") (codes "plays a game between two brains, and prints its score")
-help_row Save = command_help (codes " WORLD RED BLACK") (codes "plays a game up to a round, and prints all that it takes to go on")
+help_row Save = command_help (codes " WORLD RED BLACK") (codes "plays a game up to a round, and prints a save of it")
 help_row Resume = command_help (codes " SAVE") (codes "goes on with a saved game, and prints the rest of what run prints")
 help_row Advance = command_help (codes " SAVE") (codes "goes on with a saved game up to a round, and prints a save of it there")
 help_row View = command_help (codes " WORLD RED BLACK BREAKS") (codes "plays a game up to the first of its breaks, and prints the world there")
@@ -86,10 +86,10 @@ help_row Profile = command_help (codes " WORLD RED BLACK") (codes "plays a game,
 help_row Cup = command_help (codes " --worlds WORLD.. --brains BRAIN..") (codes "plays all games between brains on worlds, and prints their standing")
 help_row Workload = command_help (codes " SEED ROUNDS WORKERS") (codes "plays the sample brain against itself on a world that gen makes")
 help_row Show = command_help (codes " WORLD SEED") (codes "prints a world as it is at the start of a game")
-help_row Gen = command_help (codes " SEED") (codes "prints a world in the contest's manner, made from a number")
+help_row Gen = command_help (codes " SEED") (codes "prints a world like the contest's, generated from a number")
 help_row Brain = command_help (codes " FILE") (codes "checks a brain, and prints it with one instruction a line")
 help_row Minimise = command_help (codes " FILE") (codes "merges equivalent states of a brain, and keeps what state 0 leads to")
-help_row Same = command_help (codes " FILE FILE") (codes "says whether two brains are the same but for the numbers of their states")
+help_row Same = command_help (codes " FILE FILE") (codes "says whether two brains are the same except for state numbers")
 help_row Asm = command_help (codes " FILE") (codes "prints the brain of a program with labels and blocks")
 help_row HelpWord = command_help (codes "") (codes "prints this page")
 help_row Help = command_help (codes "") (codes "prints this page")
@@ -178,7 +178,7 @@ options = Seed ∷ Seeds ∷ Rounds ∷ Dump ∷ Workers ∷ Window ∷ Surround
 
 -- what the page says of an option
 abbrev pub about_of : Choice → List ℕ
-about_of Seed = codes "where the random numbers begin"
+about_of Seed = codes "the seed of the random numbers"
 about_of Seeds = codes "how many seeds each game is played with"
 about_of Rounds = codes "how many rounds are played"
 about_of Dump = codes "dumps after rounds: none, all, or as 0,10,100; none"
@@ -187,7 +187,7 @@ about_of Window = codes "turns that are looked at ahead"
 about_of Surround = codes "foes around an ant that kill it"
 about_of Corpse = codes "food that a dead ant leaves"
 about_of Rest = codes "turns that an ant rests after a step"
-about_of From = codes "the first round that is told"
+about_of From = codes "the first round that is looked at"
 about_of Ant = codes "the one ant that is told of"
 about_of Stats = codes "adds the counts of turns and looks"
 about_of Food = codes "adds who takes and who drops food"

@@ -84,7 +84,7 @@ pub enum Choice {
     Rocks,
     /// `--blobs N`; without it 11
     Blobs,
-    /// `--from N`, the first round that is told; without it 0
+    /// `--from N`, the first round that is looked at; without it 0
     From,
     /// `--ant N`, the one ant that is told of; without it all are
     Ant,
@@ -213,7 +213,7 @@ impl CommandKind {
                 places: &[SEED],
                 choices: &[Choice::Width, Choice::Height, Choice::Rocks, Choice::Blobs],
                 names: " SEED",
-                says: "prints a world in the contest's manner, made from a number",
+                says: "prints a world like the contest's, generated from a number",
             },
             CommandKind::Cup => CommandRow {
                 word: "cup",
@@ -294,7 +294,7 @@ impl CommandKind {
                     Choice::Rest,
                 ],
                 names: " WORLD RED BLACK",
-                says: "plays a game up to a round, and prints all that it takes to go on",
+                says: "plays a game up to a round, and prints a save of it",
             },
             CommandKind::Resume => CommandRow {
                 word: "resume",
@@ -327,7 +327,7 @@ impl CommandKind {
                 places: &[FILE, FILE],
                 choices: &[Choice::Way],
                 names: " FILE FILE",
-                says: "says whether two brains are the same but for the numbers of their states",
+                says: "says whether two brains are the same except for state numbers",
             },
             CommandKind::Events => CommandRow {
                 word: "events",
@@ -542,7 +542,7 @@ impl Choice {
         ensures about { result.about.now ≡ about_of self }
     {
         match self {
-            Choice::Seed => needed("--seed", &[SEED], "where the random numbers begin"),
+            Choice::Seed => needed("--seed", &[SEED], "the seed of the random numbers"),
             Choice::Seeds => free(
                 "--seeds",
                 &[SEEDS],
@@ -581,7 +581,7 @@ impl Choice {
             Choice::Height => free("--height", &[SIDE], 150, "rows"),
             Choice::Rocks => free("--rocks", &[ELEMENTS], 14, "rocks that are placed"),
             Choice::Blobs => free("--blobs", &[ELEMENTS], 11, "heaps of food that are placed"),
-            Choice::From => free("--from", &[ROUNDS], 0, "the first round that is told"),
+            Choice::From => free("--from", &[ROUNDS], 0, "the first round that is looked at"),
             Choice::Ant => one_of_all("--ant", &[ANT], "the one ant that is told of"),
             Choice::Labels => flag(
                 "--labels",
