@@ -38,6 +38,6 @@ def page():
     return PAGE % {
         "commands": " ".join(words.commands),
         "options": "\n".join("    %s) options='%s' ;;" % (command, " ".join(options)) for command, options in known.items() if options),
-        "numbers": " | ".join(it for it, form in words.forms.items() if form in ("needed", "number")),
+        "numbers": " | ".join(it for it, form in words.forms.items() if form in ("needed", "number", "one")),
         "dumps": " | ".join(it for it, form in words.forms.items() if form == "dump"),
     }

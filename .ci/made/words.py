@@ -22,7 +22,7 @@ class Words:
     def __init__(self, folder="crates/command_words/specs"):
         texts = [re.sub(r"\n    +", " ", read(file)) for file in source_files(folder, ".antt") if "/Inner/" not in file]
         rows = {kind: (word, choices) for kind, word, choices in only(texts, r'^row_of (\w+) = command_row \(codes "([^"]+)"\).* (\[\]|\([^()]*\))$')}
-        options = only(texts, r'^option_row (\w+) = (needed|number|dump|flag)_option \(codes "([^"]+)"\) ?(\w*) ?(\d*)')
+        options = only(texts, r'^option_row (\w+) = (needed|number|one|dump|flag)_option \(codes "([^"]+)"\) ?(\w*) ?(\d*)')
         kinds = only(texts, r"^kinds = (.*) ∷ \[\]$")[0].split(" ∷ ")
         least, most = dict(only(texts, r"^least_of (\w+) = (\d+)")), dict(only(texts, r"^most_of (\w+) = (\d+)"))
         word_of = {choice: word for choice, _, word, _, _ in options}
@@ -39,5 +39,5 @@ class Words:
         self.forms = {word: form for _, form, word, _, _ in options}
         for choice, form, word, kind, default in options:
             limits = "%s to %s" % (number(least[kind]), number(most[kind])) if kind else None
-            default = "needed" if form == "needed" else number(default) if default else None
+            default = "needed" if form == "needed" else "all" if form == "one" else number(default) if default else None
             self.options[word] = (limits, default)
