@@ -32,7 +32,7 @@ def paragraphs(text):
 def head_of(name):
     """What heads a script: its docstring, or what it sets `__doc__` to if the shell starts it."""
     tree = ast.parse(read("examples/" + name))
-    own = [it.value for it in tree.body if isinstance(it, ast.Assign) and isinstance(it.targets[0], ast.Name) and it.targets[0].id == "__doc__"]
+    own = [it.value for it in tree.body if isinstance(it, ast.Assign) and getattr(it.targets[0], "id", "") == "__doc__"]
     return ast.literal_eval(own[0]) if own else ast.get_docstring(tree, clean=False)
 
 
