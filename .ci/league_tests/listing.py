@@ -213,11 +213,12 @@ class Listing(Folder):
         for text in ("", "random seed: -1", "seed: 1", "ants: word 4 refused", "\xff", "After round 0..."):
             self.assertEqual(self.bad("fetch.asm", self.edited(1, text), "red"), "edited: line 1: no profile begins so")
         for line, text in ((2, ""), (2, "red 1: 3 times, 1 met: PickUp 3 1"), (2, "red 0: 3 times, 4 met: PickUp 3 1"),
+                           (2, "red 0: 3 times: PickUp 3 1"), (4, "red 2: 0 times, 0 met: Turn Left 1"), (2, "black 0: 0 times: Drop 0"),
                            (2, "red 00: 3 times, 1 met: PickUp 3 1"), (4, "red 2: 0 times, Turn Left 1"), (4, "red 2: -1 times: Turn Left 1"),
                            (4, "red 2: \u0663 times: Turn Left 1"), (5, "red 3: 1 times, 0 met: Sense Here 6 4 Home "),
                            (6, "red 4: %s times, 1 met: Move 3 5" % (5000 * "9")), (12, "red 9: 0 times: Drop 0"), (12, "black 2: 0 times: Drop 0")):
             self.assertEqual(self.bad("fetch.asm", self.edited(line, text), "red"), "edited: line %d: not the next line of a profile" % line)
-        self.edited(3, "black 0: 0 times: Drop 0")  # red goes on behind black
+        self.edited(3, "black 0: 0 times: Drop 0")  # red goes on after black
         self.assertEqual(self.bad("fetch.asm", "edited", "red"), "edited: line 4: not the next line of a profile")
         for line in (2, 3, 11):
             self.assertEqual(self.bad("fetch.asm", self.edited(line, None), "red"), "edited: line %d: the profile ends too early" % line)

@@ -61,6 +61,13 @@ class Seeds(Folder):
             self.assertEqual([self.good("season", "--show", it) for it in (str(number), names[number - 1])], [shown, shown])
         self.assertEqual(self.bad("season", "--show", self.name(*games[0][0][1:])), "league: there is no game %s\n" % names[0].rpartition("-")[0])
 
+    def test_standing_and_games_are_those_of_one_cup(self):
+        self.count = 3
+        self.play()
+        self.assertEqual(self.good("season", "--leads"), self.cup("--seeds", "3", "--leads"))
+        printed = self.good("season", "--games")
+        self.assertEqual(re.sub(r"(?m)^(game .*), \S+$", r"\1", printed), self.cup("--seeds", "3", "--games"))
+
     def test_leads(self):
         """In the first round of ambush.world red is surrounded where black steps, and leaves 3 particles on its hill."""
         self.brains, self.worlds = ["step.brain", "flip_two.brain", "idle.brain"], ["ambush.world"]
