@@ -17,14 +17,14 @@ _ants() {
     trace) options='--seed --rounds --from --surround --corpse --rest' ;;
     events) options='--seed --rounds --surround --corpse --rest' ;;
     profile) options='--seed --rounds --surround --corpse --rest' ;;
-    cup) options='--worlds --brains --seed --rounds --workers --games' ;;
+    cup) options='--worlds --brains --seed --seeds --rounds --workers --games --leads --gauntlet' ;;
     gen) options='--width --height --rocks --blobs' ;;
     minimise) options='--states' ;;
     same) options='--way' ;;
     asm) options='--labels --lines' ;;
     esac
     case $before in
-    --seed | --rounds | --workers | --window | --surround | --corpse | --rest | --width | --height | --rocks | --blobs | --from) return ;;
+    --seed | --seeds | --rounds | --workers | --window | --surround | --corpse | --rest | --width | --height | --rocks | --blobs | --from) return ;;
     --dump) COMPREPLY=($(compgen -W 'none all' -- "$word")); return ;;
     esac
     case $word in
