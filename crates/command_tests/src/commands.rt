@@ -7,6 +7,7 @@ mod assembled;
 mod brains;
 mod compared;
 mod counts;
+mod cup_options;
 mod cups;
 mod early_lines;
 mod events;

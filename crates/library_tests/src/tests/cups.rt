@@ -12,8 +12,8 @@ use std::sync::atomic::{AtomicBool, Ordering};
 use std::test::Fail;
 use std::thread::Threads;
 use tournament::{
-    Added, Names, Pairing, Played, PushFault, Referee, play_all, play_and_print, play_games,
-    play_games_alone, push_standing,
+    Added, Format, Names, Pairing, Played, PushFault, Referee, Seeds, play_all, play_all_by,
+    play_and_print, play_games, play_games_alone, push_standing, standing_of,
 };
 
 // More bytes than any text of these tests has.
@@ -21,6 +21,14 @@ const ROOM: u64 = 2000;
 
 // Turns after which a game that waits for another one gives up.
 const PATIENCE: u32 = 100000000;
+
+// One seed, no leads, and the games of all players.
+const PLAIN: Format = Format {
+    gauntlet: false,
+    leads: false,
+    seeds: Seeds { first: 5, count: 1 },
+    shows_seeds: false,
+};
 
 // Player 1 as red wins 3 to 0; with player 0 as red no side gets food.
 struct OneWin;
@@ -131,7 +139,7 @@ fn check<R: Threads + Sync + Abort, F: Referee>(
     for workers in [1, 2, 16] {
         let standing = play_all(rt, alloc, referee, players as u32, worlds, workers)?;
         let mut out = MemSink::with_room(alloc, ROOM, Calls::new(alloc))?;
-        let pushed = push_standing(&standing, names, &mut out);
+        let pushed = push_standing(&standing, false, names, &mut out);
         assert!(rt; pushed.is_ok());
         assert_eq!(rt; str::from_utf8(out.held())?, text, "with {workers} workers");
     }
@@ -156,12 +164,14 @@ fn check_told<R: Threads + Sync + Abort, F: Referee>(
     rt: &R,
     alloc: Global,
     referee: &F,
+    format: Format,
     worlds: &[&str],
     text: &str,
     end: Result<(), PushFault>,
 ) -> Result<(), Fail>
     requires { (world red black : ℕ) → F.knows referee.now world red black }
 {
+    assert!(rt; 1 <= format.seeds.count && format.seeds.count <= 1000);
     let names = named(alloc, &["a", "b"])?;
     let places = texts_of(alloc, worlds)?;
     let players = names.len();
@@ -173,7 +183,9 @@ fn check_told<R: Threads + Sync + Abort, F: Referee>(
     { played(rt, alloc, referee, games, workers) };
     for workers in [1, 2, 16] {
         let mut out = MemSink::with_room(alloc, ROOM, Calls::new(alloc))?;
-        let told = play_and_print(alloc, referee, &places, &names, workers, &play, &mut out);
+        let told = play_and_print(
+            alloc, referee, format, &places, &names, workers, &play, &mut out,
+        );
         assert_eq!(rt; told, end, "with {workers} workers");
         assert_eq!(rt; str::from_utf8(out.held())?, text, "with {workers} workers");
     }
@@ -195,6 +207,7 @@ fn games_are_told_before_the_standing(rt: HostRuntime) -> Result<(), Fail> {
         &rt,
         rt.alloc(),
         &OneWin,
+        PLAIN,
         &["w"],
         "game 1: red 0 black 0, w, a, b\ngame 2: red 3 black 0, w, b, a\n3 points: b (1 won, 1 drawn, 0 lost)\n1 points: a (0 won, 1 drawn, 1 lost)\n",
         Ok(()),
@@ -209,10 +222,88 @@ fn the_games_on_the_worlds_before_are_told_where_one_is_refused(
         &rt,
         rt.alloc(),
         &FirstWorldAlone,
+        PLAIN,
         &["w", "v"],
         "game 1: red 5 black 5, w, a, b\ngame 2: red 5 black 5, w, b, a\n",
         Err(PushFault::OutOfMemory),
     )
+}
+
+// With the last seed and the one that follows it, player 1 wins a game as red with each.
+#[test]
+fn a_world_is_played_with_each_seed_and_leads_are_told(rt: HostRuntime) -> Result<(), Fail> {
+    check_told(
+        &rt,
+        rt.alloc(),
+        &OneWin,
+        Format {
+            leads: true,
+            seeds: Seeds {
+                first: 4294967295,
+                count: 2,
+            },
+            shows_seeds: true,
+            ..PLAIN
+        },
+        &["w"],
+        "game 1: red 0 black 0, seed 4294967295, w, a, b\ngame 2: red 3 black 0, seed 4294967295, w, b, a\ngame 3: red 0 black 0, seed 0, w, a, b\ngame 4: red 3 black 0, seed 0, w, b, a\n6 points: b (2 won, 2 drawn, 0 lost), lead 6\n2 points: a (0 won, 2 drawn, 2 lost), lead -6\n",
+        Ok(()),
+    )
+}
+
+// The standing of a gauntlet of players a, b and c on one world, by two workers, with leads.
+fn check_gauntlet<R: Threads + Sync + Abort, F: Referee>(
+    rt: &R,
+    alloc: Global,
+    referee: &F,
+    text: &str,
+) -> Result<(), Fail>
+    requires { (world red black : ℕ) → F.knows referee.now world red black }
+{
+    let names = named(alloc, &["a", "b", "c"])?;
+    let players = names.len();
+    assert!(rt; 2 <= players && players <= 16);
+    let play = |referee: &F, games: &[Pairing], workers: u32| -> Result<Vec<Played>, OutOfMemory>
+        requires { CanBePlayedBy workers (F.knows referee.now) games.now }
+        ensures { ArePlayed (F.score referee.entry.now) games.entry.now result }
+    { played(rt, alloc, referee, games, workers) };
+    let standing = play_all_by(alloc, referee, true, players as u32, 1, 2, &play)?;
+    let mut out = MemSink::with_room(alloc, ROOM, Calls::new(alloc))?;
+    let pushed = push_standing(&standing, true, &names, &mut out);
+    assert!(rt; pushed.is_ok());
+    assert_eq!(rt; str::from_utf8(out.held())?, text);
+    Ok(())
+}
+
+// The first player plays each other one twice, and the others don't meet.
+#[test]
+fn a_gauntlet_has_the_games_of_the_first_player(rt: HostRuntime) -> Result<(), Fail> {
+    check_gauntlet(
+        &rt,
+        rt.alloc(),
+        &OneWin,
+        "3 points: a (0 won, 3 drawn, 1 lost), lead -3\n3 points: b (1 won, 1 drawn, 0 lost), lead 3\n2 points: c (0 won, 2 drawn, 0 lost), lead 0\n",
+    )
+}
+
+// A game on world 7, without a cup: its winner stands first, and a player of no game last.
+#[test]
+fn a_standing_of_one_game_counts_it_alone(rt: HostRuntime) -> Result<(), Fail> {
+    let played = Played {
+        game: Pairing {
+            world: 7,
+            red: 2,
+            black: 0,
+        },
+        score: Score { red: 3, black: 1 },
+    };
+    let standing = standing_of(rt.alloc(), 3, &[played])?;
+    assert!(rt; standing.len() == 3);
+    let best = standing.item(0);
+    assert_eq!(rt; best.player, 2);
+    assert_eq!(rt; best.food_for, 3);
+    assert_eq!(rt; best.food_against, 1);
+    Ok(())
 }
 
 #[test]
