@@ -42,7 +42,7 @@ use Rattle.ant_commands.specs.Job.{Job, plain_job}
 use Rattle.command_words.specs.Command.{AskedWithin, PlainAsked}
 use Rattle.command_words.specs.declared.table.CommandKind.{CommandKind}
 use Rattle.command_words.specs.declared.table.CommandKind.TheVariants.{Advance, Asm, Brain, Cup, Events, Gen, Help, HelpWord, Minimise, Profile, Resume, Run, Same, Save, Show, Trace, Version, View, Workload}
-use Rattle.command_words.specs.declared.table.Choice.TheVariants.{Seed, Rounds, Workers, Labels, Lines, Way, States, Games}
+use Rattle.command_words.specs.declared.table.Choice.TheVariants.{Seed, Rounds, Workers, From, Labels, Lines, Way, States, Games}
 use Rattle.command_words.specs.declared.table.NameList.TheVariants.{Worlds, Brains}
 use Rattle.ant_commands.proofs.SetupLemmas.{cup-within, shape-within}
 use Rattle.ant_commands.specs.Laws.{HasOutput, OneText, TellsNoLabel, TextsEndInLf, WindowsChangeCountsAlone}
@@ -122,8 +122,8 @@ one-minimised states list text other a b =
     let same = one_minimised list a.new b.new a.numbers b.numbers a.minimised b.minimised in
     a.told ∙ ap₂ (minimise_output states list) same.0 same.1 ∙ sym b.told
 
-one-view : (seed rounds : ℕ) (view : ReadView) (text other : List ℕ) → IsViewOutput seed rounds view text → IsViewOutput seed rounds view other → text ≡ other
-one-view seed rounds view text other a b = one_first_stop.one_view (contest_minds view.game.red view.game.black) seed rounds (world_of view.game.world) view.breaks text other a b
+one-view : (seed rounds from : ℕ) (view : ReadView) (text other : List ℕ) → IsViewOutput seed rounds from view text → IsViewOutput seed rounds from view other → text ≡ other
+one-view seed rounds from view text other a b = one_first_stop.one_view (contest_minds view.game.red view.game.black) seed rounds from (world_of view.game.world) view.breaks text other a b
 
 one-cup : (games : Bool) (worlds names : List (List ℕ)) (seed rounds : ℕ) (cup : ReadCup) (text other : List ℕ) → IsCupOutput games worlds names seed rounds cup text → IsCupOutput games worlds names seed rounds cup other
     → text ≡ other
@@ -181,10 +181,10 @@ has-cup true worlds names seed rounds cup =
     let standing = has_standing (length names) (length worlds) score in
     (games_text worlds names (cup_played worlds names score) 1 ++ standing_text names standing.0, record { lines = standing.0; standing = standing.1; is = refl })
 
-has-view : (seed rounds : ℕ) (view : ReadView) → (text : List ℕ) × IsViewOutput seed rounds view text
-has-view seed rounds view =
+has-view : (seed rounds from : ℕ) (view : ReadView) → (text : List ℕ) × IsViewOutput seed rounds from view text
+has-view seed rounds from view =
     let minds = contest_minds view.game.red view.game.black in
-    (view_of minds seed rounds (world_of view.game.world) view.breaks, view_of-view minds seed rounds (world_of view.game.world) view.breaks)
+    (view_of minds seed rounds from (world_of view.game.world) view.breaks, view_of-view minds seed rounds from (world_of view.game.world) view.breaks)
 
 -- a world whose elements have room
 has_world : (seed : ℕ) (shape : Shape) → IsShape shape → ((element : ℕ) → HasNoRoom seed shape element → ⊥) → (world : Grid) × IsGenerated seed shape world
@@ -268,11 +268,11 @@ cup-laws a kind = record {
   crowded = λ element lacks. absurd lacks;
 }
 
-view-laws : (a : PlainAsked) (world red black : List ℕ) (breaks : List ℕ) (seed rounds : ℕ) → JobLaws a (view_job world red black breaks seed rounds)
-view-laws a world red black breaks seed rounds = record {
+view-laws : (a : PlainAsked) (world red black : List ℕ) (breaks : List ℕ) (seed rounds from : ℕ) → JobLaws a (view_job world red black breaks seed rounds from)
+view-laws a world red black breaks seed rounds from = record {
   ends = λ within fetches contents text are is. inl (ends is.told.view (lf_view is.told.end seed rounds is.told.stop));
-  one = λ contents text other x y. one_told (read_view world red black breaks) contents text other (λ view. one-view seed rounds view text other) x y;
-  has = λ within fetches contents are room. has_told (read_view world red black breaks) fetches contents are (λ view accepted. has-view seed rounds view);
+  one = λ contents text other x y. one_told (read_view world red black breaks) contents text other (λ view. one-view seed rounds from view text other) x y;
+  has = λ within fetches contents are room. has_told (read_view world red black breaks) fetches contents are (λ view accepted. has-view seed rounds from view);
   crowded = λ element lacks. absurd lacks;
 }
 
@@ -328,7 +328,7 @@ laws_by Minimise a is = minimise-laws a (a.file 0) (a.has States)
 laws_by Run a is = text_laws a _ _ (read_of a) (match_output (setup_of a)) (lf_match (setup_of a))
 laws_by Gen a is = gen-laws a (a.number 0)
 laws_by Cup a is = cup-laws a is
-laws_by View a is = view-laws a (a.file 0) (a.file 1) (a.file 2) (a.file 3) (a.option Seed) (a.option Rounds)
+laws_by View a is = view-laws a (a.file 0) (a.file 1) (a.file 2) (a.file 3) (a.option Seed) (a.option Rounds) (a.option From)
 laws_by Workload a is = workload-laws a (a.number 0) (a.number 1) (a.number 2)
 laws_by Help a is = help-laws a
 laws_by HelpWord a is = help-laws a

@@ -49,7 +49,7 @@ pub cup_asked : job_of (asked_in Cup (words_of (codes "cup --worlds w x --brains
 unfolding is_among rest_after is_file_name is_dumps dumps_of decimal_value
 cup_asked = refl
 
-pub view_asked : job_of (asked_in View (words_of (codes "view w r b k --rounds 5 --seed 7"))) ≡ view_job (codes "w") (codes "r") (codes "b") (codes "k") 7 5
+pub view_asked : job_of (asked_in View (words_of (codes "view w r b k --from 3 --rounds 5 --seed 7"))) ≡ view_job (codes "w") (codes "r") (codes "b") (codes "k") 7 5 3
 unfolding is_among rest_after is_file_name is_dumps dumps_of decimal_value
 view_asked = refl
 

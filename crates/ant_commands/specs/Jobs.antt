@@ -5,7 +5,7 @@ use Rattle.world_gen.specs.Placing.{HasNoRoom}
 use Rattle.command_words.specs.Command.{PlainAsked}
 use Rattle.command_words.specs.declared.table.CommandKind.{CommandKind}
 use Rattle.command_words.specs.declared.table.CommandKind.TheVariants.{Show, Brain, Minimise, Run, Gen, Cup, View, Workload, Help, HelpWord, Version, Asm, Save, Resume, Trace, Same, Events, Profile, Advance}
-use Rattle.command_words.specs.declared.table.Choice.TheVariants.{Seed, Rounds, Workers, Labels, Lines, Way, States, Games}
+use Rattle.command_words.specs.declared.table.Choice.TheVariants.{Seed, Rounds, Workers, From, Labels, Lines, Way, States, Games}
 use Rattle.command_words.specs.declared.table.NameList.TheVariants.{Worlds, Brains}
 use Rattle.ant_commands.specs.declared.commands.setups.GenShape.{GenShape}
 use Rattle.ant_commands.specs.Help.{help_text, version_text}
@@ -32,8 +32,8 @@ abbrev pub cup_job : List (List ℕ) → List (List ℕ) → ℕ → ℕ → ℕ
 cup_job worlds brains seed rounds workers games =
     record (plain_job (cup_files worlds brains) (Tells roster_contents (IsCupOutput games worlds brains seed rounds))) { InPlay = CupInPlay games worlds brains seed rounds }
 
-abbrev pub view_job : List ℕ → List ℕ → List ℕ → List ℕ → ℕ → ℕ → Job
-view_job world red black breaks seed rounds = plain_job (game_files world red black ++ break_file breaks ∷ []) (Tells view_contents (IsViewOutput seed rounds))
+abbrev pub view_job : List ℕ → List ℕ → List ℕ → List ℕ → ℕ → ℕ → ℕ → Job
+view_job world red black breaks seed rounds from = plain_job (game_files world red black ++ break_file breaks ∷ []) (Tells view_contents (IsViewOutput seed rounds from))
 
 abbrev pub workload_job : ℕ → ℕ → ℕ → Job
 workload_job seed rounds workers = record (plain_job [] (Tells no_contents (λ nothing. TellsWorkload seed rounds))) { Lacks = HasNoRoom seed contest_shape; workers = workers }
@@ -76,7 +76,7 @@ job_by Minimise a = minimise_job (a.file 0) (a.has States)
 job_by Run a = run_job (a.file 0) (a.file 1) (a.file 2) (setup_of a)
 job_by Gen a = gen_job (a.number 0) (shape_of a)
 job_by Cup a = cup_job (a.names Worlds) (a.names Brains) (a.option Seed) (a.option Rounds) (a.option Workers) (a.has Games)
-job_by View a = view_job (a.file 0) (a.file 1) (a.file 2) (a.file 3) (a.option Seed) (a.option Rounds)
+job_by View a = view_job (a.file 0) (a.file 1) (a.file 2) (a.file 3) (a.option Seed) (a.option Rounds) (a.option From)
 job_by Workload a = workload_job (a.number 0) (a.number 1) (a.number 2)
 job_by Help a = help_job
 job_by HelpWord a = help_job

@@ -237,9 +237,9 @@ pub record TellsMinimised (states : Bool) (old : List Instr) (text : List ℕ) :
   pub minimised : IsMinimised old new numbers
   pub told : text ≡ minimise_output states old new numbers
 
--- the output of `view`: the first stop of the game, by the contest's rules, and its cells
-abbrev pub IsViewOutput : ℕ → ℕ → ReadView → List ℕ → Type 0
-IsViewOutput seed rounds view text = IsViewText (contest_minds view.game.red view.game.black) seed rounds (world_of view.game.world) view.breaks text
+-- the output of `view`: the first stop of the game, by the contest's rules, in a round from `--from` on, and its cells
+abbrev pub IsViewOutput : ℕ → ℕ → ℕ → ReadView → List ℕ → Type 0
+IsViewOutput seed rounds from view text = IsViewText (contest_minds view.game.red view.game.black) seed rounds from (world_of view.game.world) view.breaks text
 
 -- no cells, for places past the end of a list
 abbrev pub nowhere : Grid

@@ -92,7 +92,14 @@ pub fn dispatch<
         CommandKind::Run => run(alloc, crew, RunWords::of(asked), shelf, out),
         CommandKind::Gen => gen_world(alloc, asked.number(0), GenShape::of(asked), shelf, out),
         CommandKind::Cup => cup(alloc, CupEntry::of(asked), play, shelf, out),
-        CommandKind::View => view(alloc, GameWords::of_view(asked), asked.file(3), shelf, out),
+        CommandKind::View => view(
+            alloc,
+            GameWords::of_view(asked),
+            asked.option(Choice::From),
+            asked.file(3),
+            shelf,
+            out,
+        ),
         CommandKind::Workload => workload(
             alloc,
             crew,

@@ -17,7 +17,7 @@ use ant_turn::{Brains, Sheet};
 use break_view::{Breaks, find_stop, push_view};
 use std::alloc::Global;
 
-// Plays a game to its first stop, and pushes its view.
+// Plays a game to its first stop in a round from `from` on, and pushes its view.
 #[tactic(auto, using(crate::proofs::Viewed::view_text_end))]
 fn push_stop<K: Sink>(
     setting: Setting,
@@ -25,12 +25,13 @@ fn push_stop<K: Sink>(
     breaks: &Breaks,
     seed: u32,
     rounds: u32,
+    from: u32,
     out: &mut K,
 ) -> Result<(), Failed>
     requires fit { Fits (world_of setting.world) (contest_minds setting.red setting.black) }
     requires sheet { sheet_of sheet ≡ contest }
     requires few_rounds { rounds ≤ most_rounds }
-    ensures { Pushed (K.state out.old) (K.state out.new) (view_of (contest_minds setting.red setting.black) seed rounds (world_of setting.world) breaks.now) result }
+    ensures { Pushed (K.state out.old) (K.state out.new) (view_of (contest_minds setting.red setting.black) seed rounds from (world_of setting.world) breaks.now) result }
 {
     let Setting {
         mut world,
@@ -42,24 +43,33 @@ fn push_stop<K: Sink>(
         black: &black,
         sheet,
     };
-    let stop = find_stop(&mut world, brains, seed, rounds, breaks);
+    let stop = find_stop(&mut world, brains, seed, rounds, from, breaks);
     push_view(&world, seed, rounds, stop, out)
 }
 
-/// Plays a game, by the contest's rules, up to its first stop, and writes its view.
+/// Plays a game, by the contest's rules, up to its first stop in a round from `from` on, and writes its view.
 pub fn view<'w, S: Shelf, K: Sink>(
     alloc: Global,
     game: GameWords<'w>,
+    from: u32,
     breaks: &'w str,
     shelf: &mut S,
     out: &mut K,
 ) -> Result<(), CommandStop<'w>>
     requires few_rounds { game.rounds ≤ most_rounds }
     requires sheet { sheet_of game.sheet ≡ contest }
-    ensures { CarriesOut (view_job game.entry.names.world.now game.entry.names.red.now game.entry.names.black.now breaks.now game.entry.seed game.entry.rounds)
+    ensures { CarriesOut (view_job game.entry.names.world.now game.entry.names.red.now game.entry.names.black.now breaks.now game.entry.seed game.entry.rounds from)
         (S.state shelf.old) (S.state shelf.new) (K.state out.old) (K.state out.new) (ending_of result) }
 {
     let setting = setting_of(alloc, game.names, shelf)?;
     let breaks: Breaks = read_file(alloc, shelf, breaks)?;
-    after_push(push_stop(setting, game.sheet, &breaks, game.seed, game.rounds, out))
+    after_push(push_stop(
+        setting,
+        game.sheet,
+        &breaks,
+        game.seed,
+        game.rounds,
+        from,
+        out,
+    ))
 }

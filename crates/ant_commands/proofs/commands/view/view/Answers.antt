@@ -16,13 +16,13 @@ use Rattle.ant_commands.proofs.commands.view.view.Goals as goal
 
 pub returns-in_err-setting : goal.returns-in_err-setting
 returns-in_err-setting g c =
-    carries_stop (view_job c.args.game.names.world.now c.args.game.names.red.now c.args.game.names.black.now c.args.breaks.now c.args.game.seed c.args.game.rounds) (g.S.Shelf.state c.args.shelf.now) (g.S.Shelf.state c.setting_of.new.shelf) (g.K.Sink.state c.args.out.now)
+    carries_stop (view_job c.args.game.names.world.now c.args.game.names.red.now c.args.game.names.black.now c.args.breaks.now c.args.game.seed c.args.game.rounds c.args.from) (g.S.Shelf.state c.args.shelf.now) (g.S.Shelf.state c.setting_of.new.shelf) (g.K.Sink.state c.args.out.now)
     c.from_residual.result c.in_err-setting.field-0.0 c.from_residual.ensures.1
     (reads_stopped (g.S.Shelf.state c.args.shelf.now) (g.S.Shelf.state c.setting_of.new.shelf) (game_files c.args.game.names.world.now c.args.game.names.red.now c.args.game.names.black.now) (break_file c.args.breaks.now ∷ []) _ c.in_err-setting.ensures)
 
 pub returns-in_err-breaks : goal.returns-in_err-breaks
 returns-in_err-breaks g c =
-    carries_stop (view_job c.args.game.names.world.now c.args.game.names.red.now c.args.game.names.black.now c.args.breaks.now c.args.game.seed c.args.game.rounds) (g.S.Shelf.state c.args.shelf.now) (g.S.Shelf.state c.read_file.new.shelf) (g.K.Sink.state c.args.out.now)
+    carries_stop (view_job c.args.game.names.world.now c.args.game.names.red.now c.args.game.names.black.now c.args.breaks.now c.args.game.seed c.args.game.rounds c.args.from) (g.S.Shelf.state c.args.shelf.now) (g.S.Shelf.state c.read_file.new.shelf) (g.K.Sink.state c.args.out.now)
     c.from_residual-in_err-breaks.result c.in_err-breaks.field-0.0 c.from_residual-in_err-breaks.ensures.1
     (reads_then (g.S.Shelf.state c.args.shelf.now) (g.S.Shelf.state c.setting_of.new.shelf) (g.S.Shelf.state c.read_file.new.shelf) (game_files c.args.game.names.world.now c.args.game.names.red.now c.args.game.names.black.now) (break_file c.args.breaks.now ∷ [])
     (setting_contents c.in_ok-setting.setting) _ c.in_ok-setting.ensures c.in_err-breaks.ensures)
@@ -33,14 +33,14 @@ push_stop-requires-clause-fit g c =
 
 pub returns : goal.returns
 returns g c =
-    carries_pushed (view_job c.args.game.names.world.now c.args.game.names.red.now c.args.game.names.black.now c.args.breaks.now c.args.game.seed c.args.game.rounds) (g.S.Shelf.state c.args.shelf.now) (g.S.Shelf.state c.read_file.new.shelf) (g.K.Sink.state c.args.out.now) (g.K.Sink.state c.push_stop.new.out)
+    carries_pushed (view_job c.args.game.names.world.now c.args.game.names.red.now c.args.game.names.black.now c.args.breaks.now c.args.game.seed c.args.game.rounds c.args.from) (g.S.Shelf.state c.args.shelf.now) (g.S.Shelf.state c.read_file.new.shelf) (g.K.Sink.state c.args.out.now) (g.K.Sink.state c.push_stop.new.out)
     (setting_contents c.in_ok-setting.setting ++ BreakContent c.in_ok-breaks.breaks ∷ []) c.after_push.result c.push_stop.result c.after_push.ensures
     (reads_then (g.S.Shelf.state c.args.shelf.now) (g.S.Shelf.state c.setting_of.new.shelf) (g.S.Shelf.state c.read_file.new.shelf) (game_files c.args.game.names.world.now c.args.game.names.red.now c.args.game.names.black.now) (break_file c.args.breaks.now ∷ [])
     (setting_contents c.in_ok-setting.setting) (Contents (BreakContent c.in_ok-breaks.breaks ∷ [])) c.in_ok-setting.ensures c.in_ok-breaks.ensures)
-    (view_of (contest_minds c.in_ok-setting.setting.red c.in_ok-setting.setting.black) c.args.game.seed c.args.game.rounds (world_of c.in_ok-setting.setting.world) c.in_ok-breaks.breaks)
+    (view_of (contest_minds c.in_ok-setting.setting.red c.in_ok-setting.setting.black) c.args.game.seed c.args.game.rounds c.args.from (world_of c.in_ok-setting.setting.world) c.in_ok-breaks.breaks)
     (record {
       value = record { game = game_read c.in_ok-setting.setting; breaks = c.in_ok-breaks.breaks };
       read = refl;
-      told = view_of-view (contest_minds c.in_ok-setting.setting.red c.in_ok-setting.setting.black) c.args.game.seed c.args.game.rounds (world_of c.in_ok-setting.setting.world) c.in_ok-breaks.breaks;
+      told = view_of-view (contest_minds c.in_ok-setting.setting.red c.in_ok-setting.setting.black) c.args.game.seed c.args.game.rounds c.args.from (world_of c.in_ok-setting.setting.world) c.in_ok-breaks.breaks;
     })
     c.push_stop.ensures
