@@ -13,11 +13,6 @@ use Rattle.ant_asm.specs.Inner.Ways.{steps_of}
 abbrev pub use_text : List ℕ → ℕ → List ℕ
 use_text name line = name +++ codes "@" +++ decimal line +++ codes "/"
 
-pub way_text_further : (way : List WayStep) (name : List ℕ) (line : ℕ) → way_text (further way name line) ≡ way_text way ++ use_text name line
-way_text_further [] name line = append-nil (use_text name line)
-way_text_further (step ∷ way) name line =
-    ap (λ (t : List ℕ). use_text step.name step.line ++ t) (way_text_further way name line) ∙ sym (append_assoc (use_text step.name step.line) (way_text way) (use_text name line))
-
 -- those of bodies that were left, from the first on
 pub way_text-next : (levels : List Level) (i : ℕ) (other : Level) → i < length levels →
     way_text (steps_of (drop i levels)) ≡ use_text (get_or levels i other).step.name.now (get_or levels i other).step.line ++ way_text (steps_of (drop (i + 1) levels))
@@ -34,19 +29,3 @@ labels_text-append (label ∷ front) back = ap (λ (t : List ℕ). label_text la
 pub state_lines_text-append : (front back : List StateLine) → state_lines_text (front ++ back) ≡ state_lines_text front ++ state_lines_text back
 state_lines_text-append [] back = refl
 state_lines_text-append (it ∷ front) back = ap (λ (t : List ℕ). state_line_text it ++ t) (state_lines_text-append front back) ∙ sym (append_assoc (state_line_text it) (state_lines_text front) (state_lines_text back))
-
--- the uses on the way, the last of which is this one
-pub uses_text_further : (before : List ℕ) (way : List WayStep) (name : List ℕ) (line : ℕ) → uses_text before (further way name line) ≡ before +++ way_text way +++ name +++ codes "@" +++ decimal line
-uses_text_further before [] name line = append-nil (before +++ name +++ codes "@" +++ decimal line)
-uses_text_further before (step ∷ way) name line =
-    ap (λ (t : List ℕ). (before +++ step.name +++ codes "@" +++ decimal step.line) ++ t) (uses_text_further (codes "/") way name line)
-    ∙ append_assoc before (step.name +++ codes "@" +++ decimal step.line) (codes "/" +++ way_text way +++ last)
-    ∙ ap (λ (t : List ℕ). before ++ t) (append_assoc step.name (codes "@" +++ decimal step.line) (codes "/" +++ way_text way +++ last) ∙ sym behind)
-  where
-    last : List ℕ
-    last = name +++ codes "@" +++ decimal line
-
-    behind : (use_text step.name step.line ++ way_text way) ++ last ≡ step.name +++ codes "@" +++ decimal step.line +++ codes "/" +++ way_text way +++ last
-    behind =
-        append_assoc (use_text step.name step.line) (way_text way) last ∙ append_assoc step.name (codes "@" +++ decimal step.line +++ codes "/") (way_text way ++ last)
-        ∙ ap (λ (t : List ℕ). step.name +++ codes "@" +++ t) (append_assoc (decimal step.line) (codes "/") (way_text way ++ last))

@@ -36,11 +36,6 @@ module _ (tell : Outline → ℕ → List ℕ) where
       subst (PushedFront old new) (ap (λ (t : List ℕ). before.told ++ t) (sym split) ∙ before.left)
       (front_then old mid new before.told (more ++ others) before.pushed (front_more mid new more others pushed))
 
-  -- nothing is left
-  pub told-all : (all : List ℕ) (end at : ℕ) (old new : SinkState) → AreTold tell all end Closed at old new → tell Closed at ≡ [] → PushedAll old new all
-  told-all all end at old new before none =
-      subst (PushedAll old new) (sym (append-nil before.told) ∙ ap (λ (t : List ℕ). before.told ++ t) (sym none) ∙ before.left) before.pushed
-
 -- the state of what is numbered so
 pub state-is : (at end after left : ℕ) → at + left ≡ end → (if at == end then after else at) ≡ state_at left at after
 state-is at end after left sum = ap (λ (b : Bool). if b then after else at) (same (at == end) (left == 0) refl refl)
@@ -73,6 +68,3 @@ pub to_front : (all left more later : List ℕ) (old mid new : SinkState) → Is
 to_front all left more later old mid new before pushed split =
     subst (PushedFront old new) (ap (λ (t : List ℕ). before.told ++ t) (sym split) ∙ before.rest)
     (front_then old mid new before.told (more ++ later) before.pushed (front_more mid new more later pushed))
-
-pub to_end : (all left : List ℕ) (old new : SinkState) → IsToldTo all left old new → left ≡ [] → PushedAll old new all
-to_end all left old new before none = subst (PushedAll old new) (sym (append-nil before.told) ∙ ap (λ (t : List ℕ). before.told ++ t) (sym none) ∙ before.rest) before.pushed

@@ -269,17 +269,11 @@ module _ (old : Walk) (is : IsWalk old) (end : rest_at old.bodies.now old.spot �
   leave-left tell front level none split =
       ap (λ (l : _). l ++ left_in tell old.outer.items []) none ∙ ap (λ (l : List Level). left_in tell l []) split ∙ left-last tell front level []
 
-  leave-none : {A : Type 0} (tell : Spot → List WayStep → List A) → tell old.spot (steps_of old.outer.items) ≡ [] → old.outer.items ≡ [] → left_of tell old ≡ []
-  leave-none tell none all = ap (λ (l : _). l ++ left_in tell old.outer.items []) none ∙ ap (λ (l : List Level). left_in tell l []) all
-
   no-lines : lines_from old.bodies.now old.spot (steps_of old.outer.items) ≡ []
   no-lines = ap (λ (o : Outline). told_lines o old.spot.at (steps_of old.outer.items)) end
 
   no-labels : labels_from old.bodies.now old.spot (steps_of old.outer.items) ≡ []
   no-labels = ap (λ (o : Outline). inner_states o old.spot.at old.spot.after (steps_of old.outer.items)) end
-
-  pub walk-ends : old.outer.items ≡ [] → (lines_left old ≡ []) × (labels_left old ≡ [])
-  walk-ends all = (leave-none (lines_from old.bodies.now) no-lines all, leave-none (labels_from old.bodies.now) no-labels all)
 
   module _ (outer : ArrayVec Level) (level : Level) (split : old.outer.items ≡ outer.items ++ level ∷ []) where
     abbrev left-walk : Walk
@@ -345,33 +339,6 @@ module _ (old : Walk) (is : IsWalk old) (line : NamedLine) (behind : Spot) (next
       ∙ ap (λ (n : ℕ). used_states blocks line old.spot.at n way ++ labels_from bodies behind way)
       (sym (so ∙ state-is behind.at behind.end behind.after (outline_size (rest_at bodies behind)) behind-ends))
 
-  abbrev passed-walk : Walk
-  passed-walk = record { bodies = old.bodies; outer = old.outer; spot = behind }
-
-  pub pass-good : IsWalk passed-walk
-  pass-good = record { good = is.good; short = is.short; spot = behind-spot; outer = is.outer }
-
-  pass-plain : (met : Met) → FitsMet bodies met → line_states blocks line old.spot.at way ≡ met_lines met way → ((follows : ℕ) → used_states blocks line old.spot.at follows way ≡ met_labels bodies met way) →
-      steps_in (rest_at bodies behind) < steps_in (rest_at bodies old.spot) → IsStep old passed-walk met
-  pass-plain met fits lines labels fewer = record {
-    fits = fits;
-    lines = ap (λ (l : List StateLine). l ++ left_in (lines_from bodies) old.outer.items []) (pass-lines ∙ ap (λ (l : List StateLine). l ++ lines_from bodies behind way) lines)
-        ∙ append_assoc (met_lines met way) (lines_from bodies behind way) (left_in (lines_from bodies) old.outer.items []);
-    labels =
-        let follows : ℕ = if behind.at == behind.end then behind.after else behind.at in
-        ap (λ (l : List LabelState). l ++ left_in (labels_from bodies) old.outer.items []) (pass-labels follows refl ∙ ap (λ (l : List LabelState). l ++ labels_from bodies behind way) (labels follows))
-        ∙ append_assoc (met_labels bodies met way) (labels_from bodies behind way) (left_in (labels_from bodies) old.outer.items []);
-    fewer = omega (arith, fewer);
-  }
-
-  pub pass-label : (name : Vec ℕ Global) → line ≡ NamedLine.Label name → IsStep old passed-walk Nothing
-  pass-label name is = pass-plain Nothing tt (ap (λ (l : NamedLine). line_states blocks l old.spot.at way) is) (λ follows. ap (λ (l : NamedLine). used_states blocks l old.spot.at follows way) is)
-      (let steps : steps_in (rest_at bodies old.spot) ≡ suc (steps_in (rest_at bodies behind)) = ap steps_in (next.rest ∙ ap (λ (l : NamedLine). line_before blocks l (rest_at bodies behind)) is) in omega (arith, steps))
-
-  pub pass-instruction : (number : ℕ) → line ≡ NamedLine.Instruction number → IsStep old passed-walk (Instruction old.spot.at number)
-  pass-instruction number is = pass-plain (Instruction old.spot.at number) tt (ap (λ (l : NamedLine). line_states blocks l old.spot.at way) is) (λ follows. ap (λ (l : NamedLine). used_states blocks l old.spot.at follows way) is)
-      (let steps : steps_in (rest_at bodies old.spot) ≡ suc (steps_in (rest_at bodies behind)) = ap steps_in (next.rest ∙ ap (λ (l : NamedLine). line_before blocks l (rest_at bodies behind)) is) in omega (arith, steps))
-
   -- a use
   module _ (number : ℕ) (name : Vec ℕ Global) (block : ℕ) (puts : line ≡ NamedLine.Use number name block) (level : Level) (at-use : level.spot ≡ behind) (line-is : level.step.line ≡ number) (name-is : level.step.name.now ≡ name.items)
       (outer : ArrayVec Level) (pushed : outer.items ≡ old.outer.items ++ level ∷ []) (spot : Spot) (number-is : spot.number ≡ block) (first : spot.place ≡ 0) (at-is : spot.at ≡ old.spot.at) (end-is : spot.end ≡ behind.at)
@@ -404,9 +371,6 @@ module _ (old : Walk) (is : IsWalk old) (line : NamedLine) (behind : Spot) (next
 
     use-few : behind.at ≤ most
     use-few = let ends = behind-ends in let few = behind-spot.few in omega (arith, ends, few)
-
-    pub use-room : length old.outer.items < 256
-    use-room = let known = is.spot.known in let early = use-early in let short = is.short in omega (arith, known, early, short)
 
     pub use-good : IsWalk used-walk
     use-good =
