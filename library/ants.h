@@ -210,9 +210,13 @@ struct ants_score_data {
     uint32_t black;
 };
 
-// Lays the version of the library over `out`: what the program's `--version` prints between `ants ` and the LF (this project's own).
-// Returns 0 or 4, and writes for each what `ants_run` writes. This function stays as it is in each version, so that a caller who was built for
-// another one can ask before any other call.
+// Writes the version of the library to `out`: what the program's `--version` prints between `ants ` and the LF (this project's own). The
+// status is
+// - 0: `out` begins with the version;
+// - 4: the version is longer than `out`, which holds the front of it.
+//
+// `used` is the length of the version in both cases, and the bytes of `out` beyond it are unchanged. This function never changes, so a
+// caller that was built for a different version can call it before any other function.
 uint32_t ants_version(
     uint8_t *out, size_t out_len, size_t *used);
 
@@ -251,67 +255,6 @@ uint32_t ants_look(
     uint32_t seed, const uint32_t *rounds, size_t rounds_len, struct ants_score_data *scores, size_t scores_len,
     struct ants_ant_data *ants, size_t ants_len, size_t *ids, struct ants_fault_data *fault, uint8_t *words,
     size_t words_len);
-
-// Plays a game as `ants_score` does, and lays the text of its run over `out`: what the program's `run` prints with one worker, without
-// counts, with the dumps of these rounds (the task's game play). The status is that of `ants_score`, or
-// - 4: the text is longer than `out`, which holds the front of it.
-//
-// `used` is the length of the text at 0 and at 4; what it doesn't reach of `out` stays. `out` and `used` are written at 0 and 4 alone, the
-// fault and the words at 5 alone.
-uint32_t ants_run(
-    const uint8_t *world, size_t world_len, const uint8_t *red, size_t red_len, const uint8_t *black, size_t black_len,
-    uint32_t seed, uint32_t rounds, const uint32_t *dumps, size_t dumps_len, uint8_t *out, size_t out_len, size_t *used,
-    struct ants_fault_data *fault, uint8_t *words, size_t words_len);
-
-// Lays the canonical text of a brain over `out`, as the program's `brain` (the task's neurology). The status is 0, 4, 5 or 6, and what is
-// written is so, as at `ants_run`.
-uint32_t ants_brain(
-    const uint8_t *brain, size_t brain_len, uint8_t *out, size_t out_len, size_t *used, struct ants_fault_data *fault,
-    uint8_t *words, size_t words_len);
-
-// Lays the canonical text of a brain, minimised, over `out`: what the program's `minimise` writes below its first line (over the task's
-// neurology). Returns 0, 4, 5 or 6, and writes for each what `ants_run` writes.
-uint32_t ants_minimise(
-    const uint8_t *brain, size_t brain_len, uint8_t *out, size_t out_len, size_t *used, struct ants_fault_data *fault,
-    uint8_t *words, size_t words_len);
-
-// Lays the canonical text of the brain that a labelled program becomes over `out`, as the program's `asm` (this project's own).
-// Returns 0, 4, 5 or 6, and writes for each what `ants_run` writes.
-uint32_t ants_asm(
-    const uint8_t *program, size_t program_len, uint8_t *out, size_t out_len, size_t *used,
-    struct ants_fault_data *fault, uint8_t *words, size_t words_len);
-
-// Lays `same`, or the three lines of where two brains first differ, over `out`, as the program's `same` (over the task's neurology).
-// Returns 0, 4, 5 or 6, and writes for each what `ants_run` writes.
-uint32_t ants_same(
-    const uint8_t *first, size_t first_len, const uint8_t *second, size_t second_len, uint8_t *out, size_t out_len,
-    size_t *used, struct ants_fault_data *fault, uint8_t *words, size_t words_len);
-
-// Lays the canonical text of the world of a seed and a shape over `out`, as the program's `gen` (the task's contest worlds). The status is 0,
-// 4 or 6, as at `ants_run`, or
-// - 2: the width or the height is not from 3 to 512, or there are more than 255 rocks or blobs of food;
-// - 5: an element has no room, the first that has none.
-//
-// What is written is so as at `ants_run`.
-uint32_t ants_gen(
-    uint32_t seed, uint32_t width, uint32_t height, uint32_t rocks, uint32_t blobs, uint8_t *out, size_t out_len,
-    size_t *used, struct ants_fault_data *fault, uint8_t *words, size_t words_len);
-
-// Plays a game as `ants_score` does, and lays the text of its save after so many rounds over `out`, as the program's `save` (this project's own).
-// Returns 0, 2, 4, 5 or 6, and writes for each what `ants_run` writes. Nothing is written before the last round is played.
-uint32_t ants_save(
-    const uint8_t *world, size_t world_len, const uint8_t *red, size_t red_len, const uint8_t *black, size_t black_len,
-    uint32_t seed, uint32_t rounds, uint8_t *out, size_t out_len, size_t *used, struct ants_fault_data *fault,
-    uint8_t *words, size_t words_len);
-
-// Goes on with the game of a save until so many rounds are done in all, and lays the rest of its text over `out`, as the program's `resume` with
-// one worker: the later rounds' dumps of these, and the score (this project's own). The status is 0, 2, 4 or 6 as at `ants_run`, or
-// - 5: the text is no save's, or that of a save of which more rounds are done.
-//
-// What is written is so as at `ants_run`.
-uint32_t ants_resume(
-    const uint8_t *save, size_t save_len, uint32_t rounds, const uint32_t *dumps, size_t dumps_len, uint8_t *out,
-    size_t out_len, size_t *used, struct ants_fault_data *fault, uint8_t *words, size_t words_len);
 
 // Runs the whole program over files that the caller holds (this project's own). The lines of `words` are its words, without its name; the
 // lines of `names` are the names of the files, `-` too, each of which takes as many of `bytes` as its size says, in their order. Of a name

@@ -5,8 +5,6 @@ pub mod Played
 pub mod Refused
 pub mod RoomSinks
 pub mod Rooms
-pub mod Saves
-pub mod Texts
 pub mod Told
 pub mod Version
 pub mod Words
