@@ -59,12 +59,12 @@ uint32_t ants_look(
 uint32_t proved_ants_call(
     const uint8_t *words, size_t words_len, const uint8_t *names, size_t names_len, const uint32_t *sizes,
     size_t sizes_len, const uint8_t *bytes, size_t bytes_len, uint8_t *out, size_t out_len, size_t *used, uint8_t *said,
-    size_t said_len, size_t *told);
+    size_t said_len, size_t *told, struct ants_fault_data *fault);
 uint32_t ants_call(
     const uint8_t *words, size_t words_len, const uint8_t *names, size_t names_len, const uint32_t *sizes,
     size_t sizes_len, const uint8_t *bytes, size_t bytes_len, uint8_t *out, size_t out_len, size_t *used, uint8_t *said,
-    size_t said_len, size_t *told) {
+    size_t said_len, size_t *told, struct ants_fault_data *fault) {
     return proved_ants_call(
         PLACE(words), words_len, PLACE(names), names_len, PLACE(sizes), sizes_len, PLACE(bytes), bytes_len, PLACE(out),
-        out_len, used, PLACE(said), said_len, told);
+        out_len, used, PLACE(said), said_len, told, fault);
 }

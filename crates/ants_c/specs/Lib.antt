@@ -1,4 +1,5 @@
 pub mod Called
+pub mod Ended
 pub mod Looked
 pub mod Numbers
 pub mod Played

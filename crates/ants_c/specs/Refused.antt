@@ -5,14 +5,15 @@ use Rattle.cell_world.specs.Grid.{Grid}
 use Rattle.text_fault.specs.declared.fault.TextFault.{TextFault}
 use Rattle.text_fault.specs.Opens.{GivesBrain, GivesWorld}
 use Rattle.text_fault.specs.Refusals.{IsNoBrain, IsNoWorld, IsRefusal}
-use Rattle.ants_c.specs.declared.refusal.CallFault.TheVariants.{Text}
+use Rattle.ant_commands.specs.declared.stop.FileFault.TheVariants.{Text}
+use Rattle.ants_c.specs.declared.refusal.CallFault.TheVariants.{File}
 use Rattle.ants_c.specs.declared.refusal.Refusal.{Refusal}
 
 -- the text of this number is refused, since it is too long or since this is wrong with it
 pub record IsRefusedText (number : ℕ) (Wrong : List ℕ → TextFault → Type 0) (text : List ℕ) (refusal : Refusal) : Type 0 where
   pub fault : TextFault
   pub why : IsRefusal Wrong text fault
-  pub is : refusal ≡ record { text = number; fault = Text fault }
+  pub is : refusal ≡ record { text = number; fault = File (Text fault) }
 
 -- the first text is refused as a world's, or the text of this number as a brain's
 abbrev pub IsRefusedWorld : List ℕ → Refusal → Type 0

@@ -1,16 +1,16 @@
 //! The simulator for programs in C, Python, Rust and other languages: a static library, whose exports have contracts.
 //!
-//! Each export takes texts as bytes and puts its answer into room that the caller lends; none keeps anything, and none has a condition: what
-//! a caller may pass wrongly is a status. The statuses are the program's: 0 done, 2 a number beyond its limits, 4 the room is too small,
-//! 5 a text is refused, 6 out of memory; and of `ants_call`, which runs the whole program, 1 what it is given can't be read, 2 no command and
-//! 3 a file isn't there. What names no section of the contest's task is this project's own. This crate stands on the readers, on
-//! `match_run`, on what is done with brains and worlds, and on `ant_commands`.
+//! Each export takes texts as bytes and writes its answer into room that the caller lends. None keeps anything, and none has a precondition:
+//! whatever a caller passes wrongly is a status. The statuses are the program's: 0 done, 2 a number beyond its limits, 4 the room is too small,
+//! 5 a text is refused, 6 out of memory. `ants_call`, which runs every command of the program, also returns 1 if its arguments can't be read,
+//! 2 if the words are not a command, and 3 if a file isn't there. What names no section of the contest's task is this project's own. This
+//! crate builds on the readers, on `match_run` and on `ant_commands`.
 #![tactic(auto)]
 
 ghost use Rattle.std.specs.Prelude.{◌≡◌, ◌⊎◌, ◌↔◌, ◌<◌, ◌≤◌, length};
 ghost use Rattle.ant_base.specs.Lines.{lines_of};
 ghost use Rattle.match_run.specs.Run.{most_rounds};
-ghost use Rattle.ants_c.specs.Called.{CanBeRead, IsCalled, IsNotCalled, files_in};
+ghost use Rattle.ants_c.specs.Called.{CanBeRead, IsCalled, IsNotCalled, files_in, lent};
 ghost use Rattle.ants_c.specs.Looked.{AreFew, AreLooked, AreRising, HasIds};
 ghost use Rattle.ants_c.specs.Played.{AreScored, IsScored, IsStatus};
 ghost use Rattle.ants_c.specs.Refused.{IsRefusedGame};
@@ -20,6 +20,7 @@ ghost use Rattle.ants_c.specs.Version.{version};
 
 mod ant;
 mod call;
+mod ending;
 mod fault;
 mod look;
 mod numbers;
@@ -34,7 +35,8 @@ mod tell;
 mod texts;
 mod version;
 
-use crate::call::{call_program, files_of, words_of};
+use crate::call::{files_of, has_room, lay_program, words_of};
+use crate::ending::tell_ending;
 use crate::look::{are_rising, put_looks};
 use crate::read::{Setting, open_texts};
 use crate::scores::{score_of_game, scores_of_setting};
@@ -49,13 +51,14 @@ use match_run::MOST_ROUNDS;
 pub use score::AntsScore;
 use std::alloc::Global;
 
-/// Writes the version of the library to `out`: what the program's `--version` prints between `ants ` and the LF (this project's own). The
-/// status is
+/// Writes the version of the library to `out`: what the program's `--version` prints between `ants
+/// ` and the LF (this project's own). The status is
 /// - 0: `out` begins with the version;
 /// - 4: the version is longer than `out`, which holds the front of it.
 ///
-/// `used` is the length of the version in both cases, and the bytes of `out` beyond it are unchanged. This function never changes, so a
-/// caller that was built for a different version can call it before any other function.
+/// `used` is the length of the version in both cases, and the bytes of `out` beyond it are
+/// unchanged. This function never changes, so a caller that was built for a different version can
+/// call it before any other function.
 #[unsafe(no_mangle)]
 pub extern "C" fn ants_version(out: &mut [u8], used: &mut usize) -> u32
     ensures version { IsPut version out.old out.new used.new result }
@@ -205,17 +208,32 @@ pub extern "C" fn ants_look(
     DONE
 }
 
-/// Runs the whole program over files that the caller holds (this project's own). The lines of `words` are its words, without its name; the
-/// lines of `names` are the names of the files, `-` too, each of which takes as many of `bytes` as its size says, in their order. Of a name
-/// that stands twice the first file counts, and `--far` is no option. What the program writes to its output is laid over `out`, and the line
-/// in which it says what is wrong over `said`. The status is the program's own: 0, 2 where the words are no command, 3 where a file isn't
-/// there, 5 or 6; or
-/// - 1: the words or the names aren't UTF-8, there isn't one size for each name, or the sizes don't make up all bytes;
-/// - 4: the text is longer than `out`, or the line than `said`, which hold the front of it.
+/// Runs a command of the program over files that you pass (this project's own). `words` has a line
+/// for each word of the command line, without the program's name. `names` has a line for each file,
+/// and `-` is a name like any other. `sizes` has the length of each file, and `bytes` has the files
+/// one after another, in the order of the names. If two files have the same name, the first one is
+/// used. `--far` is not an option. The call writes the program's output to `out`, and the line that
+/// says what is wrong to `said`. The status is the program's own:
+/// - 0: done; nothing is wrong, so there is no line;
+/// - 2: the words are not a command; the fault's `number` is the first refused word, counted from
+///   1;
+/// - 3: the words name a file that is not among `names`; the fault's `number` is the first word
+///   that names it, counted from 1;
+/// - 5: a file is refused, and the fault says which file and why; or an element of the world to be
+///   generated has no room (kind 60);
+/// - 6: out of memory.
 ///
-/// `used` is the length of the text, and `told` that of the line; what they don't reach of `out` and `said` stays. At 1 nothing is written,
-/// and at 6 nothing where memory could not be had before the program ran. It plays on the caller's thread, whatever number of workers the
-/// words name. It takes memory for a copy of the files, and for what the program takes.
+/// Or the call itself fails:
+/// - 1: the words or the names aren't UTF-8, the number of sizes isn't the number of names, or the
+///   sizes don't add up to the length of `bytes`;
+/// - 4: the output is longer than `out`, or the line is longer than `said`; both hold as much as
+///   they have room for.
+///
+/// `used` is the length of the output and `told` the length of the line, at 4 too. The rest of
+/// `out` and `said` is unchanged. The fault is written at 2, 3 and 5 only. At 5 its words are the
+/// end of the line: the last `fault.words` bytes before the LF. At 1 nothing is written, nor at 6
+/// if memory ran out before the command began. The call plays on the caller's thread, however many
+/// workers the words name. It takes memory for a copy of the files and for what the command needs.
 #[unsafe(no_mangle)]
 pub extern "C" fn ants_call(
     alloc: Global,
@@ -227,16 +245,18 @@ pub extern "C" fn ants_call(
     used: &mut usize,
     said: &mut [u8],
     told: &mut usize,
+    fault: &mut AntsFault,
 ) -> u32
     ensures unread { result ≡ 1 → CanBeRead words.now names.now sizes.now bytes.now → ⊥ }
     ensures read { (result ≡ 1) ⊎ ((result ≡ 6) ⊎ CanBeRead words.now names.now sizes.now bytes.now) }
-    ensures called { IsCalled (lines_of words.now) (files_in (lines_of names.now) sizes.now bytes.now) out.old out.new used.new said.old said.new told.new result
-        ⊎ IsNotCalled out.old out.new used.old used.new said.old said.new told.old told.new result }
+    ensures called { IsCalled (lines_of words.now) (lines_of names.now) (files_in (lines_of names.now) sizes.now bytes.now)
+        (lent out.old used.old said.old told.old fault.old) (lent out.new used.new said.new told.new fault.new) result
+        ⊎ IsNotCalled (lent out.old used.old said.old told.old fault.old) (lent out.new used.new said.new told.new fault.new) result }
 {
     let Ok(spoken) = words_of(alloc, words) else {
         return MEMORY;
     };
-    let Some(words) = spoken else {
+    let Some(list) = spoken else {
         return UNREADABLE;
     };
     let Ok(given) = files_of(alloc, names, sizes, bytes) else {
@@ -245,5 +265,12 @@ pub extern "C" fn ants_call(
     let Some(files) = given else {
         return UNREADABLE;
     };
-    call_program(alloc, &words, files, out, used, said, told)
+    let ran = lay_program(alloc, &list, files, out, said);
+    *used = ran.used;
+    *told = ran.told;
+    if !has_room(&ran, out, said) {
+        return NO_ROOM;
+    }
+    tell_ending(words, names, ran.ended, fault);
+    u32::from(ran.ended.status().number())
 }

@@ -7,6 +7,7 @@ ghost use Rattle.ants_c.specs.Told.{StopsAt, numbered};
 ghost use Rattle.text_fault.specs.Opens.{GivesBrain, GivesWorld};
 
 use crate::refusal::{CallFault, Refusal, Stop};
+use ant_commands::FileFault;
 use brain_read::Brain;
 use cell_world::World;
 use std::alloc::Global;
@@ -29,7 +30,7 @@ fn numbered<T>(number: u32, opened: Result<T, TextStop>) -> Result<T, Stop>
         Err(TextStop::OutOfMemory) => Err(Stop::OutOfMemory),
         Err(TextStop::Refused(fault)) => Err(Stop::Refused(Refusal {
             text: number,
-            fault: CallFault::Text(fault),
+            fault: CallFault::File(FileFault::Text(fault)),
         })),
     }
 }

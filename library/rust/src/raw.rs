@@ -77,7 +77,7 @@ pub mod kind {
     pub const PROGRAM_TWICE: u32 = 37;
     /// No such block.
     pub const PROGRAM_NO_BLOCK: u32 = 38;
-    /// Another number of labels.
+    /// A different number of labels.
     pub const PROGRAM_WRONG_COUNT: u32 = 39;
     /// Too many.
     pub const PROGRAM_TOO_MANY: u32 = 40;
@@ -91,10 +91,20 @@ pub mod kind {
     pub const SAVE_BAD_LINE: u32 = 50;
     /// No state of a game.
     pub const SAVE_BAD_STATE: u32 = 51;
-    /// More rounds are done than are asked for.
+    /// More rounds are done than were requested.
     pub const SAVE_ALREADY_AT: u32 = 52;
     /// An element of a world to be generated has no room.
     pub const NO_ROOM: u32 = 60;
+    /// An unknown word.
+    pub const BREAKS_UNKNOWN_WORD: u32 = 70;
+    /// A token is missing.
+    pub const BREAKS_MISSING_TOKEN: u32 = 71;
+    /// A bad number.
+    pub const BREAKS_BAD_NUMBER: u32 = 72;
+    /// A token more.
+    pub const BREAKS_EXTRA_TOKEN: u32 = 73;
+    /// Too many breaks.
+    pub const BREAKS_TOO_MANY: u32 = 74;
 }
 
 /// An ant: 16 bytes. Of one that is dead all numbers are 0.
@@ -119,21 +129,23 @@ pub struct Ant {
     pub laden: u8,
 }
 
-/// Why a text was refused, in numbers (this project's own). The kinds are those of [`kind`].
+/// Why a text, a word or a call was refused, in numbers (this project's own). The kinds are those of [`kind`].
 #[repr(C)]
 #[derive(Clone, Copy, Debug, Default, PartialEq, Eq)]
 pub struct Fault {
-    /// Which text, from 1 in the order in which the texts are passed; 0 where it is of no text.
+    /// Which text, counted from 1 in the order in which the texts are passed; for `ants_call` which
+    /// file, in the order of the names. 0 if the fault is of no text.
     pub text: u32,
-    /// The kind.
+    /// The kind. 0 if a word of `ants_call` is at fault.
     pub kind: u32,
-    /// The line, from 1, or the row of a world, from 0; 0 where the kind has none.
+    /// The line, counted from 1, or the row of a world, counted from 0. 0 if the kind has neither.
     pub line: u32,
-    /// The column of a world, from 0; 0 where the kind has none.
+    /// The column of a world, counted from 0. 0 if the kind has none.
     pub column: u32,
-    /// How many ants there are (18), the state that is not there (27), the round of the save (52), or the element's number (60); else 0.
+    /// The number of ants (kind 18), the missing state (27), the round of the save (52), the element,
+    /// counted from 0 (60), or the word, counted from 1 (kind 0). Otherwise 0.
     pub number: u64,
-    /// How many bytes the words of the fault have.
+    /// The length of the fault's words, in bytes. 0 if a word of `ants_call` is at fault.
     pub words: u64,
 }
 
@@ -147,13 +159,14 @@ pub struct Score {
     pub black: u32,
 }
 
-/// Writes the version of the library to `out`: what the program's `--version` prints between `ants ` and the LF (this project's own). The
-/// status is
+/// Writes the version of the library to `out`: what the program's `--version` prints between `ants
+/// ` and the LF (this project's own). The status is
 /// - 0: `out` begins with the version;
 /// - 4: the version is longer than `out`, which holds the front of it.
 ///
-/// `used` is the length of the version in both cases, and the bytes of `out` beyond it are unchanged. This function never changes, so a
-/// caller that was built for a different version can call it before any other function.
+/// `used` is the length of the version in both cases, and the bytes of `out` beyond it are
+/// unchanged. This function never changes, so a caller that was built for a different version can
+/// call it before any other function.
 pub fn ants_version(out: &mut [u8], used: &mut usize) -> u32 {
     unsafe { c::ants_version(out.as_mut_ptr(), out.len(), used) }
 }
@@ -262,17 +275,32 @@ pub fn ants_look(
     }
 }
 
-/// Runs the whole program over files that the caller holds (this project's own). The lines of `words` are its words, without its name; the
-/// lines of `names` are the names of the files, `-` too, each of which takes as many of `bytes` as its size says, in their order. Of a name
-/// that stands twice the first file counts, and `--far` is no option. What the program writes to its output is laid over `out`, and the line
-/// in which it says what is wrong over `said`. The status is the program's own: 0, 2 where the words are no command, 3 where a file isn't
-/// there, 5 or 6; or
-/// - 1: the words or the names aren't UTF-8, there isn't one size for each name, or the sizes don't make up all bytes;
-/// - 4: the text is longer than `out`, or the line than `said`, which hold the front of it.
+/// Runs a command of the program over files that you pass (this project's own). `words` has a line
+/// for each word of the command line, without the program's name. `names` has a line for each file,
+/// and `-` is a name like any other. `sizes` has the length of each file, and `bytes` has the files
+/// one after another, in the order of the names. If two files have the same name, the first one is
+/// used. `--far` is not an option. The call writes the program's output to `out`, and the line that
+/// says what is wrong to `said`. The status is the program's own:
+/// - 0: done; nothing is wrong, so there is no line;
+/// - 2: the words are not a command; the fault's `number` is the first refused word, counted from
+///   1;
+/// - 3: the words name a file that is not among `names`; the fault's `number` is the first word
+///   that names it, counted from 1;
+/// - 5: a file is refused, and the fault says which file and why; or an element of the world to be
+///   generated has no room (kind 60);
+/// - 6: out of memory.
 ///
-/// `used` is the length of the text, and `told` that of the line; what they don't reach of `out` and `said` stays. At 1 nothing is written,
-/// and at 6 nothing where memory could not be had before the program ran. It plays on the caller's thread, whatever number of workers the
-/// words name. It takes memory for a copy of the files, and for what the program takes.
+/// Or the call itself fails:
+/// - 1: the words or the names aren't UTF-8, the number of sizes isn't the number of names, or the
+///   sizes don't add up to the length of `bytes`;
+/// - 4: the output is longer than `out`, or the line is longer than `said`; both hold as much as
+///   they have room for.
+///
+/// `used` is the length of the output and `told` the length of the line, at 4 too. The rest of
+/// `out` and `said` is unchanged. The fault is written at 2, 3 and 5 only. At 5 its words are the
+/// end of the line: the last `fault.words` bytes before the LF. At 1 nothing is written, nor at 6
+/// if memory ran out before the command began. The call plays on the caller's thread, however many
+/// workers the words name. It takes memory for a copy of the files and for what the command needs.
 pub fn ants_call(
     words: &[u8],
     names: &[u8],
@@ -282,6 +310,7 @@ pub fn ants_call(
     used: &mut usize,
     said: &mut [u8],
     told: &mut usize,
+    fault: &mut Fault,
 ) -> u32 {
     unsafe {
         c::ants_call(
@@ -299,6 +328,7 @@ pub fn ants_call(
             said.as_mut_ptr(),
             said.len(),
             told,
+            fault,
         )
     }
 }
@@ -372,6 +402,7 @@ mod c {
             said: *mut u8,
             said_len: usize,
             told: *mut usize,
+            fault: *mut Fault,
         ) -> u32;
     }
 }
