@@ -353,7 +353,8 @@ uint32_t ants_look(
 // `out` and `said` is unchanged. The fault is written at 2, 3 and 5 only. At 5 its words are the
 // end of the line: the last `fault.words` bytes before the LF. At 1 nothing is written, nor at 6
 // if memory ran out before the command began. The call plays on the caller's thread, however many
-// workers the words name. It takes memory for a copy of the files and for what the command needs.
+// workers the words name. It takes memory for a copy of each file while it is read, and for what
+// the command needs.
 uint32_t ants_call(
     const uint8_t *words, size_t words_len, const uint8_t *names, size_t names_len, const uint32_t *sizes,
     size_t sizes_len, const uint8_t *bytes, size_t bytes_len, uint8_t *out, size_t out_len, size_t *used, uint8_t *said,
