@@ -105,8 +105,9 @@
        ANTS_UNREADABLE  ants_command() and ants_call(): a word or a name isn't UTF-8; a name has an
                         LF; the sizes don't fit the names and bytes
        ANTS_NUMBER      a number is beyond its limits, such as more than 1,000,000 rounds. Of a
-                        command: its words are not a command, and fault.number is the first refused
-                        word, counted from 1
+                        command: its words are not a command, and fault.number is the first
+                        refused word, counted from 1, or one more than there are words if some are
+                        missing
        ANTS_NO_FILE     the words name a file that isn't among those that you pass; fault.number is
                         the first word that names it. Nothing is read from the machine
        ANTS_NO_ROOM     the room is too small. A call that writes a text has written as much of it
@@ -336,7 +337,7 @@ uint32_t ants_look(
 // says what is wrong to `said`. The status is the program's own:
 // - 0: done; nothing is wrong, so there is no line;
 // - 2: the words are not a command; the fault's `number` is the first refused word, counted from
-//   1;
+//   1, or one more than there are words if some are missing;
 // - 3: the words name a file that is not among `names`; the fault's `number` is the first word
 //   that names it, counted from 1;
 // - 5: a file is refused, and the fault says which file and why; or an element of the world to be

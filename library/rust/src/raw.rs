@@ -283,7 +283,7 @@ pub fn ants_look(
 /// says what is wrong to `said`. The status is the program's own:
 /// - 0: done; nothing is wrong, so there is no line;
 /// - 2: the words are not a command; the fault's `number` is the first refused word, counted from
-///   1;
+///   1, or one more than there are words if some are missing;
 /// - 3: the words name a file that is not among `names`; the fault's `number` is the first word
 ///   that names it, counted from 1;
 /// - 5: a file is refused, and the fault says which file and why; or an element of the world to be

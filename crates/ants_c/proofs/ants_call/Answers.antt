@@ -1,5 +1,5 @@
 -- the words and the files were read; and the program ran over them, whether its text and its line have room or not
-use Rattle.std.proofs.Common.{◌≡◌, ◌∙◌, ℕ, List, true, false, ap, inl, refl, subst, sym}
+use Rattle.std.proofs.Common.{◌∙◌, ℕ, List, true, false, ap, inl, refl, subst, sym}
 use Rattle.ant_base.specs.Lines.{lines_of}
 use Rattle.ant_commands.specs.FaultLines.{plain_ending}
 use Rattle.ant_commands.specs.Status.{status_number}
