@@ -1,6 +1,9 @@
+mod CalledLemmas
 mod EmptySinks
+mod Endings
 mod FirstRefused
 mod GivenLemmas
+mod LentFiles
 mod Looks
 mod Overlaid
 mod Stops
