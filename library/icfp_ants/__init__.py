@@ -31,15 +31,15 @@ from ._commands import cup, events, labels, lines, profile, show, states, trace,
 from ._declared import VERSION as __version__
 from ._declared import Kind
 from ._games import Counts, Score, advance, counts_of, resume, run, save, score, score_of, scores, scores_of_pairs
-from ._library import Refused
+from ._library import Fault, Refused
 from ._looks import ANT_FIELDS, Look, LookBuffer, look, look_buffer
 from ._printed import (
     Ant, Cell, Colour, Cup, Death, Event, Executed, Label, Line, Played, Printed, Renumbered, Standing, Step, Stop, Traced, Use, Workload, cells,
 )
 
 __all__ = [
-    "ANT_FIELDS", "Ant", "Called", "Cell", "Colour", "Counts", "Cup", "Death", "Difference", "Event", "Executed", "Kind", "Label", "Line", "Look",
-    "LookBuffer", "Played", "Printed", "Refused", "Renumbered", "Score", "Standing", "Step", "Stop", "Traced", "Use", "Workload", "__version__", "advance", "asm", "brain",
-    "call", "cells", "counts_of", "cup", "difference", "events", "gen", "labels", "lines", "look", "look_buffer", "minimise", "profile", "resume",
-    "run", "same", "save", "score", "score_of", "scores", "scores_of_pairs", "show", "states", "trace", "view", "way", "workload",
+    "ANT_FIELDS", "Ant", "Called", "Cell", "Colour", "Counts", "Cup", "Death", "Difference", "Event", "Executed", "Fault", "Kind", "Label", "Line", "Look",
+    "LookBuffer", "Played", "Printed", "Refused", "Renumbered", "Score", "Standing", "Step", "Stop", "Traced", "Use", "Workload", "__version__",
+    "advance", "asm", "brain", "call", "cells", "counts_of", "cup", "difference", "events", "gen", "labels", "lines", "look", "look_buffer", "minimise",
+    "profile", "resume", "run", "same", "save", "score", "score_of", "scores", "scores_of_pairs", "show", "states", "trace", "view", "way", "workload",
 ]
