@@ -63,7 +63,7 @@ def _called(words: Iterable[str], files: Texts, names: List[str], most: int) -> 
         raise MemoryError("out of memory")
     if status == _declared.NO_ROOM:
         raise ValueError("most: the text has %d bytes, and %d are allowed" % (used.value, most))
-    said = str(line[:told.value], "utf-8")
+    said = line.raw[:told.value].decode()
     with memoryview(area) as output:
         return Called(status, str(output[:used.value], "utf-8"), said, _fault_of(status, fault, said, names))
 
