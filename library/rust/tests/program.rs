@@ -122,6 +122,18 @@ fn commands_are_those_of_the_program() {
     let far = ants::call(&["run", "world", "red", "black", "--far"], &files).unwrap();
     assert_eq!((far.status, far.output.as_str(), far.fault.as_str()), (2, "", "ants: word 5 refused\n"));
     assert_eq!(ants::call(&["brain", "a\nb"], &[]), Err(Error::Unreadable));
+    assert_eq!(ants::call(&["brain", "a"], &[("a\nb", RED)]), Err(Error::Unreadable));
+}
+
+#[test]
+fn a_text_has_no_more_bytes_than_are_allowed() {
+    let game = [("world", WORLD), ("red", RED), ("black", BLACK)];
+    let words: Vec<_> = "run world red black --seed 7 --rounds 0".split(' ').collect();
+    let text = "random seed: 7\n\nscore: red 0 black 0\n";
+    assert_eq!(ants::call_within(text.len(), &words, &game).unwrap().output, text);
+    for most in [text.len() - 1, 0] {
+        assert_eq!(ants::call_within(most, &words, &game), Err(Error::TooLong(text.len())));
+    }
 }
 
 /// In a process that may have 200 MB the rooms of a call, of a large look and of many scores can't be had.
@@ -137,5 +149,8 @@ fn rooms_that_cant_be_had_are_an_error() {
     assert_eq!(game.look(7, &rounds), Err(Error::OutOfMemory));
     assert_eq!(GAME.scores(&vec![7; 20_000_000], 0), Err(Error::OutOfMemory));
     assert_eq!(ants::call(&["--version"], &[]), Err(Error::OutOfMemory));
+    assert_eq!(GAME.run(7, 1, &[]), Err(Error::OutOfMemory));
+    assert_eq!(ants::brain(RED), Err(Error::OutOfMemory));
+    assert_eq!(ants::call_within(1 << 20, &["brain", "red"], &[("red", BLACK)]).unwrap().output.as_bytes(), BLACK);
     assert_eq!(GAME.look(7, &[0]).unwrap().len(), 1);
 }
