@@ -98,5 +98,7 @@ uint32_t ants_command(int word_count, const char *const *words, const struct ant
 
 void ants_answer_free(struct ants_answer *answer) {
     free(answer->memory);
-    *answer = (struct ants_answer){.text = "", .line = ""};
+    answer->memory = NULL;
+    answer->text = answer->line = "";
+    answer->len = answer->line_len = 0;
 }

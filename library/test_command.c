@@ -88,7 +88,7 @@ static int has(uint32_t status, const char *expected, const char *expected_line)
 static int is_freed(void) {
     ants_answer_free(&answer);
     ants_answer_free(&answer);
-    return kept == 0 && *answer.text == 0 && *answer.line == 0;
+    return kept == 0 && *answer.text == 0 && *answer.line == 0 && answer.len == 0 && answer.line_len == 0;
 }
 
 static void passed_rows(void) {
@@ -98,6 +98,7 @@ static void passed_rows(void) {
     ROW(command("a\nb", 9, ANTS_NUMBER, "", "ants: word 2 refused\n") == ANTS_NUMBER && strcmp(given, "brain\n\n|b\nempty\n|") == 0);
     ROW(out_len_given == 9 && has(ANTS_NUMBER, "", "ants: word 2 refused\n") && is_freed());
     ROW(command("b", 0, ANTS_REFUSED, "", "ants: b: line 1: unknown word\n") == ANTS_REFUSED && answer.fault.kind == 21 && is_freed());
+    ROW(answer.status == ANTS_REFUSED && answer.fault.kind == 21);
     ROW(ants_command(0, NULL, NULL, 0, 9, &answer) == ANTS_REFUSED && strcmp(given, "||") == 0 && sizes_len_given == 0 && is_freed());
     ROW(ants_command(-1, NULL, NULL, 0, 9, &answer) == ANTS_REFUSED && strcmp(given, "||") == 0 && is_freed());
 }
