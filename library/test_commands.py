@@ -3,7 +3,9 @@
 
 PROGRAM names the program, if it isn't that of the tree; the library is found as icfp_ants finds it.
 """
+import contextlib
 import copy
+import io
 import os
 import pickle
 import re
@@ -16,6 +18,7 @@ import icfp_ants
 from icfp_ants import (
     Ant, Cell, Colour, Counts, Death, Event, Executed, Fault, Kind, Label, Line, Played, Refused, Renumbered, Score, Standing, Step, Stop, Use,
 )
+from icfp_ants._library import library
 from faults import rows
 from test_ants import LONG, MOST_SEED, PROGRAM, TOP, WORLD, Beside, example
 
@@ -53,6 +56,38 @@ class EveryExample(unittest.TestCase):
         for line in lines:
             with self.subTest(line):
                 self.assertEqual(self.ran(line, "call"), self.ran(line, "program"))
+
+
+class ReadMe(Beside):
+    """The examples of library/README.md."""
+
+    def block(self, language):
+        with open(os.path.join(TOP, "library", "README.md"), encoding="ascii") as file:
+            return re.search("^```%s\n(.*?)^```$" % language, file.read(), re.M | re.S)[1]
+
+    def test_in_python_print_what_the_comments_say(self):
+        code, printed = self.block("python"), io.StringIO()
+        place = os.getcwd()
+        self.addCleanup(os.chdir, place)
+        os.chdir(TOP)
+        with contextlib.redirect_stdout(printed):
+            exec(compile(code, "README.md", "exec"), {})
+        lines, comments = [it for it in printed.getvalue().split("\n") if it], re.findall(r"print.*  # (.*)", code)
+        self.assertEqual((len(lines), len(comments)), (7, 7))
+        for line, comment in zip(lines, comments):
+            self.assertTrue(line.startswith(comment[:-3]) if comment.endswith("...") else comment.startswith(line), (line, comment))
+
+    def test_in_c_prints_what_the_program_does(self):
+        source, built = os.path.join(self.folder, "main.c"), os.path.join(self.folder, "main")
+        with open(source, "w", encoding="ascii") as file:
+            file.write('#include "ants.h"\n#include <stdio.h>\nint main(void) {\nuint8_t bytes[99];\nsize_t length = fread(bytes, 1, 99, stdin);\n')
+            file.write(self.block("c") + "return (int)answer.status;\n}\n")
+        found = library()._name
+        words = ["cc", "-Wall", "-Werror", "-I", os.path.join(TOP, "library"), source, found, "-Wl,-rpath," + os.path.dirname(found), "-o", built]
+        subprocess.run(words, check=True)
+        for text in (b"Drop 1\nDrop 0\n", b"Drop 7\n"):
+            ran = subprocess.run([built], input=text, stdout=subprocess.PIPE, stderr=subprocess.PIPE)
+            self.assertEqual((ran.returncode, ran.stdout.decode(), ran.stderr.decode()), self.program("minimise", "my.brain", **{"my.brain": text}))
 
 
 class Calls(Beside):
