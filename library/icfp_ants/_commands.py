@@ -1,4 +1,4 @@
-"""The commands that tell of games and brains, each as a function with its options."""
+"""The commands that report on games and brains, each as a function with its options."""
 from typing import Mapping, Optional, Tuple
 
 from ._calling import output_of
@@ -30,7 +30,7 @@ def trace(
     world: Text, red: Text, black: Text, ant: int, seed: int, rounds: int, start: int = 0, surround: int = 5, corpse: int = 3, rest: int = 14,
     most: int = MOST_LISTED,
 ) -> Printed[Traced]:
-    """Where the ant of this id is after each round from `start` on, up to the one after which it is dead. An id that the world has no ant of is a ValueError.
+    """Where the ant of this id is after each round from `start` on, up to the one after which it is dead. If the world has no ant of this id, it is a ValueError.
 
     The text has at most `most` bytes.
     """
@@ -71,7 +71,7 @@ def profile(
 
 
 def _files(kind: str, texts: Mapping[str, Text], least: int) -> Texts:
-    """The texts of a cup by their names, which are to be words that name files."""
+    """The texts of a cup by their names, which must be words that name files."""
     names = names_of(kind, texts)
     number_of(kind, len(names), least, 16)
     for name in names:
@@ -101,7 +101,7 @@ def cup(worlds: Mapping[str, Text], brains: Mapping[str, Text], seed: int, round
 def labels(program: Text, most: int = MOST_LISTED) -> Printed[Label]:
     """The labels of a program, each with the state to which it leads. A text of more than `most` bytes is a ValueError.
 
-    A block's labels come again with each use of it: 74 KB of a program may have 20 million lines, and each takes some 300 bytes here.
+    Each use of a block repeats its labels: 74 KB of a program may have 20 million lines, and each takes some 300 bytes here.
     """
     text = output_of(["asm", "program", "--labels"], texts_of(program=program), most=most)
     found = tuples_of(r"(\d+) (?:(.*)/)?(\w+)", text.split("\n")[:-1])
@@ -109,14 +109,14 @@ def labels(program: Text, most: int = MOST_LISTED) -> Printed[Label]:
 
 
 def lines(program: Text, most: int = MOST_LISTED) -> Printed[Line]:
-    """For each state of the brain that a program becomes the line of its instruction. A text of more than `most` bytes is a ValueError."""
+    """For each state of the brain that a program becomes, the line of its instruction. A text of more than `most` bytes is a ValueError."""
     text = output_of(["asm", "program", "--lines"], texts_of(program=program), most=most)
     found = tuples_of(r"(\d+) (\d+)(?: (.*))?", text.split("\n")[:-1])
     return Printed(text, (Line(int(state), uses_of(uses or ""), int(line)) for state, line, uses in found))
 
 
 def way(first: Text, second: Text) -> Printed[Step]:
-    """The states through which two brains come to where they first differ, which is the last one; none where they are the same."""
+    """The states through which two brains come to where they first differ, which is the last one; none if they are the same."""
     text = output_of(["same", "first", "second", "--way"], texts_of(first=first, second=second))
     if text == "same\n":
         return Printed(text, [])

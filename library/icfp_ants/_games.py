@@ -21,7 +21,7 @@ class Score(NamedTuple):
 
 
 class Counts(NamedTuple):
-    """Of all turns of a game, how many were taken as they were looked at, and how many were made anew."""
+    """Of all turns of a game, how many were taken as they were looked at, and how many were executed again."""
     turns: int
     taken: int
     redone: int
@@ -64,16 +64,16 @@ def score(world: Text, red: Text, black: Text, seed: int, rounds: int) -> Score:
 
 
 def scores(world: Text, red: Text, black: Text, seeds: Iterable[int], rounds: int, workers: int = 1) -> List[Score]:
-    """The score of a game for each of these seeds, by so many threads; one thread reads the texts once."""
+    """The score of a game for each of these seeds, by the given number of threads. One thread reads the texts once."""
     game = texts_of(world=world, red=red, black=black)
     return _scores_of_games(game["world"], [(game["red"], game["black"])], lambda place: list(game), seeds, rounds, workers)[0]
 
 
 def scores_of_pairs(world: Text, pairs: Iterable[Tuple[Text, Text]], seeds: Iterable[int], rounds: int, workers: int = 1) -> List[List[Score]]:
-    """For each pair of a red and a black brain the scores of its games for each of these seeds, by so many threads.
+    """For each pair of a red and a black brain, the scores of its games for each of these seeds, by the given number of threads.
 
-    A text that is refused is named by its place, as "pairs[3][1]" for the black brain of the fourth pair; that of the first pair, where there are more.
-    A pair is read when its games begin, so a refusal may come late, and no score comes then. Without a pair no text is read.
+    A refused text is named by its place, such as "pairs[3][1]" for the black brain of the fourth pair. If several are refused, it is that of the first pair.
+    A pair is read when its games begin, so a refusal may be raised late, and then no score is returned. Without a pair no text is read.
     """
     ground, listed = bytes_of("world", world), [_pair(place, pair) for place, pair in enumerate(pairs)]
     held: Dict[int, bytes] = {}  # by the text, so that one of many pairs is held once
@@ -165,12 +165,12 @@ def advance(save: Text, rounds: int) -> str:
 
 
 def score_of(text: str) -> Score:
-    """The score that a game's text tells, as `run` and `resume` give it."""
+    """The score in a game's text, as `run` and `resume` return it."""
     return Score(*_last_numbers(r"score: red (\d+) black (\d+)", text))
 
 
 def counts_of(text: str) -> Counts:
-    """The counts that a game's text tells, as `run` and `resume` give it with `stats`."""
+    """The counts in a game's text, as `run` and `resume` return it with `stats`."""
     return Counts(*_last_numbers(r"turns (\d+) taken (\d+) redone (\d+)", text))
 
 

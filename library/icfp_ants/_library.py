@@ -1,4 +1,4 @@
-"""The library libants.so, as Python calls it: where it is found, what it is given, and what it refuses."""
+"""The library libants.so, as Python calls it: where it is found, what is passed to it, and what it refuses."""
 import ctypes
 import functools
 import mmap
@@ -70,7 +70,7 @@ def _places() -> Iterator[str]:
 
 @functools.lru_cache(maxsize=None)
 def library() -> ctypes.CDLL:
-    """The library, of this version, with the types of its functions. Where it is not there, or is another one, it is an ImportError."""
+    """The library, of this version, with the types of its functions. If it isn't there, or is another one, it is an ImportError."""
     place = next(_places())
     try:
         found = ctypes.CDLL(place)
@@ -164,19 +164,19 @@ def whole_numbers(name: str, values: Iterable[int], most: int = MOST_NUMBER) -> 
 
 
 def numbers_of(name: str, values: Iterable[int]) -> "array[int]":
-    """Numbers as C has them, with one behind them, so that their place is no null."""
+    """Numbers as C has them, with one more after them, so that their place is not null."""
     return array("I", [*whole_numbers(name, values), 0])
 
 
 class Answer:
-    """What a call of the library writes where it refuses a text, and what that comes to."""
+    """What a call of the library writes if it refuses a text, and what is raised then."""
 
     def __init__(self) -> None:
         self.fault, self.words = _declared.Fault(), ctypes.create_string_buffer(_WORDS)
         self.passed = byref(self.fault), self.words, _WORDS
 
     def is_done(self, status: int, names: Iterable[str]) -> bool:
-        """Whether there was room enough; what is wrong otherwise is raised, where the texts have these names."""
+        """Whether there was enough room. Anything else that is wrong is raised. The texts have these names."""
         if status == _declared.NUMBER:
             raise ValueError("a number is beyond its limits")
         if status == _declared.REFUSED:
@@ -188,7 +188,7 @@ class Answer:
 
 
 def is_done(function: str, texts: Texts, *more: object) -> bool:
-    """Calls a function of the library; whether it had room enough."""
+    """Calls a function of the library; whether it had enough room."""
     answer, passed = Answer(), [it for text in texts.values() for it in (text, len(text))]
     return answer.is_done(getattr(library(), function)(*passed, *more, *answer.passed), texts)
 
