@@ -39,44 +39,108 @@
        if (ants_version(version, sizeof version, &used) != ANTS_DONE || used != strlen(ANTS_VERSION) || memcmp(version, ANTS_VERSION, used))
            return 1;
 
-   EACH CALL answers a status:
+   A COMMAND of the program, any of them, is a call of ants_command(). You pass the words of its
+   command line, without the program's name, and the files that they name. It allocates its answer,
+   which you free. docs/COMMANDS.md has the commands. All examples here use these files and this
+   answer:
 
-       ANTS_DONE     it is done, and the result is written
-       ANTS_NUMBER   a number is beyond its limits: more than 1,000,000 rounds; a width or height that isn't 3 to 512; more than 255
-                     rocks or blobs
-       ANTS_NO_ROOM  the room is too small. A call that writes a text into `out` has written the length that the text has to `used`,
-                     and as much of the text as has room to `out`: call again with room for `used` bytes. The whole call is made
-                     again then, also the game that it plays: choose a first room that is seldom too small
-       ANTS_REFUSED  a text is refused, the first one that is: `fault` says which text and why in numbers, and `words` in words, as
-                     many bytes as have room (no zero byte ends them; they have fault.words bytes in full). Or an element of a
-                     generated world has no room
-       ANTS_MEMORY   memory could not be had; nothing was kept
+       struct ants_file files[] = {{"w", world, world_len}, {"r", red, red_len}, {"b", black, black_len}};
+       struct ants_answer answer;
 
-   A COMMAND of the program, any of them, is a call of ants_call(): its words and the names of its files as a line each, and the files' bytes
-   one behind the other. Its status is the program's own, and the line in which the program says what is wrong lies over `said`. Two more come:
+   Check a brain: at ANTS_DONE, answer.text is its canonical text.
 
-       ANTS_UNREADABLE  the words or the names aren't UTF-8, there isn't one size for each name, or the sizes don't make up all bytes
-       ANTS_NO_FILE     a file that the words name isn't among those that were handed in: nothing is read from the machine
+       const char *check[] = {"brain", "r"};
+       uint32_t status = ants_command(2, check, files, 3, 0, &answer);
+       ants_answer_free(&answer);
 
-   A name that the words have twice is the same file each time, also `-`, of which the program finds nothing left at the second.
-   ANTS_NUMBER says there that the words are no command, and ANTS_NO_ROOM that the text is longer than `out` or the line than `said`: `used`
-   and `told` have the lengths that are wanted. A room of 256 for the line is enough but for long names.
+   Merge its equivalent states: a line says how many states there were and how many are left, and
+   the brain follows.
 
-   HOW MUCH ROOM is always enough, in bytes; no call reads or writes what it doesn't need of it:
+       const char *minimise[] = {"minimise", "r"};
+       status = ants_command(2, minimise, files, 3, 0, &answer);
 
-       ants_run, ants_resume                100 + dumps * (30 + 150 * width * height), for as many dumps as come; most cells have 20 to 25
-       ants_save                            4,194,304; mostly some 4 for a cell, and the two brains
-       ants_brain, ants_minimise, ants_asm  420,000, which is 42 for each state
-       ants_same                            200
-       ants_gen                             20 + height * (2 * width + 1)
-       words of a fault                     100
+   Play a game, with dumps of the world after rounds 0 and 1000:
 
-   For ants_look it is a score for each round, and for each round as many ants as the hills have cells.
+       const char *run[] = {"run", "w", "r", "b", "--seed", "12345", "--rounds", "1000", "--dump", "0,1000"};
+       status = ants_command(10, run, files, 3, 0, &answer);
 
-   The numbers are looked at first, then the room of ants_scores, then the texts in their order, then other room. A result is written at
-   ANTS_DONE alone, `used`, `out` and `ids` at ANTS_NO_ROOM too, `fault` and `words` at ANTS_REFUSED alone; all else stays as it was. A text
-   that is done is in the first `used` bytes of `out`, and those behind stay. What the numbers of a fault mean stands at the struct, and its
-   kinds above it.
+   Save a game after 500 rounds, and go on until 1000 rounds are done. The save is a file like any
+   other:
+
+       const char *save[] = {"save", "w", "r", "b", "--seed", "12345", "--rounds", "500"};
+       if (ants_command(8, save, files, 3, 0, &answer) == ANTS_DONE) {
+           struct ants_file saved = {"s", (const uint8_t *)answer.text, answer.len};
+           const char *resume[] = {"resume", "s", "--rounds", "1000"};
+           struct ants_answer rest;
+           status = ants_command(4, resume, &saved, 1, 0, &rest);
+           ants_answer_free(&rest);
+       }
+       ants_answer_free(&answer);
+
+   Play a cup, each brain against each other one in both colours:
+
+       const char *cup[] = {"cup", "--worlds", "w", "--brains", "r", "b", "--seed", "12345", "--rounds", "100000"};
+       status = ants_command(10, cup, files, 3, 0, &answer);
+
+   Read an error in numbers, or print the line in which the program says it:
+
+       const char *play[] = {"run", "w", "r", "b", "--seed", "12345", "--rounds", "1000"};
+       switch (ants_command(8, play, files, 3, 0, &answer)) {
+       case ANTS_NUMBER: printf("word %d is refused\n", (int)answer.fault.number); break;
+       case ANTS_NO_FILE: printf("there is no file %s\n", play[answer.fault.number - 1]); break;
+       case ANTS_REFUSED:
+           if (answer.fault.kind == ANTS_KIND_BRAIN_NO_SUCH_STATE)
+               printf("%s, line %u: no state %d\n", files[answer.fault.text - 1].name, answer.fault.line, (int)answer.fault.number);
+           else
+               fputs(answer.line, stderr);
+       }
+       ants_answer_free(&answer);
+
+   ants_call() is the same without allocation, over words and names that are lines, and rooms that
+   you lend.
+
+   EACH CALL returns a status:
+
+       ANTS_DONE        done, and the result is written
+       ANTS_UNREADABLE  ants_command() and ants_call(): a word or a name isn't UTF-8; a name has an
+                        LF; the sizes don't fit the names and bytes
+       ANTS_NUMBER      a number is beyond its limits, such as more than 1,000,000 rounds. Of a
+                        command: its words are not a command, and fault.number is the first refused
+                        word, counted from 1
+       ANTS_NO_FILE     the words name a file that isn't among those that you pass; fault.number is
+                        the first word that names it. Nothing is read from the machine
+       ANTS_NO_ROOM     the room is too small. A call that writes a text has written as much of it
+                        as the room holds, and the length of the whole text to `used`, or of the
+                        line to `told`. If you call again with more room, the game is played again
+       ANTS_REFUSED     a text is refused, the first one that is: `fault` says which one and why, in
+                        numbers. Of a command, the text is one of the files, counted in the order in
+                        which you pass them; or an element of a world to be generated has no room
+       ANTS_MEMORY      out of memory; nothing was kept
+
+   A RESULT is written at ANTS_DONE only. `used`, `out` and `ids` are also written at ANTS_NO_ROOM.
+   `fault` is written at ANTS_REFUSED, and by a command also at ANTS_NUMBER and ANTS_NO_FILE.
+   `words` is written at ANTS_REFUSED. Everything else is unchanged. ants_call() writes `out`,
+   `used`, `said` and `told` at each status except ANTS_UNREADABLE; at ANTS_MEMORY it may leave them
+   unchanged. The numbers of a fault are explained at the struct, and its kinds above it. No zero
+   byte ends `words`, `out` or `said`.
+
+   If two files have the same name, the first one is used. `-` is a name like any other. Words may
+   name a file more than once, and each time it is the same file, `-` too.
+
+   HOW MUCH ROOM is enough, in bytes:
+
+       run, resume           100 + dumps * (30 + 150 * width * height); most cells have 20 to 25
+       save                  4,194,304; mostly some 4 for a cell, and the two brains
+       brain, minimise, asm  420,000, which is 42 for each state
+       same                  200
+       gen                   20 + height * (2 * width + 1)
+       words of a fault      100; `said` needs 150 more than the longest name
+
+   ants_look() needs a score for each round, and for each round as many ants as the hills have
+   cells.
+
+   The numbers are checked first, then the room of ants_scores(), then the texts in their order,
+   then other room.
 
    WHAT A CALLER OWES, and nobody checks. The functions are proved for callers that keep to this:
 
@@ -155,15 +219,20 @@ enum ants_kind {
     ANTS_KIND_PROGRAM_MISPLACED = 36, // misplaced
     ANTS_KIND_PROGRAM_TWICE = 37, // a name is taken
     ANTS_KIND_PROGRAM_NO_BLOCK = 38, // no such block
-    ANTS_KIND_PROGRAM_WRONG_COUNT = 39, // another number of labels
+    ANTS_KIND_PROGRAM_WRONG_COUNT = 39, // a different number of labels
     ANTS_KIND_PROGRAM_TOO_MANY = 40, // too many
     ANTS_KIND_PROGRAM_EMPTY_BLOCK = 41, // an empty block
     ANTS_KIND_PROGRAM_EMPTY = 42, // no instruction
     ANTS_KIND_PROGRAM_NO_LABEL = 43, // no such label
     ANTS_KIND_SAVE_BAD_LINE = 50, // a line isn't in its form
     ANTS_KIND_SAVE_BAD_STATE = 51, // no state of a game
-    ANTS_KIND_SAVE_ALREADY_AT = 52, // more rounds are done than are asked for
+    ANTS_KIND_SAVE_ALREADY_AT = 52, // more rounds are done than were requested
     ANTS_KIND_NO_ROOM = 60, // an element of a world to be generated has no room
+    ANTS_KIND_BREAKS_UNKNOWN_WORD = 70, // an unknown word
+    ANTS_KIND_BREAKS_MISSING_TOKEN = 71, // a token is missing
+    ANTS_KIND_BREAKS_BAD_NUMBER = 72, // a bad number
+    ANTS_KIND_BREAKS_EXTRA_TOKEN = 73, // a token more
+    ANTS_KIND_BREAKS_TOO_MANY = 74, // too many breaks
 };
 
 // An ant: 16 bytes. Of one that is dead all numbers are 0.
@@ -186,19 +255,21 @@ struct ants_ant_data {
     uint8_t laden;
 };
 
-// Why a text was refused, in numbers (this project's own). The kinds are those of enum ants_kind.
+// Why a text, a word or a call was refused, in numbers (this project's own). The kinds are those of enum ants_kind.
 struct ants_fault_data {
-    // Which text, from 1 in the order in which the texts are passed; 0 where it is of no text.
+    // Which text, counted from 1 in the order in which the texts are passed; for `ants_call` which
+    // file, in the order of the names. 0 if the fault is of no text.
     uint32_t text;
-    // The kind.
+    // The kind. 0 if a word of `ants_call` is at fault.
     uint32_t kind;
-    // The line, from 1, or the row of a world, from 0; 0 where the kind has none.
+    // The line, counted from 1, or the row of a world, counted from 0. 0 if the kind has neither.
     uint32_t line;
-    // The column of a world, from 0; 0 where the kind has none.
+    // The column of a world, counted from 0. 0 if the kind has none.
     uint32_t column;
-    // How many ants there are (18), the state that is not there (27), the round of the save (52), or the element's number (60); else 0.
+    // The number of ants (kind 18), the missing state (27), the round of the save (52), the element,
+    // counted from 0 (60), or the word, counted from 1 (kind 0). Otherwise 0.
     uint64_t number;
-    // How many bytes the words of the fault have.
+    // The length of the fault's words, in bytes. 0 if a word of `ants_call` is at fault.
     uint64_t words;
 };
 
@@ -210,9 +281,14 @@ struct ants_score_data {
     uint32_t black;
 };
 
-// Lays the version of the library over `out`: what the program's `--version` prints between `ants ` and the LF (this project's own).
-// Returns 0 or 4, and writes for each what `ants_run` writes. This function stays as it is in each version, so that a caller who was built for
-// another one can ask before any other call.
+// Writes the version of the library to `out`: what the program's `--version` prints between `ants
+// ` and the LF (this project's own). The status is
+// - 0: `out` begins with the version;
+// - 4: the version is longer than `out`, which holds the front of it.
+//
+// `used` is the length of the version in both cases, and the bytes of `out` beyond it are
+// unchanged. This function never changes, so a caller that was built for a different version can
+// call it before any other function.
 uint32_t ants_version(
     uint8_t *out, size_t out_len, size_t *used);
 
@@ -252,82 +328,36 @@ uint32_t ants_look(
     struct ants_ant_data *ants, size_t ants_len, size_t *ids, struct ants_fault_data *fault, uint8_t *words,
     size_t words_len);
 
-// Plays a game as `ants_score` does, and lays the text of its run over `out`: what the program's `run` prints with one worker, without
-// counts, with the dumps of these rounds (the task's game play). The status is that of `ants_score`, or
-// - 4: the text is longer than `out`, which holds the front of it.
+// Runs a command of the program over files that you pass (this project's own). `words` has a line
+// for each word of the command line, without the program's name. `names` has a line for each file,
+// and `-` is a name like any other. `sizes` has the length of each file, and `bytes` has the files
+// one after another, in the order of the names. If two files have the same name, the first one is
+// used. `--far` is not an option. The call writes the program's output to `out`, and the line that
+// says what is wrong to `said`. The status is the program's own:
+// - 0: done; nothing is wrong, so there is no line;
+// - 2: the words are not a command; the fault's `number` is the first refused word, counted from
+//   1;
+// - 3: the words name a file that is not among `names`; the fault's `number` is the first word
+//   that names it, counted from 1;
+// - 5: a file is refused, and the fault says which file and why; or an element of the world to be
+//   generated has no room (kind 60);
+// - 6: out of memory.
 //
-// `used` is the length of the text at 0 and at 4; what it doesn't reach of `out` stays. `out` and `used` are written at 0 and 4 alone, the
-// fault and the words at 5 alone.
-uint32_t ants_run(
-    const uint8_t *world, size_t world_len, const uint8_t *red, size_t red_len, const uint8_t *black, size_t black_len,
-    uint32_t seed, uint32_t rounds, const uint32_t *dumps, size_t dumps_len, uint8_t *out, size_t out_len, size_t *used,
-    struct ants_fault_data *fault, uint8_t *words, size_t words_len);
-
-// Lays the canonical text of a brain over `out`, as the program's `brain` (the task's neurology). The status is 0, 4, 5 or 6, and what is
-// written is so, as at `ants_run`.
-uint32_t ants_brain(
-    const uint8_t *brain, size_t brain_len, uint8_t *out, size_t out_len, size_t *used, struct ants_fault_data *fault,
-    uint8_t *words, size_t words_len);
-
-// Lays the canonical text of a brain, minimised, over `out`: what the program's `minimise` writes below its first line (over the task's
-// neurology). Returns 0, 4, 5 or 6, and writes for each what `ants_run` writes.
-uint32_t ants_minimise(
-    const uint8_t *brain, size_t brain_len, uint8_t *out, size_t out_len, size_t *used, struct ants_fault_data *fault,
-    uint8_t *words, size_t words_len);
-
-// Lays the canonical text of the brain that a labelled program becomes over `out`, as the program's `asm` (this project's own).
-// Returns 0, 4, 5 or 6, and writes for each what `ants_run` writes.
-uint32_t ants_asm(
-    const uint8_t *program, size_t program_len, uint8_t *out, size_t out_len, size_t *used,
-    struct ants_fault_data *fault, uint8_t *words, size_t words_len);
-
-// Lays `same`, or the three lines of where two brains first differ, over `out`, as the program's `same` (over the task's neurology).
-// Returns 0, 4, 5 or 6, and writes for each what `ants_run` writes.
-uint32_t ants_same(
-    const uint8_t *first, size_t first_len, const uint8_t *second, size_t second_len, uint8_t *out, size_t out_len,
-    size_t *used, struct ants_fault_data *fault, uint8_t *words, size_t words_len);
-
-// Lays the canonical text of the world of a seed and a shape over `out`, as the program's `gen` (the task's contest worlds). The status is 0,
-// 4 or 6, as at `ants_run`, or
-// - 2: the width or the height is not from 3 to 512, or there are more than 255 rocks or blobs of food;
-// - 5: an element has no room, the first that has none.
+// Or the call itself fails:
+// - 1: the words or the names aren't UTF-8, the number of sizes isn't the number of names, or the
+//   sizes don't add up to the length of `bytes`;
+// - 4: the output is longer than `out`, or the line is longer than `said`; both hold as much as
+//   they have room for.
 //
-// What is written is so as at `ants_run`.
-uint32_t ants_gen(
-    uint32_t seed, uint32_t width, uint32_t height, uint32_t rocks, uint32_t blobs, uint8_t *out, size_t out_len,
-    size_t *used, struct ants_fault_data *fault, uint8_t *words, size_t words_len);
-
-// Plays a game as `ants_score` does, and lays the text of its save after so many rounds over `out`, as the program's `save` (this project's own).
-// Returns 0, 2, 4, 5 or 6, and writes for each what `ants_run` writes. Nothing is written before the last round is played.
-uint32_t ants_save(
-    const uint8_t *world, size_t world_len, const uint8_t *red, size_t red_len, const uint8_t *black, size_t black_len,
-    uint32_t seed, uint32_t rounds, uint8_t *out, size_t out_len, size_t *used, struct ants_fault_data *fault,
-    uint8_t *words, size_t words_len);
-
-// Goes on with the game of a save until so many rounds are done in all, and lays the rest of its text over `out`, as the program's `resume` with
-// one worker: the later rounds' dumps of these, and the score (this project's own). The status is 0, 2, 4 or 6 as at `ants_run`, or
-// - 5: the text is no save's, or that of a save of which more rounds are done.
-//
-// What is written is so as at `ants_run`.
-uint32_t ants_resume(
-    const uint8_t *save, size_t save_len, uint32_t rounds, const uint32_t *dumps, size_t dumps_len, uint8_t *out,
-    size_t out_len, size_t *used, struct ants_fault_data *fault, uint8_t *words, size_t words_len);
-
-// Runs the whole program over files that the caller holds (this project's own). The lines of `words` are its words, without its name; the
-// lines of `names` are the names of the files, `-` too, each of which takes as many of `bytes` as its size says, in their order. Of a name
-// that stands twice the first file counts, and `--far` is no option. What the program writes to its output is laid over `out`, and the line
-// in which it says what is wrong over `said`. The status is the program's own: 0, 2 where the words are no command, 3 where a file isn't
-// there, 5 or 6; or
-// - 1: the words or the names aren't UTF-8, there isn't one size for each name, or the sizes don't make up all bytes;
-// - 4: the text is longer than `out`, or the line than `said`, which hold the front of it.
-//
-// `used` is the length of the text, and `told` that of the line; what they don't reach of `out` and `said` stays. At 1 nothing is written,
-// and at 6 nothing where memory could not be had before the program ran. It plays on the caller's thread, whatever number of workers the
-// words name. It takes memory for a copy of the files, and for what the program takes.
+// `used` is the length of the output and `told` the length of the line, at 4 too. The rest of
+// `out` and `said` is unchanged. The fault is written at 2, 3 and 5 only. At 5 its words are the
+// end of the line: the last `fault.words` bytes before the LF. At 1 nothing is written, nor at 6
+// if memory ran out before the command began. The call plays on the caller's thread, however many
+// workers the words name. It takes memory for a copy of the files and for what the command needs.
 uint32_t ants_call(
     const uint8_t *words, size_t words_len, const uint8_t *names, size_t names_len, const uint32_t *sizes,
     size_t sizes_len, const uint8_t *bytes, size_t bytes_len, uint8_t *out, size_t out_len, size_t *used, uint8_t *said,
-    size_t said_len, size_t *told);
+    size_t said_len, size_t *told, struct ants_fault_data *fault);
 
 #ifdef __cplusplus
 }

@@ -56,102 +56,15 @@ uint32_t ants_look(
         PLACE(scores), scores_len, PLACE(ants), ants_len, ids, fault, PLACE(words), words_len);
 }
 
-uint32_t proved_ants_run(
-    const uint8_t *world, size_t world_len, const uint8_t *red, size_t red_len, const uint8_t *black, size_t black_len,
-    uint32_t seed, uint32_t rounds, const uint32_t *dumps, size_t dumps_len, uint8_t *out, size_t out_len, size_t *used,
-    struct ants_fault_data *fault, uint8_t *words, size_t words_len);
-uint32_t ants_run(
-    const uint8_t *world, size_t world_len, const uint8_t *red, size_t red_len, const uint8_t *black, size_t black_len,
-    uint32_t seed, uint32_t rounds, const uint32_t *dumps, size_t dumps_len, uint8_t *out, size_t out_len, size_t *used,
-    struct ants_fault_data *fault, uint8_t *words, size_t words_len) {
-    return proved_ants_run(
-        PLACE(world), world_len, PLACE(red), red_len, PLACE(black), black_len, seed, rounds, PLACE(dumps), dumps_len,
-        PLACE(out), out_len, used, fault, PLACE(words), words_len);
-}
-
-uint32_t proved_ants_brain(
-    const uint8_t *brain, size_t brain_len, uint8_t *out, size_t out_len, size_t *used, struct ants_fault_data *fault,
-    uint8_t *words, size_t words_len);
-uint32_t ants_brain(
-    const uint8_t *brain, size_t brain_len, uint8_t *out, size_t out_len, size_t *used, struct ants_fault_data *fault,
-    uint8_t *words, size_t words_len) {
-    return proved_ants_brain(
-        PLACE(brain), brain_len, PLACE(out), out_len, used, fault, PLACE(words), words_len);
-}
-
-uint32_t proved_ants_minimise(
-    const uint8_t *brain, size_t brain_len, uint8_t *out, size_t out_len, size_t *used, struct ants_fault_data *fault,
-    uint8_t *words, size_t words_len);
-uint32_t ants_minimise(
-    const uint8_t *brain, size_t brain_len, uint8_t *out, size_t out_len, size_t *used, struct ants_fault_data *fault,
-    uint8_t *words, size_t words_len) {
-    return proved_ants_minimise(
-        PLACE(brain), brain_len, PLACE(out), out_len, used, fault, PLACE(words), words_len);
-}
-
-uint32_t proved_ants_asm(
-    const uint8_t *program, size_t program_len, uint8_t *out, size_t out_len, size_t *used,
-    struct ants_fault_data *fault, uint8_t *words, size_t words_len);
-uint32_t ants_asm(
-    const uint8_t *program, size_t program_len, uint8_t *out, size_t out_len, size_t *used,
-    struct ants_fault_data *fault, uint8_t *words, size_t words_len) {
-    return proved_ants_asm(
-        PLACE(program), program_len, PLACE(out), out_len, used, fault, PLACE(words), words_len);
-}
-
-uint32_t proved_ants_same(
-    const uint8_t *first, size_t first_len, const uint8_t *second, size_t second_len, uint8_t *out, size_t out_len,
-    size_t *used, struct ants_fault_data *fault, uint8_t *words, size_t words_len);
-uint32_t ants_same(
-    const uint8_t *first, size_t first_len, const uint8_t *second, size_t second_len, uint8_t *out, size_t out_len,
-    size_t *used, struct ants_fault_data *fault, uint8_t *words, size_t words_len) {
-    return proved_ants_same(
-        PLACE(first), first_len, PLACE(second), second_len, PLACE(out), out_len, used, fault, PLACE(words), words_len);
-}
-
-uint32_t proved_ants_gen(
-    uint32_t seed, uint32_t width, uint32_t height, uint32_t rocks, uint32_t blobs, uint8_t *out, size_t out_len,
-    size_t *used, struct ants_fault_data *fault, uint8_t *words, size_t words_len);
-uint32_t ants_gen(
-    uint32_t seed, uint32_t width, uint32_t height, uint32_t rocks, uint32_t blobs, uint8_t *out, size_t out_len,
-    size_t *used, struct ants_fault_data *fault, uint8_t *words, size_t words_len) {
-    return proved_ants_gen(
-        seed, width, height, rocks, blobs, PLACE(out), out_len, used, fault, PLACE(words), words_len);
-}
-
-uint32_t proved_ants_save(
-    const uint8_t *world, size_t world_len, const uint8_t *red, size_t red_len, const uint8_t *black, size_t black_len,
-    uint32_t seed, uint32_t rounds, uint8_t *out, size_t out_len, size_t *used, struct ants_fault_data *fault,
-    uint8_t *words, size_t words_len);
-uint32_t ants_save(
-    const uint8_t *world, size_t world_len, const uint8_t *red, size_t red_len, const uint8_t *black, size_t black_len,
-    uint32_t seed, uint32_t rounds, uint8_t *out, size_t out_len, size_t *used, struct ants_fault_data *fault,
-    uint8_t *words, size_t words_len) {
-    return proved_ants_save(
-        PLACE(world), world_len, PLACE(red), red_len, PLACE(black), black_len, seed, rounds, PLACE(out), out_len, used,
-        fault, PLACE(words), words_len);
-}
-
-uint32_t proved_ants_resume(
-    const uint8_t *save, size_t save_len, uint32_t rounds, const uint32_t *dumps, size_t dumps_len, uint8_t *out,
-    size_t out_len, size_t *used, struct ants_fault_data *fault, uint8_t *words, size_t words_len);
-uint32_t ants_resume(
-    const uint8_t *save, size_t save_len, uint32_t rounds, const uint32_t *dumps, size_t dumps_len, uint8_t *out,
-    size_t out_len, size_t *used, struct ants_fault_data *fault, uint8_t *words, size_t words_len) {
-    return proved_ants_resume(
-        PLACE(save), save_len, rounds, PLACE(dumps), dumps_len, PLACE(out), out_len, used, fault, PLACE(words),
-        words_len);
-}
-
 uint32_t proved_ants_call(
     const uint8_t *words, size_t words_len, const uint8_t *names, size_t names_len, const uint32_t *sizes,
     size_t sizes_len, const uint8_t *bytes, size_t bytes_len, uint8_t *out, size_t out_len, size_t *used, uint8_t *said,
-    size_t said_len, size_t *told);
+    size_t said_len, size_t *told, struct ants_fault_data *fault);
 uint32_t ants_call(
     const uint8_t *words, size_t words_len, const uint8_t *names, size_t names_len, const uint32_t *sizes,
     size_t sizes_len, const uint8_t *bytes, size_t bytes_len, uint8_t *out, size_t out_len, size_t *used, uint8_t *said,
-    size_t said_len, size_t *told) {
+    size_t said_len, size_t *told, struct ants_fault_data *fault) {
     return proved_ants_call(
         PLACE(words), words_len, PLACE(names), names_len, PLACE(sizes), sizes_len, PLACE(bytes), bytes_len, PLACE(out),
-        out_len, used, PLACE(said), said_len, told);
+        out_len, used, PLACE(said), said_len, told, fault);
 }

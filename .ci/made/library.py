@@ -140,7 +140,7 @@ def kinds(structs):
     named = dict(reversed(it) for it in re.findall(r"^\w*numbers\w* .*?([A-Z]\w*)[^A-Z]* = (?:bare|at_line|record \{ kind =) ([1-9]\d*)", read(NUMBERS), re.M))
     found = []
     for item in " ".join(" ".join(line for it in structs for line in it.docs).partition(KINDS)[2].split()).split("- ")[1:]:
-        of = re.match(r"of a (?:\w+ )?(\w+), ", item)
+        of = re.match(r"of a (?:\w+ )*(\w+), ", item)
         for number, says in re.findall(r"(\d+): (.*?)[;.](?: |$)", item):
             name = snake((of[1].title() if of else "") + named.pop(number, "")).upper()
             found.append(Kind(number, name, says))

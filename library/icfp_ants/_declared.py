@@ -42,15 +42,20 @@ class Kind(enum.IntEnum):
     PROGRAM_MISPLACED = 36  # misplaced
     PROGRAM_TWICE = 37  # a name is taken
     PROGRAM_NO_BLOCK = 38  # no such block
-    PROGRAM_WRONG_COUNT = 39  # another number of labels
+    PROGRAM_WRONG_COUNT = 39  # a different number of labels
     PROGRAM_TOO_MANY = 40  # too many
     PROGRAM_EMPTY_BLOCK = 41  # an empty block
     PROGRAM_EMPTY = 42  # no instruction
     PROGRAM_NO_LABEL = 43  # no such label
     SAVE_BAD_LINE = 50  # a line isn't in its form
     SAVE_BAD_STATE = 51  # no state of a game
-    SAVE_ALREADY_AT = 52  # more rounds are done than are asked for
+    SAVE_ALREADY_AT = 52  # more rounds are done than were requested
     NO_ROOM = 60  # an element of a world to be generated has no room
+    BREAKS_UNKNOWN_WORD = 70  # an unknown word
+    BREAKS_MISSING_TOKEN = 71  # a token is missing
+    BREAKS_BAD_NUMBER = 72  # a bad number
+    BREAKS_EXTRA_TOKEN = 73  # a token more
+    BREAKS_TOO_MANY = 74  # too many breaks
 
 
 class Ant(ctypes.Structure):
@@ -74,18 +79,6 @@ FUNCTIONS = {
         c_size_t, POINTER(Fault), c_char_p, c_size_t],
     "ants_look": [c_char_p, c_size_t, c_char_p, c_size_t, c_char_p, c_size_t, c_uint32, POINTER(c_uint32), c_size_t, POINTER(Score),
         c_size_t, POINTER(Ant), c_size_t, POINTER(c_size_t), POINTER(Fault), c_char_p, c_size_t],
-    "ants_run": [c_char_p, c_size_t, c_char_p, c_size_t, c_char_p, c_size_t, c_uint32, c_uint32, POINTER(c_uint32), c_size_t, c_char_p,
-        c_size_t, POINTER(c_size_t), POINTER(Fault), c_char_p, c_size_t],
-    "ants_brain": [c_char_p, c_size_t, c_char_p, c_size_t, POINTER(c_size_t), POINTER(Fault), c_char_p, c_size_t],
-    "ants_minimise": [c_char_p, c_size_t, c_char_p, c_size_t, POINTER(c_size_t), POINTER(Fault), c_char_p, c_size_t],
-    "ants_asm": [c_char_p, c_size_t, c_char_p, c_size_t, POINTER(c_size_t), POINTER(Fault), c_char_p, c_size_t],
-    "ants_same": [c_char_p, c_size_t, c_char_p, c_size_t, c_char_p, c_size_t, POINTER(c_size_t), POINTER(Fault), c_char_p, c_size_t],
-    "ants_gen": [c_uint32, c_uint32, c_uint32, c_uint32, c_uint32, c_char_p, c_size_t, POINTER(c_size_t), POINTER(Fault), c_char_p,
-        c_size_t],
-    "ants_save": [c_char_p, c_size_t, c_char_p, c_size_t, c_char_p, c_size_t, c_uint32, c_uint32, c_char_p, c_size_t, POINTER(c_size_t),
-        POINTER(Fault), c_char_p, c_size_t],
-    "ants_resume": [c_char_p, c_size_t, c_uint32, POINTER(c_uint32), c_size_t, c_char_p, c_size_t, POINTER(c_size_t), POINTER(Fault),
-        c_char_p, c_size_t],
     "ants_call": [c_char_p, c_size_t, c_char_p, c_size_t, POINTER(c_uint32), c_size_t, c_char_p, c_size_t, c_char_p, c_size_t,
-        POINTER(c_size_t), c_char_p, c_size_t, POINTER(c_size_t)],
+        POINTER(c_size_t), c_char_p, c_size_t, POINTER(c_size_t), POINTER(Fault)],
 }

@@ -307,7 +307,7 @@ pub words_run : (words : List (List ℕ)) (before after : Outside) (ended : Stat
 words_run words before after ended run none = run.is_status ∙ words_by words before after run.fetches run.ending run.ends none
 
 -- a run ends as promised
-pub promised_run : (given : List (List ℕ)) (before after : Outside) (ended : Status) → IsRun given before after ended → EndsAsPromised given before after ended
+unfoldable pub promised_run : (given : List (List ℕ)) (before after : Outside) (ended : Status) → IsRun given before after ended → EndsAsPromised given before after ended
 promised_run given before after ended run = record {
   run = run;
   words = (no_command_run given before after ended run, words_run given before after ended run);

@@ -123,3 +123,8 @@ pub record EndsAsPromised (given : List (List ℕ)) (before after : Outside) (en
   pub crowding : IsCrowding given ended
   pub refusing : IsRefusing given before after ended
   pub read : NeverUnread given before ended
+
+-- all that is promised of a call of the program that gives how its run ended
+pub record EndsSo (given : List (List ℕ)) (before after : Outside) (ending : Ending) : Type 0 where
+  pub promised : EndsAsPromised given before after (ending_status ending)
+  pub is_ending : promised.run.ending ≡ ending

@@ -21,3 +21,4 @@ pub use laws::{
 };
 pub use program::{exit_without_memory, run_alone, run_ants, run_here, run_to_exit};
 pub use status::Status;
+pub use stop::{CommandStop, Ended, FileFault};

@@ -9,7 +9,7 @@ ghost use Rattle.round_book.specs.Led.{IsWindow};
 ghost use Rattle.ant_commands.specs.Inner.Cups.{CanPlay, GivesScores};
 ghost use Rattle.ant_commands.specs.Inner.Reading.{CarriesOut, CarriesOutWords, ending_of};
 ghost use Rattle.ant_commands.specs.Outside.{outside_of};
-ghost use Rattle.ant_commands.specs.Run.{EndsAsPromised, GotLine, IsRunTo, Reports};
+ghost use Rattle.ant_commands.specs.Run.{EndsAsPromised, EndsSo, GotLine, IsRunTo, Reports};
 ghost use Rattle.ant_commands.specs.Status.{status_number};
 ghost use Rattle.ant_commands.specs.FaultLines.{ending_status, fault_line, plain_ending, reason_of, status_of, word_line};
 ghost use Rattle.ant_commands.specs.FaultLines.Reason.{AtMemory};
@@ -188,20 +188,21 @@ pub fn run_here<R: Threads + Sync, S: Shelf, K: Sink, E: Sink, G: Gate>(
     report(ended, err)
 }
 
-/// Does what `run_here` does on the caller's thread alone, without a runtime: windows and cups that name more workers are played there too, with
-/// the same text.
-pub fn run_alone<S: Shelf, K: Sink, E: Sink>(
+/// Does what `run_here` does on the caller's thread alone, without a runtime, and returns how the run ended: with its whole text, at a refused
+/// word, or as its command stopped. Windows and cups that name more workers are played on this thread too, with the same text.
+pub fn run_alone<'w, S: Shelf, K: Sink, E: Sink>(
     alloc: Global,
-    words: &[String],
+    words: &'w [String],
     shelf: &mut S,
     out: &mut K,
     err: &mut E,
-) -> Status
-    ensures { EndsAsPromised (words_without_far (texts words.now)) (outside_of (S.state shelf.old) (K.state out.old) (E.state err.old))
-        (outside_of (S.state shelf.new) (K.state out.new) (E.state err.new)) result }
+) -> Ended<'w>
+    ensures { EndsSo (words_without_far (texts words.now)) (outside_of (S.state shelf.old) (K.state out.old) (E.state err.old))
+        (outside_of (S.state shelf.new) (K.state out.new) (E.state err.new)) (plain_ending result) }
 {
     let ended = read_and_carry_out_alone(alloc, words, shelf, out);
-    report(ended, err)
+    let _ = report(ended, err);
+    ended
 }
 
 /// Does all that the program does, over a shelf of files, an output and a place for faults. It calls `run_here`, unless the command is `run` and

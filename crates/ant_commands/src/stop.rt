@@ -1,6 +1,6 @@
 // How a run ended, why a command stopped, and the line that says so.
 ghost use Rattle.std.specs.Prelude.{◌≡◌};
-ghost use Rattle.ant_commands.specs.FaultLines.{file_fault_text, ending_by, plain_ending, reason_of, reason_text, fault_line, status_of};
+ghost use Rattle.ant_commands.specs.FaultLines.{file_fault_text, ending_by, ending_status, plain_ending, reason_of, reason_text, fault_line, status_of};
 ghost use Rattle.ant_commands.specs.Inner.Plans.{play_ending};
 ghost use Rattle.ant_commands.specs.Inner.Reading.{ending_of, push_ending};
 
@@ -80,6 +80,17 @@ impl<'w> Ended<'w> {
         match answer {
             Ok(()) => Ended::Done,
             Err(stop) => Ended::Stopped(stop),
+        }
+    }
+
+    /// The status of a run that ended so.
+    pub fn status(&self) -> Status
+        ensures { result ≡ ending_status (plain_ending self.now) }
+    {
+        match self {
+            Ended::Done => Status::Done,
+            Ended::RefusedWord(_) => Status::Words,
+            Ended::Stopped(stop) => stop.status(),
         }
     }
 }

@@ -5,7 +5,7 @@ use Rattle.ant_base.specs.Fetched.{Fetched}
 use Rattle.ant_base.specs.Shelf.{ShelfState}
 use Rattle.ant_base.specs.Sink.{PushedAll, SinkState}
 use Rattle.ant_commands.specs.Endings.{StopsFor}
-use Rattle.ant_commands.specs.FaultLines.{Ending, Reason, ending_status}
+use Rattle.ant_commands.specs.FaultLines.{Ending, Reason, ending_status, fault_line, word_line}
 use Rattle.ant_commands.specs.FaultLines.Ending.{Done, RefusedWord, Stopped}
 use Rattle.ant_commands.specs.FaultLines.Reason.{AtFile, AtOutput, AtInput, AtRoom, AtMemory}
 use Rattle.ant_commands.specs.Job.{Job}
@@ -15,6 +15,7 @@ use Rattle.ant_commands.specs.Run.{Ends, GotLine, IsRun, Reports}
 use Rattle.ant_commands.specs.declared.status.Status.{Status}
 use Rattle.ant_commands.specs.declared.status.Status.TheVariants as status
 use Rattle.ants_c.specs.Called.{holding}
+use Rattle.ants_c.specs.Ended.{ending_line}
 use Rattle.ants_c.specs.Rooms.{behind}
 
 -- what a push leaves in a sink, and that it does so in an empty one
@@ -132,16 +133,28 @@ reports_alone old new Done is = record { line = []; grown = none_more old new is
 reports_alone old new (RefusedWord word) is = let it = got_alone old new _ is in record { line = it.front; grown = it.grown; reports = it.got }
 reports_alone old new (Stopped reason) is = let it = got_alone old new _ is in record { line = it.front; grown = it.grown; reports = it.got }
 
--- a run over two empty sinks, and what two others got
-pub record Alone (words : List (List ℕ)) (shelf new_shelf : ShelfState) (out new_out err new_err : List ℕ) (ended : Status) : Type 0 where
+-- a sink that never failed got the whole line
+got_whole : (front line : List ℕ) → GotLine (holding []) (holding front) line → front ≡ line
+got_whole front line (Ok done, is) = held_more [] front line is.held
+got_whole front line (Err failed, is) = let rose = is.rose in absurd (omega (arith, rose))
+
+whole_line : (line : List ℕ) (ending : Ending) → Reports (holding []) (holding line) ending → line ≡ ending_line ending
+whole_line line Done is = none_more [] line is
+whole_line line (RefusedWord word) is = got_whole line (word_line word) is
+whole_line line (Stopped reason) is = got_whole line (fault_line reason) is
+
+-- a run over two empty sinks that ended so, and what two others got
+pub record Alone (words : List (List ℕ)) (shelf new_shelf : ShelfState) (out new_out err new_err : List ℕ) (ended : Status) (ending : Ending) : Type 0 where
   pub text : List ℕ
   pub line : List ℕ
   pub out_grown : new_out ≡ out ++ text
   pub err_grown : new_err ≡ err ++ line
   pub run : IsRun words (outside_of shelf (holding []) (holding [])) (outside_of new_shelf (holding text) (holding line)) ended
+  pub is_ending : run.ending ≡ ending
+  pub is_line : line ≡ ending_line ending
 
 pub run_alone : (words : List (List ℕ)) (shelf new_shelf : ShelfState) (out new_out err new_err : List ℕ) (ended : Status)
-    → IsRun words (outside_of shelf (holding out) (holding err)) (outside_of new_shelf (holding new_out) (holding new_err)) ended → Alone words shelf new_shelf out new_out err new_err ended
+    (run : IsRun words (outside_of shelf (holding out) (holding err)) (outside_of new_shelf (holding new_out) (holding new_err)) ended) → Alone words shelf new_shelf out new_out err new_err ended run.ending
 run_alone words shelf new_shelf out new_out err new_err ended run =
     let end = ends_alone words shelf new_shelf out new_out (holding err) (holding new_err) run.fetches run.ending run.ends in
     let report = reports_alone err new_err run.ending run.reports in
@@ -151,6 +164,8 @@ run_alone words shelf new_shelf out new_out err new_err ended run =
       out_grown = end.grown;
       err_grown = report.grown;
       run = record { fetches = run.fetches; fetched = run.fetched; ending = run.ending; ends = end.ends (holding []) (holding report.line); reports = report.reports; is_status = run.is_status };
+      is_ending = refl;
+      is_line = whole_line report.line run.ending report.reports;
     }
 
 -- a run whose output never fails doesn't end so
@@ -176,27 +191,37 @@ drop_front (byte ∷ log) text = drop_front log text
 pub behind_is : (log new_log text : List ℕ) → new_log ≡ log ++ text → behind log new_log ≡ text
 behind_is log new_log text same = rw same (drop_front log text)
 
+-- a run over two empty sinks that ended so
+record EndedSo (words : List (List ℕ)) (shelf new_shelf : ShelfState) (text line : List ℕ) (ended : Status) (ending : Ending) : Type 0 where
+  run : IsRun words (outside_of shelf (holding []) (holding [])) (outside_of new_shelf (holding text) (holding line)) ended
+  is_ending : run.ending ≡ ending
+
 -- a run over two rooms, each of whose sinks tells the name of its reference before its log
-pub record InRooms (words : List (List ℕ)) (shelf new_shelf : ShelfState) (name new_name : ℕ) (log new_log : List ℕ) (other new_other : ℕ) (said new_said : List ℕ) (ended : Status) : Type 0 where
+pub record InRooms (words : List (List ℕ)) (shelf new_shelf : ShelfState) (name new_name : ℕ) (log new_log : List ℕ) (other new_other : ℕ) (said new_said : List ℕ) (ended : Status) (ending : Ending) : Type 0 where
   pub out_name : new_name ≡ name
   pub out_log : new_log ≡ log ++ behind log new_log
   pub said_name : new_other ≡ other
   pub said_log : new_said ≡ said ++ behind said new_said
   pub run : IsRun words (outside_of shelf (holding []) (holding [])) (outside_of new_shelf (holding (behind log new_log)) (holding (behind said new_said))) ended
+  pub is_ending : run.ending ≡ ending
+  pub is_line : behind said new_said ≡ ending_line ending
   pub unfailing : ended ≡ status.Write → ⊥
 
 pub in_rooms : (words : List (List ℕ)) (shelf new_shelf : ShelfState) (name new_name : ℕ) (log new_log : List ℕ) (other new_other : ℕ) (said new_said : List ℕ) (ended : Status)
-    → IsRun words (outside_of shelf (holding (name ∷ log)) (holding (other ∷ said))) (outside_of new_shelf (holding (new_name ∷ new_log)) (holding (new_other ∷ new_said))) ended
-    → InRooms words shelf new_shelf name new_name log new_log other new_other said new_said ended
+    (run : IsRun words (outside_of shelf (holding (name ∷ log)) (holding (other ∷ said))) (outside_of new_shelf (holding (new_name ∷ new_log)) (holding (new_other ∷ new_said))) ended)
+    → InRooms words shelf new_shelf name new_name log new_log other new_other said new_said ended run.ending
 in_rooms words shelf new_shelf name new_name log new_log other new_other said new_said ended run =
     let it = run_alone words shelf new_shelf (name ∷ log) (new_name ∷ new_log) (other ∷ said) (new_other ∷ new_said) ended run in
     let out = log_grown name new_name log new_log it.text it.out_grown in let err = log_grown other new_other said new_said it.line it.err_grown in
     let text = behind_is log new_log it.text out in let line = behind_is said new_said it.line err in
+    let ran : EndedSo words shelf new_shelf (behind log new_log) (behind said new_said) ended run.ending = rw (text, line) (record { run = it.run; is_ending = it.is_ending }) in
     record {
       out_name = same_name name new_name log new_log it.text it.out_grown;
       out_log = out ∙ ap (λ (more : List ℕ). log ++ more) (sym text);
       said_name = same_name other new_other said new_said it.line it.err_grown;
       said_log = err ∙ ap (λ (more : List ℕ). said ++ more) (sym line);
-      run = rw (text, line) it.run;
+      run = ran.run;
+      is_ending = ran.is_ending;
+      is_line = rw line it.is_line;
       unfailing = never_failed words (outside_of shelf (holding (name ∷ log)) (holding (other ∷ said))) (outside_of new_shelf (holding (new_name ∷ new_log)) (holding (new_other ∷ new_said))) ended refl refl run;
     }

@@ -13,8 +13,7 @@ use Rattle.text_fault.specs.Refusals.IsRefusal.{Bad, Long}
 use Rattle.world_read.specs.declared.fault.WorldFault.{WorldFault}
 use Rattle.world_read.specs.Faulty.{IsWorldFault}
 use Rattle.ants_c.specs.declared.refusal.Refusal.{Refusal}
-use Rattle.ants_c.specs.Refused.{IsRefusedGame, IsRefusedPair, IsRefusedText, IsRefusedWorld}
-use Rattle.ants_c.specs.Texts.{IsWithin}
+use Rattle.ants_c.specs.Refused.{IsRefusedGame, IsRefusedText, IsRefusedWorld}
 
 -- a world's text has no fault
 one-world : (text : List ℕ) (grid : Grid) (why : WorldFault) → GivesWorld text grid → IsWorldFault text why → ⊥
@@ -36,26 +35,3 @@ pub red_second : (world red black : List ℕ) (grid : Grid) (why : BrainFault) (
 red_second world red black grid why refusal gives is (IsRefusedGame.World refused) = absurd (not-refused world grid refusal gives refused)
 red_second world red black grid why refusal gives is (IsRefusedGame.Red other gives_other refused) = numbered 2 IsNoBrain red refusal refused
 red_second world red black grid why refusal gives is (IsRefusedGame.Black other gives_other reds gives_red refused) = absurd (never_both red reds why gives_red.is is)
-
--- where the first of two brains is at fault, it is refused whatever the second is
-pub first_of_pair : (first second : List ℕ) (why : BrainFault) (refusal : Refusal) → IsBrainFault first why → IsRefusedPair first second refusal → refusal.text ≡ 1
-first_of_pair first second why refusal is (IsRefusedPair.First refused) = numbered 1 IsNoBrain first refusal refused
-first_of_pair first second why refusal is (IsRefusedPair.Second brain gives refused) = absurd (never_both first brain why gives.is is)
-
--- the least and the greatest sides, with none and with the most rocks and blobs, are within the limits; and one beyond each is not
-within_least : IsWithin 3 3 0 0
-within_least = record { wide = omega arith; narrow = omega arith; tall = omega arith; low = omega arith; few_rocks = omega arith; few_blobs = omega arith }
-
-within_most : IsWithin 512 512 255 255
-within_most = record { wide = omega arith; narrow = omega arith; tall = omega arith; low = omega arith; few_rocks = omega arith; few_blobs = omega arith }
-
-beyond_sides : (IsWithin 2 3 0 0 → ⊥) × (IsWithin 3 2 0 0 → ⊥) × (IsWithin 513 512 0 0 → ⊥) × (IsWithin 512 513 0 0 → ⊥)
-beyond_sides = (
-  λ within. let wide = within.wide in omega (arith, wide),
-  λ within. let tall = within.tall in omega (arith, tall),
-  λ within. let narrow = within.narrow in omega (arith, narrow),
-  λ within. let low = within.low in omega (arith, low),
-)
-
-beyond_elements : (IsWithin 3 3 256 0 → ⊥) × (IsWithin 3 3 0 256 → ⊥)
-beyond_elements = (λ within. let few = within.few_rocks in omega (arith, few), λ within. let few = within.few_blobs in omega (arith, few))

@@ -1,5 +1,5 @@
 -- The words and the files of a call, one after another.
-use Rattle.std.proofs.Common.{◌≡◌, ◌≤◌, ◌-◌, ◌⊎◌, inr, ℕ, false, List, [], ◌∷◌, ◌++◌, ◌==◌, length, drop, map, refl, ap, sym, subst, arith}
+use Rattle.std.proofs.Common.{◌≡◌, ◌∙◌, ◌≤◌, ◌⊎◌, inr, ℕ, false, List, [], ◌∷◌, ◌++◌, ◌==◌, length, drop, map, refl, ap, sym, subst, arith}
 use Rattle.std.specs.List.{AllByRecursion, sum}
 use Rattle.std.specs.Prelude.{IfSome, Option, Some, String, Vec, string_bytes}
 use Rattle.std.specs.Str.{IsUtf8}
@@ -17,7 +17,7 @@ words_are [] = tt
 words_are (word ∷ words) = (IsUtf8-string_bytes word, words_are words)
 
 -- what is said of a value that is there
-some_at : {X : Type 0} (P : X → Type 0) (found : Option X) (x : X) → found ≡ Some x → IfSome found P → P x
+pub some_at : {X : Type 0} (P : X → Type 0) (found : Option X) (x : X) → found ≡ Some x → IfSome found P → P x
 some_at {X} P found x is holds = subst (λ (it : Option X). IfSome it P) is holds
 
 -- what was made into words and files can be read
@@ -27,6 +27,11 @@ pub is_read : {Z A : Type 0} (spoken : Option (Vec (String Z) A)) (words : Vec (
 is_read {Z} {A} spoken words given files text names sizes bytes status at same is are =
     let lines = some_at (λ (it : Vec (String Z) A). map string_bytes it.items ≡ lines_of text) spoken words at same in
     inr (inr (record { spoken = subst (AllByRecursion IsUtf8) lines (words_are words.items); files = some_at (λ (it : FileList). AreFiles (lines_of names) sizes bytes) given files is are }))
+
+-- the words that were made are the lines
+pub spoken_are : {Z A : Type 0} (spoken : Option (Vec (String Z) A)) (words : Vec (String Z) A) (list : List (String Z)) (text : List ℕ)
+    → spoken ≡ Some words → IfSome spoken (λ words. map string_bytes words.items ≡ lines_of text) → list ≡ words.items → map string_bytes list ≡ lines_of text
+spoken_are {Z} {A} spoken words list text at same is = ap (map string_bytes) is ∙ some_at (λ (it : Vec (String Z) A). map string_bytes it.items ≡ lines_of text) spoken words at same
 
 -- of lines one of which is no UTF-8 not all are UTF-8
 pub not_all : (front rest : List (List ℕ)) (line : List ℕ) → (IsUtf8 line → ⊥) → AllByRecursion IsUtf8 (front ++ (line ∷ rest)) → ⊥

@@ -1,4 +1,6 @@
+mod CalledLemmas
 mod EmptySinks
+mod Endings
 mod FirstRefused
 mod GivenLemmas
 mod Looks

@@ -10,7 +10,7 @@ use Rattle.ants_c.specs.declared.fault.AntsFault.{AntsFault}
 use Rattle.ants_c.specs.declared.refusal.Refusal.{Refusal}
 use Rattle.ants_c.specs.declared.refusal.Stop.{Stop}
 use Rattle.ants_c.specs.declared.refusal.Stop.TheVariants.{OutOfMemory, Refused}
-use Rattle.ants_c.specs.Refused.{IsRefusedBrain, IsRefusedGame, IsRefusedPair, IsRefusedText, IsRefusedWorld}
+use Rattle.ants_c.specs.Refused.{IsRefusedBrain, IsRefusedGame, IsRefusedText, IsRefusedWorld}
 use Rattle.ants_c.specs.Told.{IsStopped, IsTold, StopsAt, numbered}
 
 -- a text that is opened has its value
@@ -43,15 +43,6 @@ pub stops_at_third : (world red black : List ℕ) (stop : Stop) (grid : Grid) (r
     → StopsAt (IsRefusedGame world red black) stop
 stops_at_third world red black OutOfMemory grid reds opens is_red is = tt
 stops_at_third world red black (Refused refusal) grid reds opens is_red is = IsRefusedGame.Black grid opens reds is_red is
-
--- a call that stops at one of two brains
-pub stops_at_one : (first second : List ℕ) (stop : Stop) → StopsAt (IsRefusedBrain 1 first) stop → StopsAt (IsRefusedPair first second) stop
-stops_at_one first second OutOfMemory is = tt
-stops_at_one first second (Refused refusal) is = IsRefusedPair.First is
-
-pub stops_at_other : (first second : List ℕ) (stop : Stop) (brain : List Instr) → GivesBrain first brain → StopsAt (IsRefusedBrain 2 second) stop → StopsAt (IsRefusedPair first second) stop
-stops_at_other first second OutOfMemory brain is_first is = tt
-stops_at_other first second (Refused refusal) brain is_first is = IsRefusedPair.Second brain is_first is
 
 -- a call that is stopped with status 5 tells why
 pub stopped_tells : (Why : Refusal → Type 0) (stop : Stop) (status : ℕ) (fault told : AntsFault) (before after : List ℕ) → IsStopped stop status fault told before after

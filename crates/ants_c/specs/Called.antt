@@ -1,15 +1,20 @@
 -- A call of the whole program, over files in memory (this project's own).
-use Rattle.std.specs.Prelude.{◌≡◌, ◌≢◌, ◌⊎◌, ◌&&◌, ℕ, List, [], ◌∷◌, length, take, drop, Some, nat_le, if◌then◌else◌}
+use Rattle.std.specs.Prelude.{◌≡◌, ◌≢◌, ◌⊎◌, Bool, ◌&&◌, ℕ, List, [], ◌∷◌, length, take, drop, Some, nat_le, if◌then◌else◌, unwrap_or}
 use Rattle.std.specs.List.{AllByRecursion, sum}
 use Rattle.std.specs.Str.{IsUtf8}
 use Rattle.ant_base.specs.Lines.{lines_of}
 use Rattle.ant_base.specs.MemShelf.{shelf_of}
 use Rattle.ant_base.specs.Shelf.{ShelfState}
 use Rattle.ant_base.specs.Sink.{SinkState}
+use Rattle.ant_commands.specs.FaultLines.{Ending, ending_status}
 use Rattle.ant_commands.specs.Outside.{outside_of}
-use Rattle.ant_commands.specs.Run.{IsRunTo}
+use Rattle.ant_commands.specs.Run.{IsRun}
+use Rattle.ant_commands.specs.Status.{status_number}
+use Rattle.ant_commands.specs.declared.status.Status.TheVariants.{Write}
 use Rattle.command_words.specs.Far.{words_without_far}
+use Rattle.ants_c.specs.Ended.{ending_fault, ending_line}
 use Rattle.ants_c.specs.Rooms.{counted, overlaid}
+use Rattle.ants_c.specs.declared.fault.AntsFault.{AntsFault}
 
 -- the files of these names: each takes as many of the bytes that are left as its size says
 abbrev pub files_in : List (List ℕ) → List ℕ → List ℕ → List (List ℕ × List ℕ)
@@ -35,32 +40,52 @@ shelf_with files = shelf_of (record { files = files; failing = []; calls = 0; fa
 abbrev pub holding : List ℕ → SinkState
 holding bytes = record { held = Some bytes; waiting = Some []; faults = 0 }
 
--- the program ran with these words over these files to this number, wrote this text, and reported this line
-pub record Runs (words : List (List ℕ)) (files : List (List ℕ × List ℕ)) (text line : List ℕ) (number : ℕ) : Type 0 where
+-- the program ran with these words over these files and ended so; it wrote this text, and said this line, which is the whole line of its ending
+pub record Runs (words : List (List ℕ)) (files : List (List ℕ × List ℕ)) (text line : List ℕ) (ending : Ending) : Type 0 where
   pub shelf : ShelfState
-  pub run : IsRunTo (words_without_far words) (outside_of (shelf_with files) (holding []) (holding [])) (outside_of shelf (holding text) (holding line)) number
+  pub run : IsRun (words_without_far words) (outside_of (shelf_with files) (holding []) (holding [])) (outside_of shelf (holding text) (holding line)) (ending_status ending)
+  pub is_ending : run.ending ≡ ending
+  pub is_line : line ≡ ending_line ending
 
--- the status of a call: 4 where its text or its line is longer than the room for it, else the program's
-abbrev pub call_status : List ℕ → List ℕ → List ℕ → List ℕ → ℕ → ℕ
-call_status text out line said number = if nat_le (length text) (length out) && nat_le (length line) (length said) then number else 4
+-- what a caller lends to a call: the rooms for the text and for the line, the counts of their bytes, and the fault
+pub record Lent : Type 0 where
+  pub out : List ℕ
+  pub used : ℕ
+  pub said : List ℕ
+  pub told : ℕ
+  pub fault : AntsFault
 
--- the program ran so: its text lies over the one room and its line over the other, and the bytes of both were counted; its own number is never 4
-pub record IsCalled (words : List (List ℕ)) (files : List (List ℕ × List ℕ)) (out new_out : List ℕ) (used : ℕ) (said new_said : List ℕ) (told status : ℕ) : Type 0 where
+abbrev pub lent : List ℕ → ℕ → List ℕ → ℕ → AntsFault → Lent
+lent out used said told fault = record { out = out; used = used; said = said; told = told; fault = fault }
+
+-- whether a text and a line are no longer than the rooms for them
+abbrev pub have_room : List ℕ → List ℕ → Lent → Bool
+have_room text line lent = nat_le (length text) (length lent.out) && nat_le (length line) (length lent.said)
+
+-- the status of a call: that of the run where the text and the line have room, otherwise 4
+abbrev pub call_status : List ℕ → List ℕ → Lent → Ending → ℕ
+call_status text line lent ending = if have_room text line lent then status_number (ending_status ending) else 4
+
+-- the fault after a call: how the run ended, in numbers, where the text and the line have room and the ending has numbers; otherwise as before
+abbrev pub call_fault : List (List ℕ) → List (List ℕ) → List ℕ → List ℕ → Lent → Ending → AntsFault
+call_fault words names text line lent ending = if have_room text line lent then unwrap_or (ending_fault words names ending) lent.fault else lent.fault
+
+-- the program ran so over files of these names: its text and its line lie over the rooms, their bytes were counted, and the status and the
+-- fault say how it ended; it never ends at its output, whose number is 4
+pub record IsCalled (words names : List (List ℕ)) (files : List (List ℕ × List ℕ)) (before after : Lent) (status : ℕ) : Type 0 where
   pub text : List ℕ
   pub line : List ℕ
-  pub number : ℕ
-  pub runs : Runs words files text line number
-  pub unfailing : number ≢ 4
-  pub written : new_out ≡ overlaid out text
-  pub count : used ≡ counted text
-  pub reported : new_said ≡ overlaid said line
-  pub line_count : told ≡ counted line
-  pub answered : status ≡ call_status text out line said number
+  pub ending : Ending
+  pub runs : Runs words files text line ending
+  pub unfailing : ending_status ending ≢ Write
+  pub written : after.out ≡ overlaid before.out text
+  pub count : after.used ≡ counted text
+  pub reported : after.said ≡ overlaid before.said line
+  pub line_count : after.told ≡ counted line
+  pub answered : status ≡ call_status text line before ending
+  pub faulted : after.fault ≡ call_fault words names text line before ending
 
 -- nothing ran and nothing was written: what was given can't be read, or memory could not be had
-pub record IsNotCalled (out new_out : List ℕ) (used new_used : ℕ) (said new_said : List ℕ) (told new_told status : ℕ) : Type 0 where
+pub record IsNotCalled (before after : Lent) (status : ℕ) : Type 0 where
   pub either : (status ≡ 1) ⊎ (status ≡ 6)
-  pub unwritten : new_out ≡ out
-  pub uncounted : new_used ≡ used
-  pub unreported : new_said ≡ said
-  pub untold : new_told ≡ told
+  pub unwritten : after ≡ before

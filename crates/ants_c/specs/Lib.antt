@@ -1,12 +1,11 @@
 pub mod Called
+pub mod Ended
 pub mod Looked
 pub mod Numbers
 pub mod Played
 pub mod Refused
 pub mod RoomSinks
 pub mod Rooms
-pub mod Saves
-pub mod Texts
 pub mod Told
 pub mod Version
 pub mod Words

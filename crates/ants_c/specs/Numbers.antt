@@ -4,13 +4,17 @@ use Rattle.ant_asm.specs.declared.fault.AsmFault.{AsmFault}
 use Rattle.ant_asm.specs.declared.fault.AsmFault.TheVariants as labelled
 use Rattle.brain_read.specs.declared.fault.BrainFault.{BrainFault}
 use Rattle.brain_read.specs.declared.fault.BrainFault.TheVariants as brain
+use Rattle.break_view.specs.declared.fault.BreakFault.{BreakFault}
+use Rattle.break_view.specs.declared.fault.BreakFault.TheVariants as breaks
 use Rattle.match_save.specs.declared.fault.SaveFault.{SaveFault}
 use Rattle.match_save.specs.declared.fault.SaveFault.TheVariants as save
 use Rattle.world_read.specs.declared.fault.WorldFault.{WorldFault}
 use Rattle.world_read.specs.declared.fault.WorldFault.TheVariants as world
 use Rattle.ants_c.specs.declared.numbers.Numbers.{Numbers}
 use Rattle.ants_c.specs.declared.refusal.CallFault.{CallFault}
-use Rattle.ants_c.specs.declared.refusal.CallFault.TheVariants.{NoRoom, Text}
+use Rattle.ants_c.specs.declared.refusal.CallFault.TheVariants.{File, NoRoom}
+use Rattle.ant_commands.specs.declared.stop.FileFault.TheVariants.{Breaks, Text}
+use Rattle.text_fault.specs.declared.fault.TextFault.{TextFault}
 use Rattle.text_fault.specs.declared.fault.TextFault.TheVariants.{TooLong, World, Brain, Labelled, Save, AlreadyAt}
 
 -- a kind without further numbers
@@ -70,12 +74,26 @@ save_numbers (save.BadLine line) = at_line 50 line
 save_numbers save.BadState = bare 51
 save_numbers save.OutOfMemory = bare 0
 
--- of what is wrong with a text
+-- of the fault of a list of breaks: its kind and line
+abbrev pub break_numbers : BreakFault → Numbers
+break_numbers (breaks.UnknownWord line) = at_line 70 line
+break_numbers (breaks.MissingToken line) = at_line 71 line
+break_numbers (breaks.BadNumber line) = at_line 72 line
+break_numbers (breaks.ExtraToken line) = at_line 73 line
+break_numbers (breaks.TooMany line) = at_line 74 line
+break_numbers breaks.OutOfMemory = bare 0
+
+-- of the fault of any other text
+abbrev pub text_numbers : TextFault → Numbers
+text_numbers TooLong = bare 1
+text_numbers (World why) = world_numbers why
+text_numbers (Brain why) = brain_numbers why
+text_numbers (Labelled why) = labelled_numbers why
+text_numbers (Save why) = save_numbers why
+text_numbers (AlreadyAt round) = record { kind = 52; line = 0; column = 0; number = round }
+
+-- of what is wrong with a text, or the element of a world that has no room
 abbrev pub numbers_of : CallFault → Numbers
-numbers_of (Text TooLong) = bare 1
-numbers_of (Text (World why)) = world_numbers why
-numbers_of (Text (Brain why)) = brain_numbers why
-numbers_of (Text (Labelled why)) = labelled_numbers why
-numbers_of (Text (Save why)) = save_numbers why
-numbers_of (Text (AlreadyAt round)) = record { kind = 52; line = 0; column = 0; number = round }
+numbers_of (File (Text fault)) = text_numbers fault
+numbers_of (File (Breaks fault)) = break_numbers fault
 numbers_of (NoRoom element) = record { kind = 60; line = 0; column = 0; number = element }

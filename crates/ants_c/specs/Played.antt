@@ -5,8 +5,7 @@ use Rattle.brain_read.specs.declared.instr.Instr.{Instr}
 use Rattle.cell_world.specs.declared.score.Score.{Score}
 use Rattle.cell_world.specs.Grid.{Grid, world_of}
 use Rattle.cell_world.specs.Score.{score_of}
-use Rattle.match_run.specs.Dumps.{has_round}
-use Rattle.match_run.specs.Run.{run_text, world_after}
+use Rattle.match_run.specs.Run.{world_after}
 use Rattle.text_fault.specs.Opens.{GivesBrain, GivesWorld}
 use Rattle.world_read.specs.Opened.{IsOpeningWorld}
 use Rattle.ants_c.specs.declared.score.AntsScore.{AntsScore}
@@ -52,11 +51,3 @@ pub record AreScored (world_text red_text black_text : List ℕ) (seeds : List �
   pub black : List Instr
   pub is_game : IsGame world_text red_text black_text world red black
   pub are : after ≡ map (game_score world red black rounds) seeds ++ drop (length seeds) before
-
--- three texts are a game's, and a text is that of its run with this seed and so many rounds, with the dumps of these rounds
-pub record IsRunText (world_text red_text black_text : List ℕ) (seed rounds : ℕ) (dumps : List ℕ) (text : List ℕ) : Type 0 where
-  pub world : Grid
-  pub red : List Instr
-  pub black : List Instr
-  pub is_game : IsGame world_text red_text black_text world red black
-  pub is_text : text ≡ run_text (contest_minds red black) seed rounds (has_round dumps) (world_of world)

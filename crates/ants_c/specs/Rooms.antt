@@ -21,12 +21,6 @@ pub record IsPut (text before after : List ℕ) (used status : ℕ) : Type 0 whe
   pub count : used ≡ counted text
   pub answered : status ≡ room_status (length text) before
 
--- a text with this property was put so
-pub record Answers (Is : List ℕ → Type 0) (before after : List ℕ) (used status : ℕ) : Type 0 where
-  pub text : List ℕ
-  pub is : Is text
-  pub put : IsPut text before after used status
-
 -- a status at which a text is laid over the room: all of it, or as much as the room holds
 abbrev pub Writes : ℕ → Type 0
 Writes status = (status ≡ 0) ⊎ (status ≡ 4)

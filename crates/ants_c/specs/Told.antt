@@ -6,7 +6,8 @@ use Rattle.ants_c.specs.Numbers.{numbers_of}
 use Rattle.ants_c.specs.Rooms.{counted, overlaid}
 use Rattle.ants_c.specs.Words.{fault_words}
 use Rattle.ants_c.specs.declared.fault.AntsFault.{AntsFault}
-use Rattle.ants_c.specs.declared.refusal.CallFault.TheVariants.{Text}
+use Rattle.ant_commands.specs.declared.stop.FileFault.TheVariants.{Text}
+use Rattle.ants_c.specs.declared.refusal.CallFault.TheVariants.{File}
 use Rattle.ants_c.specs.declared.refusal.Refusal.{Refusal}
 use Rattle.ants_c.specs.declared.refusal.Stop.{Stop}
 use Rattle.ants_c.specs.declared.refusal.Stop.TheVariants.{OutOfMemory, Refused}
@@ -38,7 +39,7 @@ StopsAt Why (Refused refusal) = Why refusal
 abbrev pub numbered : {V : Type 0} → ℕ → Result V TextStop → Result V Stop
 numbered number (Ok value) = Ok value
 numbered number (Err text.OutOfMemory) = Err OutOfMemory
-numbered number (Err (text.Refused fault)) = Err (Refused (record { text = number; fault = Text fault }))
+numbered number (Err (text.Refused fault)) = Err (Refused (record { text = number; fault = File (Text fault) }))
 
 -- what a stopped call answers, and what it does to the fault and to the room for words that the caller lent
 abbrev pub IsStopped : Stop → ℕ → AntsFault → AntsFault → List ℕ → List ℕ → Type 0

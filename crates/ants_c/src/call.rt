@@ -1,19 +1,17 @@
 // The words and the files of a call of the program, and a run of it.
-ghost use Rattle.std.specs.Prelude.{◌≡◌, ◌++◌, IfOk, IfSome, IfNone};
+ghost use Rattle.std.specs.Prelude.{◌≡◌, ◌<◌, ◌^◌, ◌&&◌, ◌++◌, IfOk, IfSome, IfNone, length, nat_le};
 ghost use Rattle.std.specs.List.{AllByRecursion};
 ghost use Rattle.std.specs.Str.{IsUtf8};
 ghost use Rattle.ant_base.specs.Lines.{lines_of};
-ghost use Rattle.ant_commands.specs.Status.{status_number};
+ghost use Rattle.ant_commands.specs.FaultLines.{ending_status, plain_ending};
 ghost use Rattle.command_words.specs.Words.{texts};
-ghost use Rattle.ants_c.specs.Called.{AreFiles, IsCalled, Runs, files_in};
+ghost use Rattle.ants_c.specs.Called.{AreFiles, Runs, files_in};
 ghost use Rattle.ants_c.specs.Rooms.{behind, counted, overlaid};
 
 use crate::room_log::RoomLog;
 use crate::room_sink::RoomSink;
-use crate::status::{DONE, NO_ROOM};
-use crate::texts::status_of;
 use ant_base::{Calls, Files, Lines, MemShelf, OutOfMemory, cut_line};
-use ant_commands::{Status, run_alone};
+use ant_commands::{Ended, Status, run_alone};
 use std::alloc::Global;
 
 /// The lines of a text as words; none where one isn't UTF-8.
@@ -66,80 +64,68 @@ pub fn files_of(
 }
 
 // Runs the program with these words over these files, into two rooms.
-fn run_in_rooms(
+fn run_in_rooms<'w>(
     alloc: Global,
-    words: &[String],
+    words: &'w [String],
     files: Files,
     output: &mut RoomSink<'_>,
     errors: &mut RoomSink<'_>,
-) -> Status
-    ensures runs { Runs (texts words.now) files.files (behind output.old.log.bytes output.new.log.bytes) (behind errors.old.log.bytes errors.new.log.bytes) (status_number result) }
+) -> Ended<'w>
+    ensures runs { Runs (texts words.now) files.files (behind output.old.log.bytes output.new.log.bytes) (behind errors.old.log.bytes errors.new.log.bytes) (plain_ending result) }
     ensures out_name { output.new.room.ghost_name ≡ output.old.room.ghost_name }
     ensures out_log { output.new.log.bytes ≡ output.old.log.bytes ++ behind output.old.log.bytes output.new.log.bytes }
     ensures said_name { errors.new.room.ghost_name ≡ errors.old.room.ghost_name }
     ensures said_log { errors.new.log.bytes ≡ errors.old.log.bytes ++ behind errors.old.log.bytes errors.new.log.bytes }
-    ensures unfailing { result ≡ Status.Write → ⊥ }
+    ensures unfailing { ending_status (plain_ending result) ≡ Status.Write → ⊥ }
 {
     let mut shelf = MemShelf::new(files, Calls::new(alloc));
     run_alone(alloc, words, &mut shelf, output, errors)
 }
 
-// How the program ran: its status, how many bytes it wrote and reported, and what the two rooms held with these behind.
+/// How the program ran: how it ended, how many bytes it wrote and reported, and what the two rooms held with these behind.
 #[derive(Drop)]
-struct Ran {
-    status: Status,
-    used: usize,
-    told: usize,
+pub struct Ran<'w> {
+    pub ended: Ended<'w>,
+    pub used: usize,
+    pub told: usize,
     text: RoomLog,
     line: RoomLog,
 }
 
-// Runs the program with these words over these files, and lays what it writes and what it reports over two rooms.
-fn lay_program(
+/// Whether what the program wrote and what it reported have room in these two rooms.
+pub fn has_room(ran: &Ran<'_>, out: &[u8], said: &[u8]) -> bool
+    ensures room { result ≡ (nat_le ran.now.used (length out.now) && nat_le ran.now.told (length said.now)) }
+    ensures short_out { length out.now < 2 ^ 63 }
+    ensures short_said { length said.now < 2 ^ 63 }
+{
+    let out_room = out.len();
+    let said_room = said.len();
+    ran.used <= out_room && ran.told <= said_room
+}
+
+/// Runs the program with these words over these files, and lays what it writes and what it reports over two rooms.
+pub fn lay_program<'w>(
     alloc: Global,
-    words: &[String],
+    words: &'w [String],
     files: Files,
     out: &mut [u8],
     said: &mut [u8],
-) -> Ran
-    ensures runs { Runs (texts words.now) files.files (behind out.old result.text.bytes) (behind said.old result.line.bytes) (status_number result.status) }
+) -> Ran<'w>
+    ensures runs { Runs (texts words.now) files.files (behind out.old result.text.bytes) (behind said.old result.line.bytes) (plain_ending result.ended) }
     ensures out { out.new ≡ overlaid out.old (behind out.old result.text.bytes) }
     ensures used { result.used ≡ counted (behind out.old result.text.bytes) }
     ensures said { said.new ≡ overlaid said.old (behind said.old result.line.bytes) }
     ensures told { result.told ≡ counted (behind said.old result.line.bytes) }
-    ensures unfailing { result.status ≡ Status.Write → ⊥ }
+    ensures unfailing { ending_status (plain_ending result.ended) ≡ Status.Write → ⊥ }
 {
     let mut output = RoomSink::new(out);
     let mut errors = RoomSink::new(said);
-    let status = run_in_rooms(alloc, words, files, &mut output, &mut errors);
+    let ended = run_in_rooms(alloc, words, files, &mut output, &mut errors);
     Ran {
-        status,
+        ended,
         used: output.pushed(),
         told: errors.pushed(),
         text: output.log(),
         line: errors.log(),
     }
-}
-
-/// Runs the program with these words over these files, lays what it writes and what it reports over two rooms, says how many bytes each
-/// has, and gives the status.
-pub fn call_program(
-    alloc: Global,
-    words: &[String],
-    files: Files,
-    out: &mut [u8],
-    used: &mut usize,
-    said: &mut [u8],
-    told: &mut usize,
-) -> u32
-    ensures ran { result ≡ 1 → ⊥ }
-    ensures called { IsCalled (texts words.now) files.files out.old out.new used.new said.old said.new told.new result }
-{
-    let ran = lay_program(alloc, words, files, out, said);
-    *used = ran.used;
-    *told = ran.told;
-    if status_of(ran.used, out) != DONE || status_of(ran.told, said) != DONE {
-        return NO_ROOM;
-    }
-    u32::from(ran.status.number())
 }

@@ -1,10 +1,12 @@
 // The numbers of faults.
 ghost use Rattle.std.specs.Prelude.{◌≡◌};
-ghost use Rattle.ants_c.specs.Numbers.{at_line, bare, brain_numbers, labelled_numbers, numbers_of, save_numbers, world_numbers};
+ghost use Rattle.ants_c.specs.Numbers.{at_line, bare, brain_numbers, break_numbers, labelled_numbers, numbers_of, save_numbers, text_numbers, world_numbers};
 
 use crate::refusal::CallFault;
 use ant_asm::AsmFault;
+use ant_commands::FileFault;
 use brain_read::BrainFault;
+use break_view::BreakFault;
 use match_save::SaveFault;
 use text_fault::TextFault;
 use world_read::WorldFault;
@@ -118,20 +120,44 @@ fn save_numbers(fault: SaveFault) -> Numbers
     }
 }
 
-/// The numbers of what is wrong with a text.
+// The numbers of the fault of a list of breaks.
+fn break_numbers(fault: BreakFault) -> Numbers
+    ensures { result ≡ break_numbers fault }
+{
+    match fault {
+        BreakFault::UnknownWord { line } => at_line(70, line),
+        BreakFault::MissingToken { line } => at_line(71, line),
+        BreakFault::BadNumber { line } => at_line(72, line),
+        BreakFault::ExtraToken { line } => at_line(73, line),
+        BreakFault::TooMany { line } => at_line(74, line),
+        BreakFault::OutOfMemory => bare(0),
+    }
+}
+
+// The numbers of the fault of any other text.
+fn text_numbers(fault: TextFault) -> Numbers
+    ensures { result ≡ text_numbers fault }
+{
+    match fault {
+        TextFault::TooLong => bare(1),
+        TextFault::World(why) => world_numbers(why),
+        TextFault::Brain(why) => brain_numbers(why),
+        TextFault::Labelled(why) => labelled_numbers(why),
+        TextFault::Save(why) => save_numbers(why),
+        TextFault::AlreadyAt(round) => Numbers {
+            number: u64::from(round),
+            ..bare(52)
+        },
+    }
+}
+
+/// The numbers of what is wrong with a text, or of the element of a world that has no room.
 pub fn numbers_of(fault: CallFault) -> Numbers
     ensures { result ≡ numbers_of fault }
 {
     match fault {
-        CallFault::Text(TextFault::TooLong) => bare(1),
-        CallFault::Text(TextFault::World(why)) => world_numbers(why),
-        CallFault::Text(TextFault::Brain(why)) => brain_numbers(why),
-        CallFault::Text(TextFault::Labelled(why)) => labelled_numbers(why),
-        CallFault::Text(TextFault::Save(why)) => save_numbers(why),
-        CallFault::Text(TextFault::AlreadyAt(round)) => Numbers {
-            number: u64::from(round),
-            ..bare(52)
-        },
+        CallFault::File(FileFault::Text(why)) => text_numbers(why),
+        CallFault::File(FileFault::Breaks(why)) => break_numbers(why),
         CallFault::NoRoom(element) => Numbers {
             number: u64::from(element),
             ..bare(60)

@@ -1,13 +1,13 @@
 // Why texts were not read.
 use ant_base::{Failed, Layout, Sink};
-use text_fault::TextFault;
+use ant_commands::FileFault;
 use world_gen::GenFault;
 
 /// What is wrong with a text, or with a world to be generated.
 #[derive(Clone, Copy)]
 pub enum CallFault {
     /// A text is refused.
-    Text(TextFault),
+    File(FileFault),
     /// This element has no room.
     NoRoom(u32),
 }
@@ -19,7 +19,7 @@ impl Layout for CallFault {
 
     fn push_to<K: Sink>(&self, sink: &mut K) -> Result<(), Failed> {
         match *self {
-            CallFault::Text(fault) => fault.push_to(sink),
+            CallFault::File(fault) => fault.push_to(sink),
             CallFault::NoRoom(element) => GenFault::NoRoom { element }.push_to(sink),
         }
     }

@@ -1,6 +1,6 @@
 // What a call answers where it stops.
 ghost use Rattle.std.specs.Prelude.{◌≡◌, ◌⊎◌};
-ghost use Rattle.ants_c.specs.Rooms.{overlaid};
+ghost use Rattle.ants_c.specs.Rooms.{counted, overlaid};
 ghost use Rattle.ants_c.specs.Told.{IsStopped, told_fault};
 ghost use Rattle.ants_c.specs.Words.{fault_words};
 
@@ -10,21 +10,37 @@ use crate::refusal::{Refusal, Stop};
 use crate::status::{MEMORY, REFUSED};
 use crate::texts::lay;
 
-// Tells a refusal: its numbers, and its words in the room for them.
-fn tell(refusal: Refusal, fault: &mut AntsFault, words: &mut [u8])
-    ensures fault { fault.new ≡ told_fault refusal }
-    ensures words { words.new ≡ overlaid words.old (fault_words refusal.fault) }
+// The numbers of a refusal whose words have so many bytes.
+fn fault_of(refusal: Refusal, size: usize) -> AntsFault
+    requires { size ≡ counted (fault_words refusal.fault) }
+    ensures { result ≡ told_fault refusal }
 {
     let numbers = numbers_of(refusal.fault);
-    let size = lay(&refusal.fault, words);
-    *fault = AntsFault {
+    AntsFault {
         text: refusal.text,
         kind: numbers.kind,
         line: numbers.line,
         column: numbers.column,
         number: numbers.number,
         words: size as u64,
-    };
+    }
+}
+
+/// The numbers of a refusal.
+pub fn told_fault(refusal: Refusal) -> AntsFault
+    ensures { result ≡ told_fault refusal }
+{
+    let size = lay(&refusal.fault, &mut []);
+    fault_of(refusal, size)
+}
+
+// Tells a refusal: its numbers, and its words in the room for them.
+fn tell(refusal: Refusal, fault: &mut AntsFault, words: &mut [u8])
+    ensures fault { fault.new ≡ told_fault refusal }
+    ensures words { words.new ≡ overlaid words.old (fault_words refusal.fault) }
+{
+    let size = lay(&refusal.fault, words);
+    *fault = fault_of(refusal, size);
 }
 
 /// Says why texts were not read: the status; and of a refused text the numbers and the words of its fault.

@@ -77,7 +77,7 @@ pub mod kind {
     pub const PROGRAM_TWICE: u32 = 37;
     /// No such block.
     pub const PROGRAM_NO_BLOCK: u32 = 38;
-    /// Another number of labels.
+    /// A different number of labels.
     pub const PROGRAM_WRONG_COUNT: u32 = 39;
     /// Too many.
     pub const PROGRAM_TOO_MANY: u32 = 40;
@@ -91,10 +91,20 @@ pub mod kind {
     pub const SAVE_BAD_LINE: u32 = 50;
     /// No state of a game.
     pub const SAVE_BAD_STATE: u32 = 51;
-    /// More rounds are done than are asked for.
+    /// More rounds are done than were requested.
     pub const SAVE_ALREADY_AT: u32 = 52;
     /// An element of a world to be generated has no room.
     pub const NO_ROOM: u32 = 60;
+    /// An unknown word.
+    pub const BREAKS_UNKNOWN_WORD: u32 = 70;
+    /// A token is missing.
+    pub const BREAKS_MISSING_TOKEN: u32 = 71;
+    /// A bad number.
+    pub const BREAKS_BAD_NUMBER: u32 = 72;
+    /// A token more.
+    pub const BREAKS_EXTRA_TOKEN: u32 = 73;
+    /// Too many breaks.
+    pub const BREAKS_TOO_MANY: u32 = 74;
 }
 
 /// An ant: 16 bytes. Of one that is dead all numbers are 0.
@@ -119,21 +129,23 @@ pub struct Ant {
     pub laden: u8,
 }
 
-/// Why a text was refused, in numbers (this project's own). The kinds are those of [`kind`].
+/// Why a text, a word or a call was refused, in numbers (this project's own). The kinds are those of [`kind`].
 #[repr(C)]
 #[derive(Clone, Copy, Debug, Default, PartialEq, Eq)]
 pub struct Fault {
-    /// Which text, from 1 in the order in which the texts are passed; 0 where it is of no text.
+    /// Which text, counted from 1 in the order in which the texts are passed; for `ants_call` which
+    /// file, in the order of the names. 0 if the fault is of no text.
     pub text: u32,
-    /// The kind.
+    /// The kind. 0 if a word of `ants_call` is at fault.
     pub kind: u32,
-    /// The line, from 1, or the row of a world, from 0; 0 where the kind has none.
+    /// The line, counted from 1, or the row of a world, counted from 0. 0 if the kind has neither.
     pub line: u32,
-    /// The column of a world, from 0; 0 where the kind has none.
+    /// The column of a world, counted from 0. 0 if the kind has none.
     pub column: u32,
-    /// How many ants there are (18), the state that is not there (27), the round of the save (52), or the element's number (60); else 0.
+    /// The number of ants (kind 18), the missing state (27), the round of the save (52), the element,
+    /// counted from 0 (60), or the word, counted from 1 (kind 0). Otherwise 0.
     pub number: u64,
-    /// How many bytes the words of the fault have.
+    /// The length of the fault's words, in bytes. 0 if a word of `ants_call` is at fault.
     pub words: u64,
 }
 
@@ -147,9 +159,14 @@ pub struct Score {
     pub black: u32,
 }
 
-/// Lays the version of the library over `out`: what the program's `--version` prints between `ants ` and the LF (this project's own).
-/// Returns 0 or 4, and writes for each what `ants_run` writes. This function stays as it is in each version, so that a caller who was built for
-/// another one can ask before any other call.
+/// Writes the version of the library to `out`: what the program's `--version` prints between `ants
+/// ` and the LF (this project's own). The status is
+/// - 0: `out` begins with the version;
+/// - 4: the version is longer than `out`, which holds the front of it.
+///
+/// `used` is the length of the version in both cases, and the bytes of `out` beyond it are
+/// unchanged. This function never changes, so a caller that was built for a different version can
+/// call it before any other function.
 pub fn ants_version(out: &mut [u8], used: &mut usize) -> u32 {
     unsafe { c::ants_version(out.as_mut_ptr(), out.len(), used) }
 }
@@ -258,170 +275,32 @@ pub fn ants_look(
     }
 }
 
-/// Plays a game as `ants_score` does, and lays the text of its run over `out`: what the program's `run` prints with one worker, without
-/// counts, with the dumps of these rounds (the task's game play). The status is that of `ants_score`, or
-/// - 4: the text is longer than `out`, which holds the front of it.
+/// Runs a command of the program over files that you pass (this project's own). `words` has a line
+/// for each word of the command line, without the program's name. `names` has a line for each file,
+/// and `-` is a name like any other. `sizes` has the length of each file, and `bytes` has the files
+/// one after another, in the order of the names. If two files have the same name, the first one is
+/// used. `--far` is not an option. The call writes the program's output to `out`, and the line that
+/// says what is wrong to `said`. The status is the program's own:
+/// - 0: done; nothing is wrong, so there is no line;
+/// - 2: the words are not a command; the fault's `number` is the first refused word, counted from
+///   1;
+/// - 3: the words name a file that is not among `names`; the fault's `number` is the first word
+///   that names it, counted from 1;
+/// - 5: a file is refused, and the fault says which file and why; or an element of the world to be
+///   generated has no room (kind 60);
+/// - 6: out of memory.
 ///
-/// `used` is the length of the text at 0 and at 4; what it doesn't reach of `out` stays. `out` and `used` are written at 0 and 4 alone, the
-/// fault and the words at 5 alone.
-pub fn ants_run(
-    world: &[u8],
-    red: &[u8],
-    black: &[u8],
-    seed: u32,
-    rounds: u32,
-    dumps: &[u32],
-    out: &mut [u8],
-    used: &mut usize,
-    fault: &mut Fault,
-    words: &mut [u8],
-) -> u32 {
-    unsafe {
-        c::ants_run(
-            world.as_ptr(),
-            world.len(),
-            red.as_ptr(),
-            red.len(),
-            black.as_ptr(),
-            black.len(),
-            seed,
-            rounds,
-            dumps.as_ptr(),
-            dumps.len(),
-            out.as_mut_ptr(),
-            out.len(),
-            used,
-            fault,
-            words.as_mut_ptr(),
-            words.len(),
-        )
-    }
-}
-
-/// Lays the canonical text of a brain over `out`, as the program's `brain` (the task's neurology). The status is 0, 4, 5 or 6, and what is
-/// written is so, as at `ants_run`.
-pub fn ants_brain(brain: &[u8], out: &mut [u8], used: &mut usize, fault: &mut Fault, words: &mut [u8]) -> u32 {
-    unsafe { c::ants_brain(brain.as_ptr(), brain.len(), out.as_mut_ptr(), out.len(), used, fault, words.as_mut_ptr(), words.len()) }
-}
-
-/// Lays the canonical text of a brain, minimised, over `out`: what the program's `minimise` writes below its first line (over the task's
-/// neurology). Returns 0, 4, 5 or 6, and writes for each what `ants_run` writes.
-pub fn ants_minimise(brain: &[u8], out: &mut [u8], used: &mut usize, fault: &mut Fault, words: &mut [u8]) -> u32 {
-    unsafe { c::ants_minimise(brain.as_ptr(), brain.len(), out.as_mut_ptr(), out.len(), used, fault, words.as_mut_ptr(), words.len()) }
-}
-
-/// Lays the canonical text of the brain that a labelled program becomes over `out`, as the program's `asm` (this project's own).
-/// Returns 0, 4, 5 or 6, and writes for each what `ants_run` writes.
-pub fn ants_asm(program: &[u8], out: &mut [u8], used: &mut usize, fault: &mut Fault, words: &mut [u8]) -> u32 {
-    unsafe { c::ants_asm(program.as_ptr(), program.len(), out.as_mut_ptr(), out.len(), used, fault, words.as_mut_ptr(), words.len()) }
-}
-
-/// Lays `same`, or the three lines of where two brains first differ, over `out`, as the program's `same` (over the task's neurology).
-/// Returns 0, 4, 5 or 6, and writes for each what `ants_run` writes.
-pub fn ants_same(first: &[u8], second: &[u8], out: &mut [u8], used: &mut usize, fault: &mut Fault, words: &mut [u8]) -> u32 {
-    unsafe {
-        c::ants_same(
-            first.as_ptr(),
-            first.len(),
-            second.as_ptr(),
-            second.len(),
-            out.as_mut_ptr(),
-            out.len(),
-            used,
-            fault,
-            words.as_mut_ptr(),
-            words.len(),
-        )
-    }
-}
-
-/// Lays the canonical text of the world of a seed and a shape over `out`, as the program's `gen` (the task's contest worlds). The status is 0,
-/// 4 or 6, as at `ants_run`, or
-/// - 2: the width or the height is not from 3 to 512, or there are more than 255 rocks or blobs of food;
-/// - 5: an element has no room, the first that has none.
+/// Or the call itself fails:
+/// - 1: the words or the names aren't UTF-8, the number of sizes isn't the number of names, or the
+///   sizes don't add up to the length of `bytes`;
+/// - 4: the output is longer than `out`, or the line is longer than `said`; both hold as much as
+///   they have room for.
 ///
-/// What is written is so as at `ants_run`.
-pub fn ants_gen(
-    seed: u32,
-    width: u32,
-    height: u32,
-    rocks: u32,
-    blobs: u32,
-    out: &mut [u8],
-    used: &mut usize,
-    fault: &mut Fault,
-    words: &mut [u8],
-) -> u32 {
-    unsafe { c::ants_gen(seed, width, height, rocks, blobs, out.as_mut_ptr(), out.len(), used, fault, words.as_mut_ptr(), words.len()) }
-}
-
-/// Plays a game as `ants_score` does, and lays the text of its save after so many rounds over `out`, as the program's `save` (this project's own).
-/// Returns 0, 2, 4, 5 or 6, and writes for each what `ants_run` writes. Nothing is written before the last round is played.
-pub fn ants_save(
-    world: &[u8],
-    red: &[u8],
-    black: &[u8],
-    seed: u32,
-    rounds: u32,
-    out: &mut [u8],
-    used: &mut usize,
-    fault: &mut Fault,
-    words: &mut [u8],
-) -> u32 {
-    unsafe {
-        c::ants_save(
-            world.as_ptr(),
-            world.len(),
-            red.as_ptr(),
-            red.len(),
-            black.as_ptr(),
-            black.len(),
-            seed,
-            rounds,
-            out.as_mut_ptr(),
-            out.len(),
-            used,
-            fault,
-            words.as_mut_ptr(),
-            words.len(),
-        )
-    }
-}
-
-/// Goes on with the game of a save until so many rounds are done in all, and lays the rest of its text over `out`, as the program's `resume` with
-/// one worker: the later rounds' dumps of these, and the score (this project's own). The status is 0, 2, 4 or 6 as at `ants_run`, or
-/// - 5: the text is no save's, or that of a save of which more rounds are done.
-///
-/// What is written is so as at `ants_run`.
-pub fn ants_resume(save: &[u8], rounds: u32, dumps: &[u32], out: &mut [u8], used: &mut usize, fault: &mut Fault, words: &mut [u8]) -> u32 {
-    unsafe {
-        c::ants_resume(
-            save.as_ptr(),
-            save.len(),
-            rounds,
-            dumps.as_ptr(),
-            dumps.len(),
-            out.as_mut_ptr(),
-            out.len(),
-            used,
-            fault,
-            words.as_mut_ptr(),
-            words.len(),
-        )
-    }
-}
-
-/// Runs the whole program over files that the caller holds (this project's own). The lines of `words` are its words, without its name; the
-/// lines of `names` are the names of the files, `-` too, each of which takes as many of `bytes` as its size says, in their order. Of a name
-/// that stands twice the first file counts, and `--far` is no option. What the program writes to its output is laid over `out`, and the line
-/// in which it says what is wrong over `said`. The status is the program's own: 0, 2 where the words are no command, 3 where a file isn't
-/// there, 5 or 6; or
-/// - 1: the words or the names aren't UTF-8, there isn't one size for each name, or the sizes don't make up all bytes;
-/// - 4: the text is longer than `out`, or the line than `said`, which hold the front of it.
-///
-/// `used` is the length of the text, and `told` that of the line; what they don't reach of `out` and `said` stays. At 1 nothing is written,
-/// and at 6 nothing where memory could not be had before the program ran. It plays on the caller's thread, whatever number of workers the
-/// words name. It takes memory for a copy of the files, and for what the program takes.
+/// `used` is the length of the output and `told` the length of the line, at 4 too. The rest of
+/// `out` and `said` is unchanged. The fault is written at 2, 3 and 5 only. At 5 its words are the
+/// end of the line: the last `fault.words` bytes before the LF. At 1 nothing is written, nor at 6
+/// if memory ran out before the command began. The call plays on the caller's thread, however many
+/// workers the words name. It takes memory for a copy of the files and for what the command needs.
 pub fn ants_call(
     words: &[u8],
     names: &[u8],
@@ -431,6 +310,7 @@ pub fn ants_call(
     used: &mut usize,
     said: &mut [u8],
     told: &mut usize,
+    fault: &mut Fault,
 ) -> u32 {
     unsafe {
         c::ants_call(
@@ -448,6 +328,7 @@ pub fn ants_call(
             said.as_mut_ptr(),
             said.len(),
             told,
+            fault,
         )
     }
 }
@@ -506,108 +387,6 @@ mod c {
             words: *mut u8,
             words_len: usize,
         ) -> u32;
-        pub fn ants_run(
-            world: *const u8,
-            world_len: usize,
-            red: *const u8,
-            red_len: usize,
-            black: *const u8,
-            black_len: usize,
-            seed: u32,
-            rounds: u32,
-            dumps: *const u32,
-            dumps_len: usize,
-            out: *mut u8,
-            out_len: usize,
-            used: *mut usize,
-            fault: *mut Fault,
-            words: *mut u8,
-            words_len: usize,
-        ) -> u32;
-        pub fn ants_brain(
-            brain: *const u8,
-            brain_len: usize,
-            out: *mut u8,
-            out_len: usize,
-            used: *mut usize,
-            fault: *mut Fault,
-            words: *mut u8,
-            words_len: usize,
-        ) -> u32;
-        pub fn ants_minimise(
-            brain: *const u8,
-            brain_len: usize,
-            out: *mut u8,
-            out_len: usize,
-            used: *mut usize,
-            fault: *mut Fault,
-            words: *mut u8,
-            words_len: usize,
-        ) -> u32;
-        pub fn ants_asm(
-            program: *const u8,
-            program_len: usize,
-            out: *mut u8,
-            out_len: usize,
-            used: *mut usize,
-            fault: *mut Fault,
-            words: *mut u8,
-            words_len: usize,
-        ) -> u32;
-        pub fn ants_same(
-            first: *const u8,
-            first_len: usize,
-            second: *const u8,
-            second_len: usize,
-            out: *mut u8,
-            out_len: usize,
-            used: *mut usize,
-            fault: *mut Fault,
-            words: *mut u8,
-            words_len: usize,
-        ) -> u32;
-        pub fn ants_gen(
-            seed: u32,
-            width: u32,
-            height: u32,
-            rocks: u32,
-            blobs: u32,
-            out: *mut u8,
-            out_len: usize,
-            used: *mut usize,
-            fault: *mut Fault,
-            words: *mut u8,
-            words_len: usize,
-        ) -> u32;
-        pub fn ants_save(
-            world: *const u8,
-            world_len: usize,
-            red: *const u8,
-            red_len: usize,
-            black: *const u8,
-            black_len: usize,
-            seed: u32,
-            rounds: u32,
-            out: *mut u8,
-            out_len: usize,
-            used: *mut usize,
-            fault: *mut Fault,
-            words: *mut u8,
-            words_len: usize,
-        ) -> u32;
-        pub fn ants_resume(
-            save: *const u8,
-            save_len: usize,
-            rounds: u32,
-            dumps: *const u32,
-            dumps_len: usize,
-            out: *mut u8,
-            out_len: usize,
-            used: *mut usize,
-            fault: *mut Fault,
-            words: *mut u8,
-            words_len: usize,
-        ) -> u32;
         pub fn ants_call(
             words: *const u8,
             words_len: usize,
@@ -623,6 +402,7 @@ mod c {
             said: *mut u8,
             said_len: usize,
             told: *mut usize,
+            fault: *mut Fault,
         ) -> u32;
     }
 }

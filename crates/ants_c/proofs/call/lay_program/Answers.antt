@@ -1,6 +1,6 @@
 -- what was pushed into each room lies behind what the room held
 use Rattle.std.proofs.Common.{List, ℕ, subst, sym}
-use Rattle.ant_commands.specs.Status.{status_number}
+use Rattle.ant_commands.specs.FaultLines.{plain_ending}
 use Rattle.command_words.specs.Words.{texts}
 use Rattle.ants_c.specs.Called.{Runs}
 use Rattle.ants_c.specs.Rooms.{behind}
@@ -8,9 +8,9 @@ use Rattle.ants_c.proofs.call.lay_program.Goals as goal
 
 pub returns-clause-runs : goal.returns-clause-runs
 returns-clause-runs c =
-    let words : List (List ℕ) = texts c.args.words.now in let files = c.args.files.files in let number = status_number c.run_in_rooms-status.result in
-    let new_out = c.run_in_rooms-status.new.output.log.bytes in let new_err = c.run_in_rooms-status.new.errors.log.bytes in
-    let first = subst (λ (log : List ℕ). Runs words files (behind log new_out) (behind c.new-errors.result.log.bytes new_err) number) c.new-output.ensures.log c.run_in_rooms-status.ensures.runs in
-    let second = subst (λ (log : List ℕ). Runs words files (behind c.args.out.now new_out) (behind log new_err) number) c.new-errors.ensures.log first in
-    let third = subst (λ (log : List ℕ). Runs words files (behind c.args.out.now log) (behind c.args.said.now new_err) number) (sym c.log.ensures) second in
-    subst (λ (log : List ℕ). Runs words files (behind c.args.out.now c.log.result.bytes) (behind c.args.said.now log) number) (sym c.log-2.ensures) third
+    let words : List (List ℕ) = texts c.args.words.now in let files = c.args.files.files in let ending = plain_ending c.run_in_rooms-ended.result in
+    let new_out = c.run_in_rooms-ended.new.output.log.bytes in let new_err = c.run_in_rooms-ended.new.errors.log.bytes in
+    let first = subst (λ (log : List ℕ). Runs words files (behind log new_out) (behind c.new-errors.result.log.bytes new_err) ending) c.new-output.ensures.log c.run_in_rooms-ended.ensures.runs in
+    let second = subst (λ (log : List ℕ). Runs words files (behind c.args.out.now new_out) (behind log new_err) ending) c.new-errors.ensures.log first in
+    let third = subst (λ (log : List ℕ). Runs words files (behind c.args.out.now log) (behind c.args.said.now new_err) ending) (sym c.log.ensures) second in
+    subst (λ (log : List ℕ). Runs words files (behind c.args.out.now c.log.result.bytes) (behind c.args.said.now log) ending) (sym c.log-2.ensures) third
