@@ -13,6 +13,7 @@ import struct
 import subprocess
 import tempfile
 import unittest
+import warnings
 
 import icfp_ants
 from icfp_ants import (
@@ -70,7 +71,8 @@ class ReadMe(Beside):
         place = os.getcwd()
         self.addCleanup(os.chdir, place)
         os.chdir(TOP)
-        with contextlib.redirect_stdout(printed):
+        with contextlib.redirect_stdout(printed), warnings.catch_warnings():
+            warnings.simplefilter("ignore", ResourceWarning)  # the page leaves the closing of a file to Python
             exec(compile(code, "README.md", "exec"), {})
         lines, comments = [it for it in printed.getvalue().split("\n") if it], re.findall(r"print.*  # (.*)", code)
         self.assertEqual((len(lines), len(comments)), (7, 7))
