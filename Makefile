@@ -44,7 +44,7 @@ $(ARCHIVE): $(SOURCES)
 	cd crates/ants_c && rt lib
 	@touch $@
 
-library/libants.a: $(ARCHIVE) library/link library/front.c library/ants.h
+library/libants.a: $(ARCHIVE) library/link library/front.c library/command.c library/ants.h
 	library/link $(ARCHIVE) library
 
 library/libants.so: library/libants.a

@@ -1,5 +1,5 @@
 // Makes each call of the library with each of its allocations refused in turn, and says for each what came of it; see bench/library_refuse.
-// It is linked with -Wl,--wrap=malloc,--wrap=realloc,--wrap=free, so that it stands between the library and the C library's heap.
+// It is linked with -Wl,--wrap=malloc,--wrap=calloc,--wrap=realloc,--wrap=free, so that it is between the library and the C library's heap.
 #include "../library/ants.h"
 #include <pthread.h>
 #include <stdatomic.h>
@@ -10,6 +10,7 @@
 enum { ROOM = 1 << 17, ANTS = 1 << 10, LINE = 64, THREADS = 8, TRIALS = 400, BESIDE = 0xa5 };
 
 void *__real_malloc(size_t size);
+void *__real_calloc(size_t count, size_t size);
 void *__real_realloc(void *old, size_t size);
 void __real_free(void *block);
 
@@ -26,6 +27,12 @@ static int is_refused(void) {
 
 void *__wrap_malloc(size_t size) {
     void *block = is_refused() ? NULL : __real_malloc(size);
+    blocks += block != NULL;
+    return block;
+}
+
+void *__wrap_calloc(size_t number, size_t size) {
+    void *block = is_refused() ? NULL : __real_calloc(number, size);
     blocks += block != NULL;
     return block;
 }
@@ -62,35 +69,44 @@ struct rooms {
     struct ants_fault_data fault;
 };
 
-// The calls: how many bytes each has room for, and of one of the program its words, and the room for its line.
+// The calls: how many bytes each has room for, and of one of the program its words, and the room for its line. Without a room for its line it is a call
+// of ants_command(), which has rooms of its own.
 static const struct {
     const char *name;
     size_t room;
     const char *words;
     size_t line;
 } calls[] = {
-    {.name = "score"}, {.name = "scores"}, {"run", ROOM, 0, 0}, {"brain", ROOM, 0, 0}, {"minimise", ROOM, 0, 0}, {"asm", ROOM, 0, 0},
-    {"same", ROOM, 0, 0}, {"gen", ROOM, 0, 0}, {"save", ROOM, 0, 0}, {"resume", ROOM, 0, 0}, {.name = "look"},
-    {.name = "score of a wrong brain"}, {"run with little room", 9, 0, 0}, {"brain with no room", 0, 0, 0}, {"a wrong brain", ROOM, 0, 0},
-    {"a wrong program", ROOM, 0, 0}, {"same of a wrong brain", ROOM, 0, 0}, {"gen without room for an element", ROOM, 0, 0},
-    {"save with little room", 100, 0, 0}, {"a wrong save", ROOM, 0, 0}, {.name = "look of a wrong brain"}, {.name = "look with little room"},
+    {"call of save", ROOM, "save\nworld\nred\nblack\n--seed\n12345\n--rounds\n20\n", LINE},
+    {.name = "score"}, {.name = "scores"}, {.name = "look"}, {.name = "score of a wrong brain"}, {.name = "look of a wrong brain"},
+    {.name = "look with little room"},
     {"call of run", ROOM, "run\nworld\nred\nblack\n--seed\n12345\n--rounds\n20\n--dump\n0,7,20\n", LINE},
     {"call of run by workers", ROOM, "run\nworld\nred\nblack\n--seed\n12345\n--rounds\n9\n--dump\n0\n--workers\n2\n--stats\n--window\n3\n", LINE},
     {"call of run with little room", 100, "run\nworld\nred\nblack\n--seed\n12345\n--rounds\n20\n--dump\n0,7,20\n", 9},
     {"call of cup", ROOM, "cup\n--worlds\nworld\n--brains\nred\nblack\n--seed\n1\n--rounds\n9\n--games\n--workers\n2\n", LINE},
-    {"call of asm", ROOM, "asm\nprogram\n--labels\n", LINE}, {"call of minimise", ROOM, "minimise\nblack\n--states\n", LINE},
+    {"call of brain with no room", 0, "brain\nred\n", LINE}, {"call of asm", ROOM, "asm\nprogram\n--labels\n", LINE},
+    {"call of minimise", ROOM, "minimise\nblack\n--states\n", LINE}, {"call of same", ROOM, "same\nred\nblack\n--way\n", LINE},
+    {"call of gen", ROOM, "gen\n12345\n--width\n60\n--height\n60\n--rocks\n3\n--blobs\n1\n", LINE},
     {"call of resume", ROOM, "resume\nsave\n--rounds\n40\n--dump\n30\n--stats\n", LINE}, {"call with a wrong brain", ROOM, "same\nred\nwrong\n", LINE},
-    {"call with no such file", ROOM, "brain\nnone\n", LINE}, {"call of no command", ROOM, "turn\nworld\n", LINE}, {"call of no words", ROOM, "brain\n\xff\n", LINE},
-    {"call of help", ROOM, "--help\n", LINE},
+    {"call with a wrong program", ROOM, "asm\nwrong\n", LINE}, {"call with a wrong save", ROOM, "resume\nwrong\n--rounds\n40\n", LINE},
+    {"call with wrong breaks", ROOM, "view\nworld\nred\nblack\nwrong\n--seed\n1\n--rounds\n1\n", LINE},
+    {"call without room for an element", ROOM, "gen\n1\n--width\n12\n--height\n12\n", LINE}, {"call with no such file", ROOM, "brain\nnone\n", LINE},
+    {"call of no command", ROOM, "turn\nworld\n", LINE}, {"call of no words", ROOM, "brain\n\xff\n", LINE}, {"call of help", ROOM, "--help\n", LINE},
+    {"command run", ROOM, "run\nworld\nred\nblack\n--seed\n12345\n--rounds\n20\n--dump\n0,7,20\n", 0},
+    {"command with little room", 100, "run\nworld\nred\nblack\n--seed\n12345\n--rounds\n20\n--dump\n0,7,20\n", 0},
+    {"command with a wrong brain", ROOM, "same\nred\nwrong\n", 0}, {"command that is none", ROOM, "turn\nworld\n", 0},
 };
-enum { SAVE = 8, CALLS = sizeof calls / sizeof *calls };
+enum { SAVE = 0, CALLS = sizeof calls / sizeof *calls };
 
 #define T(it) (it).bytes, (it).size
 #define FAULT &rooms->fault, rooms->words, sizeof rooms->words
-#define OUT rooms->out, calls[which].room, &rooms->used, FAULT
 #define GAME T(world), T(red), T(black)
 
-static const uint32_t seeds[3] = {12345, 7, 0}, dumps[3] = {20, 0, 7}, rounds[3] = {0, 7, 20};
+static const uint32_t seeds[3] = {12345, 7, 0}, rounds[3] = {0, 7, 20};
+
+static uint32_t full[CALLS]; // the status of each call that gets all its memory
+
+static int is_command(int which) { return calls[which].words && calls[which].line == 0; }
 
 static uint32_t look(struct text black_brain, size_t ants, struct rooms *rooms) {
     return ants_look(T(world), T(red), T(black_brain), 12345, rounds, 3, rooms->scores, 3, rooms->ants, ants, &rooms->ids, FAULT);
@@ -99,34 +115,39 @@ static uint32_t look(struct text black_brain, size_t ants, struct rooms *rooms) 
 static uint32_t call_of_program(int which, struct rooms *rooms) {
     const char *words = calls[which].words;
     return ants_call((const uint8_t *)words, strlen(words), (const uint8_t *)file_names, strlen(file_names), sizes, 6, T(files), rooms->out,
-                     calls[which].room, &rooms->used, rooms->said, calls[which].line, &rooms->told);
+                     calls[which].room, &rooms->used, rooms->said, calls[which].line, &rooms->told, &rooms->fault);
+}
+
+// A command, whose answer is laid into the rooms, so that it is compared as any other.
+static uint32_t command(int which, struct rooms *rooms) {
+    const struct ants_file held[] = {{"world", T(world)}, {"red", T(red)}, {"black", T(black)}, {"wrong", T(wrong)}};
+    char lines[200];
+    const char *words[20];
+    int word_count = 0;
+    char *left = strcpy(lines, calls[which].words);
+    for (char *end; (end = strchr(left, '\n')); left = end + 1) {
+        *end = 0;
+        words[word_count++] = left;
+    }
+    struct ants_answer answer;
+    uint32_t status = ants_command(word_count, words, held, 4, calls[which].room, &answer);
+    memcpy(rooms->out, answer.text, answer.len);
+    memcpy(rooms->said, answer.line, answer.line_len);
+    rooms->used = answer.whole_len, rooms->told = answer.line_len;
+    if (status == ANTS_NUMBER || status == ANTS_NO_FILE || status == ANTS_REFUSED) rooms->fault = answer.fault;
+    ants_answer_free(&answer);
+    return status;
 }
 
 static uint32_t call(int which, struct rooms *rooms) {
     switch (which) {
-    case 0: return ants_score(GAME, 12345, 20, rooms->scores, FAULT);
-    case 1: return ants_scores(GAME, seeds, 3, 20, rooms->scores, 3, FAULT);
-    case 2: return ants_run(GAME, 12345, 20, dumps, 3, OUT);
-    case 3: return ants_brain(T(red), OUT);
-    case 4: return ants_minimise(T(red), OUT);
-    case 5: return ants_asm(T(program), OUT);
-    case 6: return ants_same(T(red), T(black), OUT);
-    case 7: return ants_gen(12345, 60, 60, 3, 1, OUT);
-    case SAVE: return ants_save(GAME, 12345, 20, OUT);
-    case 9: return ants_resume(T(save), 40, dumps, 3, OUT);
-    case 10: return look(black, ANTS, rooms);
-    case 11: return ants_score(T(world), T(red), T(wrong), 12345, 20, rooms->scores, FAULT);
-    case 12: return ants_run(GAME, 12345, 20, dumps, 3, OUT);
-    case 13: return ants_brain(T(red), OUT);
-    case 14: return ants_brain(T(wrong), OUT);
-    case 15: return ants_asm(T(wrong), OUT);
-    case 16: return ants_same(T(red), T(wrong), OUT);
-    case 17: return ants_gen(1, 12, 12, 0, 0, OUT);
-    case 18: return ants_save(GAME, 12345, 20, OUT);
-    case 19: return ants_resume(T(wrong), 40, dumps, 3, OUT);
-    case 20: return look(wrong, ANTS, rooms);
-    case 21: return look(black, 1, rooms);
-    default: return call_of_program(which, rooms);
+    case 1: return ants_score(GAME, 12345, 20, rooms->scores, FAULT);
+    case 2: return ants_scores(GAME, seeds, 3, 20, rooms->scores, 3, FAULT);
+    case 3: return look(black, ANTS, rooms);
+    case 4: return ants_score(T(world), T(red), T(wrong), 12345, 20, rooms->scores, FAULT);
+    case 5: return look(wrong, ANTS, rooms);
+    case 6: return look(black, 1, rooms);
+    default: return is_command(which) ? command(which, rooms) : call_of_program(which, rooms);
     }
 }
 
@@ -149,31 +170,36 @@ static int stays(const void *place, size_t size) {
     return 1;
 }
 
+static size_t room_of_line(int which) { return is_command(which) ? LINE : calls[which].line; }
+
 static size_t least(size_t one, size_t other) { return one < other ? one : other; }
 
 // Whether a call has written nothing beside the rooms that it was given, nor behind its text and its line.
 static int stays_within(int which, const struct rooms *rooms) {
-    size_t used = least(rooms->used, calls[which].room), told = least(rooms->told, calls[which].line), ants = least(3 * rooms->ids, ANTS);
+    size_t used = least(rooms->used, calls[which].room), told = least(rooms->told, room_of_line(which)), ants = least(3 * rooms->ids, ANTS);
     if (!stays(&rooms->scores[3], sizeof *rooms->scores) || !stays(&rooms->ants[ants], (ANTS + 1 - ants) * sizeof *rooms->ants)) return 0;
     return stays(rooms->out + used, ROOM - used) && stays(rooms->said + told, sizeof rooms->said - told);
 }
 
-// Whether a call of the program that ran out of memory has written nothing, or a front of its text that isn't all of it, and the line that says so.
+// Whether a call of the program that ran out of memory has written nothing, or a front of its text that isn't all of it, and the line that says so, and no
+// fault. A command that can't give memory back does without.
 static int is_cut_off(int which, const struct rooms *rooms, const struct rooms *before, const struct rooms *whole, uint32_t status) {
     static const char line[] = "ants: out of memory\n";
     if (memcmp(rooms, before, sizeof *rooms) == 0) return status == ANTS_MEMORY;
-    size_t used = least(rooms->used, calls[which].room), told = least(sizeof line - 1, calls[which].line);
+    if (is_command(which) && status != ANTS_MEMORY && status == full[which]) return memcmp(rooms, whole, sizeof *rooms) == 0;
+    size_t used = least(rooms->used, calls[which].room), told = least(sizeof line - 1, room_of_line(which));
+    if (!stays(&rooms->fault, sizeof rooms->fault)) return 0;
     if (rooms->used > whole->used || (rooms->used == whole->used && rooms->used > 0) || rooms->told != sizeof line - 1) return 0;
     if (memcmp(rooms->out, whole->out, used) != 0 || memcmp(rooms->said, line, told) != 0 || !stays_within(which, rooms)) return 0;
     return status == (used < rooms->used || told < rooms->told ? ANTS_NO_ROOM : ANTS_MEMORY);
 }
 
 // One call with one allocation refused, held against the whole call; how many allocations it made.
-static long held(int which, long number, int is_for_good, struct rooms *rooms, const struct rooms *before, const struct rooms *whole, uint32_t full) {
+static long held(int which, long number, int is_for_good, struct rooms *rooms, const struct rooms *before, const struct rooms *whole) {
     uint32_t status = call_refused(which, number, is_for_good, rooms);
     if (blocks != 0) say(which, number, "memory is kept");
     if (number == 0 || count < number) { // none was refused
-        if (status != full || memcmp(rooms, whole, sizeof *rooms) != 0) say(which, number, "another answer without a refusal");
+        if (status != full[which] || memcmp(rooms, whole, sizeof *rooms) != 0) say(which, number, "another answer without a refusal");
     } else if (calls[which].words) {
         if (!is_cut_off(which, rooms, before, whole, status)) say(which, number, "this is no game that ran out of memory");
     } else if (status != ANTS_MEMORY) {
@@ -185,12 +211,11 @@ static long held(int which, long number, int is_for_good, struct rooms *rooms, c
 }
 
 static struct rooms *whole[CALLS], *before;
-static uint32_t full[CALLS];
 static long allocations[CALLS];
 
 static void each_refused(int which, struct rooms *rooms) {
     for (int is_for_good = 0; is_for_good < 2; is_for_good++)
-        for (long number = 1; number <= allocations[which] + 1; number++) held(which, number, is_for_good, rooms, before, whole[which], full[which]);
+        for (long number = 1; number <= allocations[which] + 1; number++) held(which, number, is_for_good, rooms, before, whole[which]);
 }
 
 static void *thread(void *place) {
@@ -199,7 +224,7 @@ static void *thread(void *place) {
     for (int trial = 0; trial < TRIALS; trial++) {
         int which = rand_r(&state) % CALLS;
         long number = rand_r(&state) % (allocations[which] + 2);
-        held(which, number, trial % 2, rooms, before, whole[which], full[which]);
+        held(which, number, trial % 2, rooms, before, whole[which]);
     }
     __real_free(rooms);
     return NULL;
@@ -227,11 +252,12 @@ static struct text save_of(const struct rooms *rooms, uint32_t status) {
     exit(2);
 }
 
+// Lays the files of a call of the program out; before there is a save, it is empty.
 static void put_files(void) {
     const struct text all[6] = {world, red, black, program, save, wrong};
     uint8_t *end = __real_malloc(6 * ROOM), *begin = end;
     for (int place = 0; place < 6; place++) {
-        memcpy(end, all[place].bytes, all[place].size);
+        if (all[place].size) memcpy(end, all[place].bytes, all[place].size);
         end += sizes[place] = all[place].size;
     }
     files = copy_of(begin, end - begin);
@@ -242,6 +268,7 @@ int main(int words, char **word) {
     if (words != 5) return 2;
     world = text_of(word[1]), red = text_of(word[2]), black = text_of(word[3]), program = text_of(word[4]);
     wrong = copy_of((const uint8_t *)"Drop 0\nMove 0 7\n", 16);
+    put_files();
     struct rooms *rooms = __real_malloc(sizeof *rooms);
     before = memset(__real_malloc(sizeof *before), BESIDE, sizeof *before);
     for (int which = 0; which < CALLS; which++) {

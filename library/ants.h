@@ -148,11 +148,12 @@
     1. No pointer is NULL, and each is aligned for its type; but one whose length is 0 may be anything, as NULL, and is not looked at.
     2. As many elements lie there as the length says, in one block of at most 2^63 - 1 bytes that may be read, and written to where the
        parameter has no `const`.
-    3. What a call may write to (score, scores, ants, ids, out, used, fault, words, said, told) overlaps nothing else that it is passed, is
-       initialised before the call, and is read and written by nobody else during it. What it only reads is written by nobody during it.
+    3. What a call may write to (score, scores, ants, ids, out, used, fault, words, said, told, answer) overlaps nothing else that it is passed, is
+       initialised before the call (except answer), and is read and written by nobody else during it. What it only reads is written by nobody
+       during it.
     4. This header and the library are of one version: nothing is checked at the link, but ants_version() can be asked.
-    5. malloc, realloc and free are of one allocator, and align a block to each power of two up to 16 that divides its size. One that
-       stands in for them replaces all three.
+    5. malloc, calloc, realloc and free are of one allocator, and align a block to each power of two up to 16 that divides its size. If you
+       replace one of them, replace all four.
     6. No call comes from a signal handler, nor from the forked child of a process with threads.
     7. Below the caller there are ANTS_STACK bytes of stack. No proof bounds what a call takes; library/test_stack.c measures it over the
        largest and the most nested texts, of which none takes more than half of that.
@@ -360,6 +361,46 @@ uint32_t ants_call(
     const uint8_t *words, size_t words_len, const uint8_t *names, size_t names_len, const uint32_t *sizes,
     size_t sizes_len, const uint8_t *bytes, size_t bytes_len, uint8_t *out, size_t out_len, size_t *used, uint8_t *said,
     size_t said_len, size_t *told, struct ants_fault_data *fault);
+
+// A file that a command may read: its name, as the words of the command have it, and its bytes. `bytes` may be NULL if `len` is 0.
+struct ants_file {
+    const char *name;
+    const uint8_t *bytes;
+    size_t len;
+};
+
+// What ants_command() returns. You only read it, and ants_answer_free() frees its memory.
+struct ants_answer {
+    // The status, which ants_command() returns too.
+    uint32_t status;
+    // What the program prints: `len` bytes, and then a zero byte. It is never NULL.
+    const char *text;
+    size_t len;
+    // The line in which the program says what is wrong, LF included: `line_len` bytes, and then a zero byte. It is never NULL, and it is empty at
+    // ANTS_DONE and ANTS_UNREADABLE. At ANTS_REFUSED the words of the fault are the last fault.words bytes before the LF.
+    const char *line;
+    size_t line_len;
+    // How many bytes the whole text has: more than `len` at ANTS_NO_ROOM, and otherwise `len`.
+    size_t whole_len;
+    // The error in numbers, as ants_call() writes it. All numbers are 0 at each status except 2, 3 and 5.
+    struct ants_fault_data fault;
+    // The memory of all this.
+    void *memory;
+};
+
+// Runs a command of the program over these files, and allocates what it returns: this is ants_call() for words and files as C has them. `words` are
+// the words of the command line, without the program's name. The status is that of ants_call(). A word with an LF is refused like an empty word,
+// with status 2. If the name of a file has an LF, the status is 1.
+//
+// The text may have `most` bytes, and 0 means 268,435,456. If it is longer, the status is 4, and `text` has its first `most` bytes. The room for
+// `most` bytes is allocated before the program runs, so that no game is played twice. Only pages that are written take memory. Free each answer
+// with ants_answer_free(), at every status.
+uint32_t ants_command(
+    int word_count, const char *const *words, const struct ants_file *files, size_t file_count, size_t most,
+    struct ants_answer *answer);
+
+// Frees the memory of an answer. Its texts are empty afterwards, and its numbers are unchanged. A second call does nothing.
+void ants_answer_free(struct ants_answer *answer);
 
 #ifdef __cplusplus
 }

@@ -49,44 +49,16 @@ static void play_rows(void) {
     ROW(is_fault(3, ANTS_KIND_BRAIN_NO_SUCH_STATE, 1, 0, 7, "line 1: no such state 7") && scores[0].red == 0x55555555);
 }
 
-static void text_rows(void) {
-    clear();
-    ROW(ants_brain(TEXT("flip 02 0 0\n"), out, 10, &used, &fault, words, 64) == ANTS_NO_ROOM);
-    ROW(used == 11 && memcmp(out, "Flip 2 0 0.", 11) == 0 && stays());
-    ROW(ants_brain(TEXT("flip 02 0 0\n"), out, 11, &used, &fault, words, 64) == ANTS_DONE && used == 11 && memcmp(out, "Flip 2 0 0\n.", 12) == 0);
-    clear();
-    ROW(ants_brain(TEXT(""), out, 64, &used, &fault, words, 64) == ANTS_REFUSED && is_fault(1, 26, 0, 0, 0, "no instruction"));
-    ROW(used == 99 && out[0] == '.');
-    clear();
-    ROW(ants_brain(TEXT(""), out, 64, &used, &fault, words, 4) == ANTS_REFUSED && fault.words == 14 && memcmp(words, "no i.", 5) == 0);
-    clear();
-    ROW(ants_minimise(TEXT("Drop 1\nDrop 0\n"), out, 0, &used, &fault, words, 64) == ANTS_NO_ROOM && used == 7 && out[0] == '.');
-    ROW(ants_minimise(TEXT("Drop 1\nDrop 0\n"), out, 7, &used, &fault, words, 64) == ANTS_DONE && memcmp(out, "Drop 0\n.", 8) == 0);
-    ROW(ants_asm(TEXT("on:\ndrop on\n"), out, 64, &used, &fault, words, 64) == ANTS_DONE && used == 7 && memcmp(out, "Drop 0\n.", 8) == 0);
-    ROW(ants_same(TEXT(drop), TEXT("Drop 1\nDrop 0\n"), out, 64, &used, &fault, words, 64) == ANTS_DONE && used == 5 && memcmp(out, "same\n", 5) == 0);
-    clear();
-    ROW(ants_same(TEXT(drop), TEXT("Drop\n"), out, 64, &used, &fault, words, 64) == ANTS_REFUSED && is_fault(2, 22, 1, 0, 0, "line 1: missing token"));
-    clear();
-    ROW(ants_gen(1, 2, 3, 0, 0, out, 64, &used, &fault, words, 64) == ANTS_NUMBER && used == 99 && out[0] == '.' && stays());
-    ROW(ants_gen(1, 12, 12, 0, 0, out, 64, &used, &fault, words, 64) == ANTS_REFUSED && is_fault(0, ANTS_KIND_NO_ROOM, 0, 0, 0, "no room for element 0"));
-    clear();
-    ROW(ants_resume(TEXT("ants save 2\n"), 1, &(uint32_t){0}, 0, out, 64, &used, &fault, words, 64) == ANTS_REFUSED);
-    ROW(is_fault(1, 50, 1, 0, 0, "line 1: not a save"));
-}
-
 /* A place of no elements may be anything, as NULL. */
 static void null_rows(void) {
-    const char *text = "random seed: 7\n\nscore: red 0 black 0\n";
     uint8_t *off = (uint8_t *)1;
     clear();
-    ROW(ants_run(TEXT(world), TEXT(drop), TEXT(drop), 7, 0, NULL, 0, NULL, 0, &used, &fault, NULL, 0) == ANTS_NO_ROOM && used == strlen(text) && stays());
-    ROW(ants_run(TEXT(world), TEXT(drop), TEXT(drop), 7, 0, (uint32_t *)off, 0, out, 64, &used, &fault, off, 0) == ANTS_DONE && memcmp(out, text, used) == 0);
     ROW(ants_scores(TEXT(world), TEXT(drop), TEXT(drop), NULL, 0, 1, NULL, 0, &fault, NULL, 0) == ANTS_DONE && stays());
+    ROW(ants_scores(TEXT(world), TEXT(drop), TEXT(drop), (uint32_t *)off, 0, 1, NULL, 0, &fault, off, 0) == ANTS_DONE && stays());
     ROW(ants_score(NULL, 0, TEXT(drop), TEXT(drop), 1, 1, scores, &fault, NULL, 0) == ANTS_REFUSED && fault.text == 1 && fault.kind == 10 && words[0] == '.');
     clear();
-    ROW(ants_brain(NULL, 0, NULL, 0, &used, &fault, words, 64) == ANTS_REFUSED && is_fault(1, 26, 0, 0, 0, "no instruction") && used == 99);
-    ROW(ants_same(NULL, 0, NULL, 0, NULL, 0, &used, &fault, NULL, 0) == ANTS_REFUSED && fault.text == 1);
-    ROW(ants_resume(NULL, 0, 1, NULL, 0, NULL, 0, &used, &fault, NULL, 0) == ANTS_REFUSED && fault.kind == 50);
+    ROW(ants_score(TEXT(world), TEXT(drop), NULL, 0, 1, 1, scores, &fault, words, 4) == ANTS_REFUSED && fault.text == 3 && fault.kind == 26);
+    ROW(fault.words == 14 && memcmp(words, "no i.", 5) == 0);
 }
 
 static void version_rows(void) {
@@ -95,13 +67,6 @@ static void version_rows(void) {
     clear();
     ROW(ants_version(out, 2, &used) == ANTS_NO_ROOM && used == strlen(ANTS_VERSION) && memcmp(out, ANTS_VERSION, 2) == 0 && out[2] == '.');
     ROW(ants_version(NULL, 0, &used) == ANTS_NO_ROOM && used == strlen(ANTS_VERSION));
-}
-
-static void run_row(void) {
-    const char *text = "random seed: 7\n\nscore: red 0 black 0\n";
-    clear();
-    ROW(ants_run(TEXT(world), TEXT(drop), TEXT(drop), 7, 0, &(uint32_t){1}, 1, out, 64, &used, &fault, words, 64) == ANTS_DONE);
-    ROW(used == strlen(text) && memcmp(out, text, used) == 0 && out[used] == '.');
 }
 
 static uint8_t line[64];
@@ -117,39 +82,75 @@ static uint32_t called(const char *spoken, size_t room, size_t line_room) {
     memcpy(bytes, world, sizes[0]);
     memcpy(bytes + sizes[0], brain, sizes[1]);
     memcpy(bytes + sizes[0] + sizes[1], drop, sizes[2]);
-    return ants_call(TEXT(spoken), TEXT("w\nb\nd\n"), sizes, 3, bytes, sizes[0] + sizes[1] + sizes[2], out, room, &used, line, line_room, &told);
+    return ants_call(TEXT(spoken), TEXT("w\nb\nd\n"), sizes, 3, bytes, sizes[0] + sizes[1] + sizes[2], out, room, &used, line, line_room, &told, &fault);
 }
 
 static int wrote(const char *text) { return used == strlen(text) && memcmp(out, text, used) == 0 && out[used] == '.'; }
 
 static int reported(const char *text) { return told == strlen(text) && memcmp(line, text, told) == 0 && line[told] == '.'; }
 
-static int unwritten(void) { return used == 99 && told == 99 && out[0] == '.' && line[0] == '.'; }
+static int unwritten(void) { return used == 99 && told == 99 && out[0] == '.' && line[0] == '.' && stays(); }
+
+/* Whether the fault has these numbers. */
+static int told_in_numbers(uint32_t text, uint32_t kind, uint32_t at, uint64_t number, uint64_t length) {
+    return fault.text == text && fault.kind == kind && fault.line == at && fault.column == 0 && fault.number == number && fault.words == length;
+}
 
 static void call_rows(void) {
     const char *text = "random seed: 7\n\nscore: red 0 black 0\n";
     const char *points = "2 points: b (0 won, 2 drawn, 0 lost)\n2 points: d (0 won, 2 drawn, 0 lost)\n";
-    const uint32_t one[1] = {1}, long_one[1] = {4294967295u};
-    ROW(called("brain\nb", 127, 63) == ANTS_DONE && wrote("Flip 2 0 0\n") && reported(""));
-    ROW(called("run\nw\nb\nd\n--seed\n7\n--rounds\n0\n", 127, 63) == ANTS_DONE && wrote(text) && reported(""));
+    ROW(called("brain\nb", 127, 63) == ANTS_DONE && wrote("Flip 2 0 0\n") && reported("") && stays());
+    ROW(called("run\nw\nb\nd\n--seed\n7\n--rounds\n0\n", 127, 63) == ANTS_DONE && wrote(text) && reported("") && stays());
     ROW(called("run\nw\nb\nd\n--seed\n7\n--rounds\n0\n", strlen(text), 0) == ANTS_DONE && wrote(text) && told == 0);
-    ROW(called("run\nw\nb\nd\n--seed\n7\n--rounds\n0\n", strlen(text) - 1, 63) == ANTS_NO_ROOM && used == strlen(text));
+    ROW(called("run\nw\nb\nd\n--seed\n7\n--rounds\n0\n", strlen(text) - 1, 63) == ANTS_NO_ROOM && used == strlen(text) && stays());
     ROW(memcmp(out, text, used - 1) == 0 && out[used - 1] == '.' && reported(""));
     ROW(called("cup\n--worlds\nw\n--brains\nb\nd\n--seed\n7\n--rounds\n1\n--workers\n2", 127, 63) == ANTS_DONE && wrote(points) && reported(""));
     ROW(called("show\nw\n7", 20, 63) == ANTS_NO_ROOM && used > 20 && memcmp(out, "random seed: 7\n", 15) == 0 && out[20] == '.' && reported(""));
-    ROW(called("run\nw\nb\nd\n--far", 127, 63) == ANTS_NUMBER && wrote("") && reported("ants: word 5 refused\n"));
-    ROW(called("turn\nw", 127, 63) == ANTS_NUMBER && wrote("") && reported("ants: word 1 refused\n"));
-    ROW(called("turn\nw", 127, 5) == ANTS_NO_ROOM && wrote("") && told == strlen("ants: word 1 refused\n") && memcmp(line, "ants:.", 6) == 0);
-    ROW(called("brain\nc", 127, 63) == ANTS_NO_FILE && wrote("") && reported("ants: c: not read\n"));
-    ROW(called("brain\nw", 127, 63) == ANTS_REFUSED && wrote("") && reported("ants: w: line 1: unknown word\n"));
+    ROW(called("run\nw\nb\nd\n--far", 127, 63) == ANTS_NUMBER && wrote("") && reported("ants: word 5 refused\n") && told_in_numbers(0, 0, 0, 5, 0));
+    ROW(called("turn\nw", 127, 63) == ANTS_NUMBER && wrote("") && reported("ants: word 1 refused\n") && told_in_numbers(0, 0, 0, 1, 0));
+    ROW(called("turn\nw", 127, 5) == ANTS_NO_ROOM && wrote("") && told == strlen("ants: word 1 refused\n") && memcmp(line, "ants:.", 6) == 0 && stays());
+    ROW(called("same\nb\nc", 127, 63) == ANTS_NO_FILE && wrote("") && reported("ants: c: not read\n") && told_in_numbers(0, 0, 0, 3, 0));
+    ROW(called("same\nb\nw", 127, 63) == ANTS_REFUSED && wrote("") && reported("ants: w: line 1: unknown word\n"));
+    ROW(told_in_numbers(1, ANTS_KIND_BRAIN_UNKNOWN_WORD, 1, 0, strlen("line 1: unknown word")));
+    ROW(called("gen\n1\n--width\n12\n--height\n12", 127, 63) == ANTS_REFUSED && reported("ants: no room for element 0\n"));
+    ROW(told_in_numbers(0, ANTS_KIND_NO_ROOM, 0, 0, strlen("no room for element 0")));
     ROW(called("brain\n\xff", 127, 63) == ANTS_UNREADABLE && unwritten());
+}
+
+/* A call over these names, sizes and bytes, whose words name the file b. */
+static uint32_t called_over(const char *names, const uint32_t *sizes, size_t sizes_len, const char *bytes) {
     clear();
-    used = told = 99;
+    told = 99;
     memset(line, '.', sizeof line);
-    ROW(ants_call(TEXT("brain\nb"), TEXT("b\n"), one, 1, TEXT("ab"), out, 64, &used, line, 64, &told) == ANTS_UNREADABLE && unwritten());
-    ROW(ants_call(TEXT("brain\nb"), TEXT("b\n"), long_one, 1, TEXT("ab"), out, 64, &used, line, 64, &told) == ANTS_UNREADABLE && unwritten());
-    ROW(ants_call(TEXT("brain\nb"), TEXT("b\nc\n"), one, 1, TEXT("a"), out, 64, &used, line, 64, &told) == ANTS_UNREADABLE && unwritten());
-    ROW(ants_call(NULL, 0, NULL, 0, NULL, 0, NULL, 0, NULL, 0, &used, NULL, 0, &told) == ANTS_NO_ROOM && used == 0 && told > 0);
+    return ants_call(TEXT("brain\nb"), TEXT(names), sizes, sizes_len, TEXT(bytes), out, 64, &used, line, 64, &told, &fault);
+}
+
+static void files_rows(void) {
+    const uint32_t one[1] = {1}, long_one[1] = {4294967295u}, three[3] = {1, 7, 6};
+    ROW(called_over("b\n", one, 1, "ab") == ANTS_UNREADABLE && unwritten());
+    ROW(called_over("b\n", long_one, 1, "ab") == ANTS_UNREADABLE && unwritten());
+    ROW(called_over("b\nc\n", one, 1, "a") == ANTS_UNREADABLE && unwritten());
+    /* of two files of one name the first one counts */
+    ROW(called_over("a\nb\nb\n", three, 3, "xDrop 0\nJump 0") == ANTS_DONE && wrote("Drop 0\n"));
+    ROW(called_over("b\nb\nb\n", three, 3, "xDrop 0\nJump 0") == ANTS_REFUSED && told_in_numbers(1, 21, 1, 0, strlen("line 1: unknown word")));
+    ROW(ants_call(NULL, 0, NULL, 0, NULL, 0, NULL, 0, NULL, 0, &used, NULL, 0, &told, &fault) == ANTS_NO_ROOM && used == 0 && told > 0);
+}
+
+/* What a command answers that allocates its texts. */
+static void command_rows(void) {
+    const struct ants_file files[2] = {{"w", (const uint8_t *)world, strlen(world)}, {"b", (const uint8_t *)brain, strlen(brain)}};
+    const char *run[] = {"run", "w", "b", "b", "--seed", "7", "--rounds", "0"}, *odd[] = {"brain", "a\nb"}, *early[] = {"turn", "a\nb"};
+    const char *text = "random seed: 7\n\nscore: red 0 black 0\n";
+    struct ants_answer answer;
+    ROW(ants_command(8, run, files, 2, 0, &answer) == ANTS_DONE && strcmp(answer.text, text) == 0 && answer.len == strlen(text));
+    ROW(answer.status == ANTS_DONE && answer.line_len == 0 && *answer.line == 0 && answer.whole_len == answer.len && answer.fault.kind == 0);
+    ants_answer_free(&answer);
+    ROW(ants_command(8, run, files, 2, 10, &answer) == ANTS_NO_ROOM && strcmp(answer.text, "random see") == 0 && answer.whole_len == strlen(text));
+    ants_answer_free(&answer);
+    ROW(ants_command(2, odd, files, 2, 0, &answer) == ANTS_NUMBER && strcmp(answer.line, "ants: word 2 refused\n") == 0 && answer.fault.number == 2);
+    ants_answer_free(&answer);
+    ROW(ants_command(2, early, files, 2, 0, &answer) == ANTS_NUMBER && answer.fault.number == 1);
+    ants_answer_free(&answer);
 }
 
 /* The ambush of the README: black ant 1 steps beside red ant 2, which dies; and the rooms that a look wants. */
@@ -247,14 +248,15 @@ int main(void) {
     ROW(ANTS_UNREADABLE == 1 && ANTS_NO_FILE == 3);
     ROW(ANTS_DONE == 0 && ANTS_NUMBER == 2 && ANTS_NO_ROOM == 4 && ANTS_REFUSED == 5 && ANTS_MEMORY == 6);
     ROW(ANTS_KIND_TOO_LONG == 1 && ANTS_KIND_WORLD_BAD_WIDTH == 10 && ANTS_KIND_PROGRAM_NO_LABEL == 43 && ANTS_KIND_SAVE_ALREADY_AT == 52);
+    ROW(ANTS_KIND_NO_ROOM == 60 && ANTS_KIND_BREAKS_UNKNOWN_WORD == 70 && ANTS_KIND_BREAKS_TOO_MANY == 74);
     play_rows();
-    text_rows();
-    run_row();
     look_rows();
     largest_look_rows();
     once_rows();
     null_rows();
     version_rows();
     call_rows();
+    files_rows();
+    command_rows();
     return failures != 0;
 }

@@ -1,5 +1,5 @@
 #!/usr/bin/env python3
-"""Holds the Python package against the built program: what each function gives is what the command writes, and each refusal reads as its fault line.
+"""Checks the Python package against the built program: each function returns what the command prints, and each refusal reads as the line of its error.
 
 PROGRAM names the program, if it isn't that of the tree; the library is found as icfp_ants finds it.
 """
@@ -18,12 +18,12 @@ import unittest
 import icfp_ants
 from icfp_ants._declared import FUNCTIONS
 from fault_words import FAULT_WORDS, says
+from faults import rows
 
 TOP = os.path.dirname(os.path.dirname(os.path.abspath(__file__)))
 PROGRAM = os.environ.get("PROGRAM", os.path.join(TOP, "crates", "ants", "out", "ants"))
 MOST_BYTES, MOST_STATES, MOST_SEED = 4194304, 10000, 4294967295
-RIM = "# # # #\n"
-WORLD = "4\n3\n" + RIM + "# + - #\n" + RIM
+WORLD = "4\n3\n# # # #\n# + - #\n# # # #\n"
 
 
 def example(name):
@@ -32,27 +32,6 @@ def example(name):
 
 
 LONG = b"x" * (MOST_BYTES + 1)
-CROWD = "512\n512\n" + "#" * 512 + "\n" + ("#" + "+" * 510 + "#\n") * 33 + ("#" + "." * 510 + "#\n") * 477 + "#" * 512 + "\n"
-
-# Texts at fault, each with the number of its kind as ants.h has it.
-FAULTS_OF_WORLDS = (
-    (1, LONG), (10, "2\n3\n"), (10, "# . . #\n"), (11, "4\n513\n"), (12, "4\n3\n" + RIM), (13, "4\n3\n" + RIM + "# + x #\n" + RIM),
-    (14, "4\n3\n" + RIM + "# +\n" + RIM), (15, "4\n3\n" + RIM + "# + - # #\n" + RIM), (16, WORLD + RIM), (17, "4\n3\n" + RIM + "# + - .\n" + RIM),
-    (18, CROWD),
-)
-FAULTS_OF_BRAINS = (
-    (1, LONG), (20, b"Drop \xff\n"), (21, "hop 0\n"), (22, "Drop\n"), (23, "Drop 0\nDrop x\n"), (24, "Drop 0 0\n"), (25, "Drop 0\n" * (MOST_STATES + 1)),
-    (26, ""), (26, "; nothing\n"), (27, "Drop 0\nMove 0 7\n"),
-)
-FAULTS_OF_PROGRAMS = (
-    (1, LONG), (30, b"Drop next \x80\n"), (31, "foo\n"), (32, "Move next\n"), (33, "Mark 6 next\n"), (34, "Drop next next\n"), (35, "Move go 1\n"),
-    (36, "end\n"), (37, "a:\nDrop a\na:\n"), (38, "block a\nuse a\n"), (39, "block b p\nDrop p\nend\nuse b\n"), (40, "Drop next\n" * (MOST_STATES + 1)),
-    (41, "block a\nend\n"), (42, ""), (43, "Move go go\n"),
-)
-FAULTS_OF_SAVES = (  # with how many rounds are asked for; the save is at round 1
-    (1, LONG, 5), (50, "", 5), (50, example("one_ant.save").replace("end\n", ""), 5), (51, example("one_ant.save").replace("taken 1", "taken 2"), 5),
-    (52, example("one_ant.save"), 0),
-)
 
 
 class Beside(unittest.TestCase):
@@ -123,11 +102,6 @@ class Games(Beside):
         self.assertEqual(icfp_ants.resume(saved, rounds=300, dumps=(300, 150)), self.written(*words, save=saved))
         fault = self.assert_refused(lambda: icfp_ants.resume(saved, rounds=99), "resume", "save", "--rounds", 99, save=saved)
         self.assertEqual((fault.name, fault.number), ("save", 100))
-
-    def test_each_fault_of_a_save(self):
-        for kind, text, rounds in FAULTS_OF_SAVES:
-            fault = self.assert_refused(lambda: icfp_ants.resume(text, rounds=rounds), "resume", "save", "--rounds", rounds, save=text)
-            self.assertEqual((fault.name, fault.kind), ("save", kind))
 
     def test_refused_texts_in_their_order(self):
         good = self.game("heap.world", "bring_home.brain", "trail.brain")
@@ -207,9 +181,6 @@ class Texts(Beside):
 
     def test_programs(self):
         self.assertEqual(icfp_ants.asm(example("trail.asm")), example("trail.brain"))
-        for kind, text in FAULTS_OF_PROGRAMS:
-            fault = self.assert_refused(lambda: icfp_ants.asm(text), "asm", "program", program=text)
-            self.assertEqual((fault.name, fault.kind), ("program", kind))
 
     def test_brains_that_differ(self):
         first, second = "Move 1 0\nDrop 0\n", "Move 1 0\nTurn Left 0\n"
@@ -229,19 +200,24 @@ class Texts(Beside):
         fault = self.assert_refused(lambda: icfp_ants.gen(1, width=12, height=12), "gen", 1, "--width", 12, "--height", 12)
         self.assertEqual((fault.name, fault.kind, fault.number), ("", 60, 0))
 
-    def test_each_fault_of_a_world(self):
-        for kind, text in FAULTS_OF_WORLDS:
-            fault = self.assert_refused(lambda: icfp_ants.score(text, "Drop 0\n", "Drop 0\n", 1, 1), "show", "world", 1, world=text)
-            self.assertEqual((fault.name, fault.kind), ("world", kind))
-
-    def test_each_fault_of_a_brain(self):
-        for kind, text in FAULTS_OF_BRAINS:
-            fault = self.assert_refused(lambda: icfp_ants.brain(text), "brain", "brain", brain=text)
-            self.assertEqual((fault.name, fault.kind), ("brain", kind))
+    def test_each_fault_of_a_text_alone(self):
+        """Each row of faults.txt of one text, by the function of its command."""
+        drops = "Drop 0\n", "Drop 0\n"
+        functions = {
+            "show": lambda it: icfp_ants.score(it, *drops, 1, 1), "brain": icfp_ants.brain, "minimise": icfp_ants.minimise, "asm": icfp_ants.asm,
+            "resume": lambda it: icfp_ants.resume(it, rounds=3), "advance": lambda it: icfp_ants.advance(it, rounds=3),
+        }
+        found = [row for row in rows() if row.text == 1 and len(row.files) == 1 and row.words[0] in functions]
+        self.assertGreater(len(found), 35)
+        for row in found:
+            with self.subTest(row.said):
+                with self.assertRaises(icfp_ants.Refused) as caught:
+                    functions[row.words[0]](*row.files.values())
+                fault = caught.exception
+                self.assertEqual((fault.kind, fault.line, fault.column, fault.number, fault.words), (*row[4:8], row.says))
 
     def test_no_kind_is_left_out(self):
-        tables = FAULTS_OF_WORLDS, FAULTS_OF_BRAINS, FAULTS_OF_PROGRAMS, FAULTS_OF_SAVES
-        self.assertEqual({row[0] for table in tables for row in table} | {60}, set(FAULT_WORDS))
+        self.assertEqual({row.kind for row in rows()} - {0}, set(FAULT_WORDS))
         self.assertEqual(set(icfp_ants.Kind), set(FAULT_WORDS))
 
     def test_fault_in_numbers(self):

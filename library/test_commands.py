@@ -1,9 +1,11 @@
 #!/usr/bin/env python3
-"""Holds `call` and the functions over it against the built program, and against docs/RULES.md.
+"""Checks `call` and the functions over it against the built program, against docs/RULES.md and against faults.txt.
 
 PROGRAM names the program, if it isn't that of the tree; the library is found as icfp_ants finds it.
 """
+import contextlib
 import copy
+import io
 import os
 import pickle
 import re
@@ -11,10 +13,14 @@ import struct
 import subprocess
 import tempfile
 import unittest
-from unittest import mock
+import warnings
 
 import icfp_ants
-from icfp_ants import Ant, Cell, Colour, Counts, Death, Event, Executed, Kind, Label, Line, Played, Refused, Renumbered, Score, Standing, Step, Stop, Use
+from icfp_ants import (
+    Ant, Cell, Colour, Counts, Death, Event, Executed, Fault, Kind, Label, Line, Played, Refused, Renumbered, Score, Standing, Step, Stop, Use,
+)
+from icfp_ants._library import library
+from faults import rows
 from test_ants import LONG, MOST_SEED, PROGRAM, TOP, WORLD, Beside, example
 
 RED, BLACK = Colour.RED, Colour.BLACK
@@ -53,10 +59,45 @@ class EveryExample(unittest.TestCase):
                 self.assertEqual(self.ran(line, "call"), self.ran(line, "program"))
 
 
+class ReadMe(Beside):
+    """The examples of library/README.md."""
+
+    def block(self, language):
+        with open(os.path.join(TOP, "library", "README.md"), encoding="ascii") as file:
+            return re.search("^```%s\n(.*?)^```$" % language, file.read(), re.M | re.S)[1]
+
+    def test_in_python_print_what_the_comments_say(self):
+        code, printed = self.block("python"), io.StringIO()
+        place = os.getcwd()
+        self.addCleanup(os.chdir, place)
+        os.chdir(TOP)
+        with contextlib.redirect_stdout(printed), warnings.catch_warnings():
+            warnings.simplefilter("ignore", ResourceWarning)  # the page leaves the closing of a file to Python
+            exec(compile(code, "README.md", "exec"), {})
+        lines, comments = [it for it in printed.getvalue().split("\n") if it], re.findall(r"print.*  # (.*)", code)
+        self.assertEqual((len(lines), len(comments)), (7, 7))
+        for line, comment in zip(lines, comments):
+            self.assertTrue(line.startswith(comment[:-3]) if comment.endswith("...") else comment.startswith(line), (line, comment))
+
+    def test_in_c_prints_what_the_program_does(self):
+        source, built = os.path.join(self.folder, "main.c"), os.path.join(self.folder, "main")
+        with open(source, "w", encoding="ascii") as file:
+            file.write('#include "ants.h"\n#include <stdio.h>\nint main(void) {\nuint8_t bytes[99];\nsize_t length = fread(bytes, 1, 99, stdin);\n')
+            file.write(self.block("c") + "return (int)answer.status;\n}\n")
+        found = library()._name
+        words = ["cc", "-Wall", "-Werror", "-I", os.path.join(TOP, "library"), source, found, "-Wl,-rpath," + os.path.dirname(found), "-o", built]
+        subprocess.run(words, check=True)
+        for text in (b"Drop 1\nDrop 0\n", b"Drop 7\n"):
+            ran = subprocess.run([built], input=text, stdout=subprocess.PIPE, stderr=subprocess.PIPE)
+            self.assertEqual((ran.returncode, ran.stdout.decode(), ran.stderr.decode()), self.program("minimise", "my.brain", **{"my.brain": text}))
+
+
 class Calls(Beside):
     def assert_called(self, *words, **texts):
         """`call` gives the status, the output and the line of the program."""
-        self.assertEqual(icfp_ants.call(list(map(str, words)), texts), self.program(*words, **texts))
+        called = icfp_ants.call(list(map(str, words)), texts)
+        self.assertEqual(called[:3], self.program(*words, **texts))
+        self.assertEqual(called.numbers is None, called.status == 0)
 
     def test_statuses(self):
         self.assert_called()
@@ -78,7 +119,13 @@ class Calls(Beside):
             "run w r none --seed 7 --rounds 0", "run w r w --seed 7 --rounds 0", "turn w",
         ):
             self.assert_called(*line.split(" "), **files, p=example("trail.asm"), k="Score Red 1\n")
-        self.assertEqual(icfp_ants.call(["run", "w", "r", "b", "--far"], files), (2, "", "ants: word 5 refused\n"))
+
+    def test_each_row_of_the_table_of_faults(self):
+        for row in rows():
+            with self.subTest(row.said):
+                name = [*row.files][row.text - 1] if row.text else ""
+                numbers = Fault(name, row.says, Kind(row.kind) if row.kind else None, row.line, row.column, row.number)
+                self.assertEqual(icfp_ants.call(row.words, row.files), (row.status, "", row.said, numbers))
 
     def test_a_file_of_no_bytes_and_one_of_no_use(self):
         self.assert_called("same", "first", "second", first="", second="", third="x")
@@ -87,13 +134,13 @@ class Calls(Beside):
         names = ["-", "a b", "é ü", "a/b.brain", "./--name", "/".join(["x" * 200] * 9)]
         for name in names:
             files = {**{it: "Drop 1\n" for it in names}, name: "Drop 0\n"}
-            self.assertEqual(icfp_ants.call(["brain", name], files), (0, "Drop 0\n", ""))
-            self.assertEqual(icfp_ants.call(["brain", name], {**files, name: "Drop 7\n"}), (5, "", "ants: %s: line 1: no such state 7\n" % name))
+            self.assertEqual(icfp_ants.call(["brain", name], files), (0, "Drop 0\n", "", None))
+            fault = Fault(name, "line 1: no such state 7", Kind.BRAIN_NO_SUCH_STATE, 1, 0, 7)
+            self.assertEqual(icfp_ants.call(["brain", name], {**files, name: "Drop 7\n"}), (5, "", "ants: %s: line 1: no such state 7\n" % name, fault))
 
-    def test_what_is_longer_than_the_first_rooms(self):
-        with mock.patch.multiple("icfp_ants._calling", _ROOM=1, _ROOM_FOR_LINE=1):
-            self.assert_called("run", "world", "red", "black", "--seed", 7, "--rounds", 9, "--dump", "all", **AMBUSH)
-            self.assert_called("brain", "brain", brain="Move 0 7\n")
+    def test_a_text_may_be_as_long_as_a_number_says(self):
+        for most in (1 << 31, 1 << 45, 2 ** 63 - 1):
+            self.assertEqual(icfp_ants.call(["brain", "b"], {"b": "Drop 0"}, most=most).output, "Drop 0\n")
 
     def test_no_text_is_longer_than_the_most(self):
         """Of each function with `most` a text of just so many bytes comes, and with one byte less allowed none."""
@@ -311,16 +358,13 @@ class Faults(Beside):
                 self.assertEqual((fault.name, fault.kind), (name, kind))
 
     def test_of_breaks(self):
-        for text, kind, line in (
-            ("hop 1", Kind.BRAIN_UNKNOWN_WORD, 1), ("\nRound", Kind.BRAIN_MISSING_TOKEN, 2), ("Round x", Kind.BRAIN_BAD_NUMBER, 1), ("Round 1 1", Kind.BRAIN_EXTRA_TOKEN, 1),
-            ("Round 1\n" * 257, Kind.BRAIN_TOO_MANY, 257), (LONG, Kind.TOO_LONG, 0),
-        ):
+        found = [row for row in rows() if row.words[:1] == ["view"] and row.said.startswith("ants: k: ")]
+        self.assertEqual(len(found), 6)
+        for row in found:
             with self.assertRaises(Refused) as caught:
-                icfp_ants.view(**AMBUSH, breaks=text, seed=1, rounds=1)
+                icfp_ants.view(**AMBUSH, breaks=row.files["k"], seed=1, rounds=1)
             fault = caught.exception
-            printed = self.program("view", "world", "red", "black", "breaks", "--seed", 1, "--rounds", 1, **AMBUSH, breaks=text)
-            self.assertEqual((5, "", "ants: %s\n" % fault), printed)
-            self.assertEqual((fault.name, fault.kind, fault.line, fault.column, fault.number), ("breaks", kind, line, 0, 0))
+            self.assertEqual((fault.name, fault.kind, fault.line, fault.column, fault.number, fault.words), ("breaks", *row[4:8], row.says))
 
     def test_of_a_cup_are_named_by_their_place(self):
         worlds, brains = {"w": WORLD, "v": WORLD}, {"a": "Drop 0\n", "b": "Drop 0\n"}

@@ -37,10 +37,10 @@ static const char *const commands[] = {
     "resume\nworld\n--rounds\n1", "view\nworld\nbrain\nother\nworld\n--seed\n1\n--rounds\n1",
     "gen\n1\n--width\n3\n--height\n3", "advance\nsave\n--rounds\n0",
 };
-enum { COMMANDS = sizeof commands / sizeof *commands, SCORE = COMMANDS, SCORES, LOOK, VERSION, CALLS };
+enum { COMMANDS = sizeof commands / sizeof *commands, SCORE = COMMANDS, SCORES, LOOK, VERSION, COMMAND, CALLS };
 
 static const char *name_of(int which) {
-    static const char *const others[] = {"ants_score", "ants_scores", "ants_look", "ants_version"};
+    static const char *const others[] = {"ants_score", "ants_scores", "ants_look", "ants_version", "ants_command"};
     return which < COMMANDS ? commands[which] : others[which - COMMANDS];
 }
 
@@ -49,6 +49,16 @@ static const uint8_t *file(size_t place) {
     const uint8_t *begin = bytes;
     for (size_t before = 0; before < place; before++) begin += sizes[before];
     return begin;
+}
+
+/* The command of most files, with rooms of its own. */
+static uint32_t command(void) {
+    static const char *const words[] = {"view", "world", "brain", "other", "breaks", "--seed", "1", "--rounds", "2"};
+    const struct ants_file held[] = {{"world", file(0), sizes[0]}, {"brain", file(1), sizes[1]}, {"other", file(2), sizes[2]}, {"breaks", file(4), sizes[4]}};
+    struct ants_answer answer;
+    uint32_t status = ants_command(9, words, held, 4, 0, &answer);
+    ants_answer_free(&answer);
+    return status;
 }
 
 static uint32_t call(int which) {
@@ -60,9 +70,10 @@ static uint32_t call(int which) {
     case LOOK:
         return ants_look(world, sizes[0], red, sizes[1], black, sizes[2], 1, rounds, ROUNDS, scores, ROUNDS, ants, ROUNDS * ANTS, &used, &fault, said, LINE);
     case VERSION: return ants_version(out, ROOM, &used);
+    case COMMAND: return command();
     default:
         return ants_call((const uint8_t *)commands[which], strlen(commands[which]), (const uint8_t *)names, strlen(names), sizes, files, bytes, length,
-                         out, ROOM, &used, said, LINE, &told);
+                         out, ROOM, &used, said, LINE, &told, &fault);
     }
 }
 

@@ -2,13 +2,14 @@
 import re
 from typing import NamedTuple, Optional
 
-from ._library import Text, number_of, text_of, texts_of
+from ._calling import output_of
+from ._library import Text, number_of, texts_of
 
 
 class Difference(NamedTuple):
     """Where two brains first differ: after how many answers, and in which state each is then, with its instruction there.
 
-    An answer is what an instruction comes to: met, or unmet where it names two states.
+    An answer is what an instruction comes to: met, or unmet if it names two states.
     """
     answers: int
     first_state: int
@@ -19,27 +20,27 @@ class Difference(NamedTuple):
 
 def brain(brain: Text) -> str:
     """The canonical text of a brain."""
-    return text_of("ants_brain", texts_of(brain=brain))
+    return output_of(["brain", "brain"], texts_of(brain=brain))
 
 
 def minimise(brain: Text) -> str:
     """The canonical text of the brain with equivalent states merged and unreached ones dropped: what `ants minimise` prints below its first line."""
-    return text_of("ants_minimise", texts_of(brain=brain))
+    return output_of(["minimise", "brain"], texts_of(brain=brain)).partition("\n")[2]
 
 
 def asm(program: Text) -> str:
     """The canonical text of the brain that a program with labels and blocks becomes."""
-    return text_of("ants_asm", texts_of(program=program))
+    return output_of(["asm", "program"], texts_of(program=program))
 
 
 def same(first: Text, second: Text) -> bool:
-    """Whether two brains are the same but for the numbers of their states."""
+    """Whether two brains are the same except for the numbers of their states."""
     return difference(first, second) is None
 
 
 def difference(first: Text, second: Text) -> Optional[Difference]:
-    """Where two brains first differ, or None where they are the same but for the numbers of their states."""
-    text = text_of("ants_same", texts_of(first=first, second=second))
+    """Where two brains first differ, or None if they are the same except for the numbers of their states."""
+    text = output_of(["same", "first", "second"], texts_of(first=first, second=second))
     if text == "same\n":
         return None
     found = re.fullmatch(r"different after (\d+) answers\nfirst (\d+): (.*)\nsecond (\d+): (.*)\n", text)
@@ -49,5 +50,5 @@ def difference(first: Text, second: Text) -> Optional[Difference]:
 
 def gen(seed: int, width: int = 150, height: int = 150, rocks: int = 14, blobs: int = 11) -> str:
     """A world in the contest's manner, as `ants gen` prints it: of 3 to 512 columns and rows, with 0 to 255 rocks and blobs of food, if all have room."""
-    sides = number_of("width", width, 3, 512), number_of("height", height, 3, 512)
-    return text_of("ants_gen", {}, number_of("seed", seed), *sides, number_of("rocks", rocks, most=255), number_of("blobs", blobs, most=255))
+    words = ["gen", number_of("seed", seed), "--width", number_of("width", width, 3, 512), "--height", number_of("height", height, 3, 512)]
+    return output_of(words + ["--rocks", number_of("rocks", rocks, most=255), "--blobs", number_of("blobs", blobs, most=255)], {})

@@ -1,83 +1,87 @@
-"""The program's commands as words, over files that the caller holds."""
-import re
-from ctypes import byref, c_char, c_size_t, c_uint32
+"""The program's commands as words, over files that the caller holds. All functions that print a text rest on this one call."""
+import sys
+from ctypes import byref, c_char, c_size_t, c_uint32, create_string_buffer
 from types import MappingProxyType
-from typing import Callable, Iterable, Mapping, NamedTuple
+from typing import Iterable, List, Mapping, NamedTuple, Optional
 
 from . import _declared
 from ._declared import Kind
-from ._library import MOST_BYTES, Refused, Text, Texts, area_of, bytes_of, check_length, is_done, library, line_of, names_of, numbers_of, room_within
+from ._library import MOST_BYTES, Fault, Refused, Text, Texts, area_of, bytes_of, library, line_of, names_of, number_of, numbers_of
 
-_ROOM, _ROOM_FOR_LINE = MOST_BYTES, 1 << 10  # bytes of the first rooms
+_MOST_OF_TEXT = 4194304
+_LARGEST_ROOM = 1 << 40  # bytes; no machine has memory for a longer text
+_REST_OF_LINE = 256  # bytes of a line besides the name in it
 _NO_FILES: Mapping[str, Text] = MappingProxyType({})
-_FAULTS_OF_BREAKS = {
-    "too long": Kind.TOO_LONG, "unknown word": Kind.BRAIN_UNKNOWN_WORD, "missing token": Kind.BRAIN_MISSING_TOKEN, "bad number": Kind.BRAIN_BAD_NUMBER,
-    "extra token": Kind.BRAIN_EXTRA_TOKEN, "too many breaks": Kind.BRAIN_TOO_MANY,
-}
 
 
 class Called(NamedTuple):
-    """What came of a command: the program's status, what it printed, and the line in which it says what is wrong, which is empty at 0."""
+    """What came of a command: the program's status, what it printed, the line that says what is wrong, which is empty at 0, and the same in numbers.
+
+    `numbers` is None except at status 2, 3 and 5.
+    """
     status: int
     output: str
     fault: str
+    numbers: Optional[Fault]
 
 
-def _lines(name: str, words: Iterable[str]) -> bytes:
-    """Words as a line each."""
+def _words(words: Iterable[str]) -> List[str]:
+    """The words of a command."""
     if isinstance(words, str):
-        raise TypeError("%s: a list of words is wanted, and not one of them" % name)
+        raise TypeError("words: a list of words is wanted, and not one of them")
     found = list(words)
     for it in found:
         if not isinstance(it, str):
-            raise TypeError("%s: a word is wanted, as str, and not %s: %r" % (name, type(it).__name__, it))
-    return b"".join(line_of(name, it) for it in found)
+            raise TypeError("words: a word is wanted, as str, and not %s: %r" % (type(it).__name__, it))
+    return found
 
 
 def call(words: Iterable[str], files: Mapping[str, Text] = _NO_FILES, most: int = MOST_BYTES) -> Called:
-    """Runs the program with these words, which don't have its name, over these files by their names; "-" is a name as any other.
+    """Runs the program with these words, without its name, over these files by their names; "-" is a name like any other.
 
     Nothing is read from the machine: a file that isn't among these is one that can't be read, with status 3. `--far` is no option, and workers play on
     this thread. No word and no name has a line break. A text of more than `most` bytes is a ValueError: some lines of a program with blocks become
-    gigabytes of labels. A call, also by a function that prints lines, maps 256 MiB, of which it uses what is written.
+    gigabytes of labels. A call maps `most` bytes, and takes memory for those that are written. So no game is played twice.
     """
-    spoken, names = _lines("words", words), _lines("files", names_of("files", files))
-    texts = [bytes_of(name, text) for name, text in files.items()]
+    found, names = _words(words), names_of("files", files)
+    return _called(found, {name: bytes_of(name, text) for name, text in files.items()}, names, most)
+
+
+def _called(words: Iterable[str], files: Texts, names: List[str], most: int) -> Called:
+    """Runs the program with these words over these files; a file that is refused has the name of its place here."""
+    spoken = b"".join(line_of("words", it) for it in words)
+    named = b"".join(line_of("files", it) for it in files)
+    texts = [text if len(text) <= _MOST_OF_TEXT else text[:_MOST_OF_TEXT + 1] for text in files.values()]  # a longer one is as wrong
     sizes, contents = numbers_of("files", map(len, texts)), b"".join(texts)
-    room, room_for_line = room_within(most, _ROOM), _ROOM_FOR_LINE
-    while True:
-        area, area_for_line = area_of(room), area_of(room_for_line)
-        out, said, used, told = c_char.from_buffer(area), c_char.from_buffer(area_for_line), c_size_t(), c_size_t()
-        status = library().ants_call(
-            spoken, len(spoken), names, len(names), byref(c_uint32.from_buffer(sizes)), len(texts), contents, len(contents),
-            byref(out), room, byref(used), byref(said), room_for_line, byref(told))
-        if status == _declared.MEMORY:
-            raise MemoryError("memory could not be had")
-        if status != _declared.NO_ROOM:
-            with memoryview(area) as output, memoryview(area_for_line) as line:
-                return Called(status, str(output[:used.value], "utf-8"), str(line[:told.value], "utf-8"))
-        check_length(used.value, most)
-        room, room_for_line = max(room, used.value), max(room_for_line, told.value)
+    room = min(number_of("most", most, most=sys.maxsize), _LARGEST_ROOM)
+    area, line = area_of(max(1, room)), create_string_buffer(len(spoken) + _REST_OF_LINE)
+    out, used, told, fault = c_char.from_buffer(area), c_size_t(), c_size_t(), _declared.Fault()
+    status = library().ants_call(
+        spoken, len(spoken), named, len(named), byref(c_uint32.from_buffer(sizes)), len(texts), contents, len(contents), byref(out), room, byref(used),
+        line, len(line), byref(told), byref(fault))
+    if status == _declared.MEMORY:
+        raise MemoryError("out of memory")
+    if status == _declared.NO_ROOM:
+        raise ValueError("most: the text has %d bytes, and %d are allowed" % (used.value, most))
+    said = line.raw[:told.value].decode()
+    with memoryview(area) as output:
+        return Called(status, str(output[:used.value], "utf-8"), said, _fault_of(status, fault, said, names))
 
 
-def output_of(words: Iterable[object], files: Mapping[str, Text], read: Callable[[], object], most: int = MOST_BYTES) -> str:
-    """What a command prints over these files. Where one of them is refused, `read` reads them again and raises why, in numbers."""
-    status, output, fault = call(list(map(str, words)), files, most)
+def _fault_of(status: int, fault: _declared.Fault, line: str, names: List[str]) -> Optional[Fault]:
+    """The numbers of a refusal, with the name of its file, and its words, which end the line."""
+    if status == _declared.DONE:
+        return None
+    words = line.rstrip("\n")
+    return Fault(
+        ["", *names][fault.text], words[len(words) - fault.words:], Kind(fault.kind) if fault.kind else None, fault.line, fault.column, fault.number)
+
+
+def output_of(words: Iterable[object], files: Texts, names: Optional[List[str]] = None, most: int = MOST_BYTES) -> str:
+    """What a command prints over these files. If one of them is refused, it is named by its place among these names, or else by its own."""
+    status, output, line, numbers = _called(map(str, words), files, list(files) if names is None else names, most)
     if status == _declared.DONE:
         return output
-    if status == _declared.REFUSED:
-        read()
-        _refuse_breaks(fault)
-    raise ValueError(fault[len("ants: "):].rstrip("\n"))
-
-
-def _refuse_breaks(line: str) -> None:
-    """Raises what a line says of a text of breaks, whose faults are those of a brain."""
-    found = re.fullmatch(r"ants: breaks: ((?:line (\d+): )?(.*))\n", line)
-    if found:
-        raise Refused("breaks", found[1], _FAULTS_OF_BREAKS[found[3]], int(found[2] or 0), 0, 0)
-
-
-def read_game(game: Texts) -> None:
-    """Reads a world and the two brains that are behind it."""
-    is_done("ants_score", game, 0, 0, byref(_declared.Score()))
+    if numbers and numbers.kind:
+        raise Refused(numbers.name, numbers.words, numbers.kind, numbers.line, numbers.column, numbers.number)
+    raise ValueError(line[len("ants: "):].rstrip("\n"))

@@ -1,28 +1,24 @@
-"""The commands that tell of games and brains, each as a function with its options."""
+"""The commands that report on games and brains, each as a function with its options."""
 from typing import Mapping, Optional, Tuple
 
-from ._calling import output_of, read_game
+from ._calling import output_of
 from ._games import Score, counts_of, game_output, score_of
-from ._library import MOST_LISTED, MOST_ROUNDS, Text, Texts, bytes_of, line_of, names_of, number_of, text_of, texts_of
+from ._library import MOST_LISTED, MOST_ROUNDS, Text, Texts, bytes_of, line_of, names_of, number_of, texts_of
 from ._printed import (
     Colour, Cup, Death, Event, Executed, Label, Line, Played, Printed, Renumbered, Standing, Step, Stop, Traced, Workload, cell_of, tuples_of, uses_of,
 )
 
 _MOST_ID = 16383
-_DROP = b"Drop 0\n"
 
 
 def show(world: Text, seed: int) -> str:
     """What `ants show` prints of a world at the start of a game: its dump after round 0."""
-    shown = texts_of(world=world)
-    return output_of(["show", "world", number_of("seed", seed)], shown, lambda: read_game({**shown, "red": _DROP, "black": _DROP}))
+    return output_of(["show", "world", number_of("seed", seed)], texts_of(world=world))
 
 
 def view(world: Text, red: Text, black: Text, breaks: Text, seed: int, rounds: int) -> Optional[Stop]:
     """The first turn after which one of these breaks holds, or None. The text of the stop has the world as it stands then, which `cells` reads."""
-    game, files = texts_of(world=world, red=red, black=black), texts_of(world=world, red=red, black=black, breaks=breaks)
-    words = ["view", *files, "--seed", number_of("seed", seed), "--rounds", number_of("rounds", rounds, most=MOST_ROUNDS)]
-    text = output_of(words, files, lambda: read_game(game))
+    text = game_output("view", texts_of(world=world, red=red, black=black, breaks=breaks), (), seed, rounds, ())
     line = text.split("\n", 2)[1]
     if line.startswith("no stop "):
         return None
@@ -34,7 +30,7 @@ def trace(
     world: Text, red: Text, black: Text, ant: int, seed: int, rounds: int, start: int = 0, surround: int = 5, corpse: int = 3, rest: int = 14,
     most: int = MOST_LISTED,
 ) -> Printed[Traced]:
-    """Where the ant of this id is after each round from `start` on, up to the one after which it is dead. An id that the world has no ant of is a ValueError.
+    """Where the ant of this id is after each round from `start` on, up to the one after which it is dead. If the world has no ant of this id, it is a ValueError.
 
     The text has at most `most` bytes.
     """
@@ -75,7 +71,7 @@ def profile(
 
 
 def _files(kind: str, texts: Mapping[str, Text], least: int) -> Texts:
-    """The texts of a cup by their names, which are to be words that name files."""
+    """The texts of a cup by their names, which must be words that name files."""
     names = names_of(kind, texts)
     number_of(kind, len(names), least, 16)
     for name in names:
@@ -91,14 +87,8 @@ def cup(worlds: Mapping[str, Text], brains: Mapping[str, Text], seed: int, round
     for name in grounds.keys() & minds.keys():
         raise ValueError("brains[%r]: a world has this name" % name)
     words = ["cup", "--worlds", *grounds, "--brains", *minds, "--seed", number_of("seed", seed), "--rounds", number_of("rounds", rounds, most=MOST_ROUNDS)]
-
-    def read() -> None:
-        for name, text in grounds.items():
-            read_game({"worlds[%r]" % name: text, "red": _DROP, "black": _DROP})
-        for name, text in minds.items():
-            text_of("ants_brain", {"brains[%r]" % name: text})
-
-    text = output_of(words + (["--games"] if games else []), {**grounds, **minds}, read)
+    shown = ["worlds[%r]" % it for it in grounds] + ["brains[%r]" % it for it in minds]
+    text = output_of(words + (["--games"] if games else []), {**grounds, **minds}, shown)
     names = list(minds)
     pairs = [(one, other) for place, first in enumerate(names) for second in names[place + 1:] for one, other in ((first, second), (second, first))]
     lines = text.split("\n")[:-1]
@@ -111,26 +101,23 @@ def cup(worlds: Mapping[str, Text], brains: Mapping[str, Text], seed: int, round
 def labels(program: Text, most: int = MOST_LISTED) -> Printed[Label]:
     """The labels of a program, each with the state to which it leads. A text of more than `most` bytes is a ValueError.
 
-    A block's labels come again with each use of it: 74 KB of a program may have 20 million lines, and each takes some 300 bytes here.
+    Each use of a block repeats its labels: 74 KB of a program may have 20 million lines, and each takes some 300 bytes here.
     """
-    files = texts_of(program=program)
-    text = output_of(["asm", "program", "--labels"], files, lambda: text_of("ants_asm", files), most)
+    text = output_of(["asm", "program", "--labels"], texts_of(program=program), most=most)
     found = tuples_of(r"(\d+) (?:(.*)/)?(\w+)", text.split("\n")[:-1])
     return Printed(text, (Label(int(state), uses_of(uses or ""), name) for state, uses, name in found))
 
 
 def lines(program: Text, most: int = MOST_LISTED) -> Printed[Line]:
-    """For each state of the brain that a program becomes the line of its instruction. A text of more than `most` bytes is a ValueError."""
-    files = texts_of(program=program)
-    text = output_of(["asm", "program", "--lines"], files, lambda: text_of("ants_asm", files), most)
+    """For each state of the brain that a program becomes, the line of its instruction. A text of more than `most` bytes is a ValueError."""
+    text = output_of(["asm", "program", "--lines"], texts_of(program=program), most=most)
     found = tuples_of(r"(\d+) (\d+)(?: (.*))?", text.split("\n")[:-1])
     return Printed(text, (Line(int(state), uses_of(uses or ""), int(line)) for state, line, uses in found))
 
 
 def way(first: Text, second: Text) -> Printed[Step]:
-    """The states through which two brains come to where they first differ, which is the last one; none where they are the same."""
-    files = texts_of(first=first, second=second)
-    text = output_of(["same", "first", "second", "--way"], files, lambda: text_of("ants_same", files))
+    """The states through which two brains come to where they first differ, which is the last one; none if they are the same."""
+    text = output_of(["same", "first", "second", "--way"], texts_of(first=first, second=second))
     if text == "same\n":
         return Printed(text, [])
     *answers, one, other = text.split("\n")[1:-1]
@@ -140,15 +127,13 @@ def way(first: Text, second: Text) -> Printed[Step]:
 
 def states(brain: Text) -> Printed[Renumbered]:
     """For each state of a brain its number in the minimised one."""
-    files = texts_of(brain=brain)
-    text = output_of(["minimise", "brain", "--states"], files, lambda: text_of("ants_minimise", files))
+    text = output_of(["minimise", "brain", "--states"], texts_of(brain=brain))
     found = tuples_of(r"(\d+) (?:(\d+)|dropped)", text.split("\n")[:-1])
     return Printed(text, (Renumbered(int(old), int(new) if new else None) for old, new in found))
 
 
 def workload(seed: int, rounds: int) -> Workload:
     """What came of a game of the contest's size that needs no file."""
-    words = ["workload", number_of("seed", seed), number_of("rounds", rounds, most=MOST_ROUNDS), 1]
-    text = output_of(words, {}, lambda: text_of("ants_gen", {}, seed, 150, 150, 14, 11))
+    text = output_of(["workload", number_of("seed", seed), number_of("rounds", rounds, most=MOST_ROUNDS), 1], {})
     [(ants, food, red, black)] = tuples_of(r"ants (\d+), food (\d+), alive red (\d+) black (\d+)", [", ".join(text.split("\n")[1:4])])
     return Workload(int(ants), int(food), int(red), int(black), score_of(text), counts_of(text))

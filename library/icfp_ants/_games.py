@@ -6,15 +6,11 @@ from ctypes import byref, c_uint32, sizeof
 from typing import Callable, Dict, Iterable, List, NamedTuple, Tuple
 
 from . import _declared
-from ._calling import output_of, read_game
-from ._library import (
-    MOST_BYTES, MOST_ROUNDS, Answer, Text, Texts, bytes_of, is_done, library, number_of, numbers_of, str_of, text_of, texts_of, whole_numbers,
-)
+from ._calling import output_of
+from ._library import MOST_BYTES, MOST_ROUNDS, Answer, Text, Texts, bytes_of, is_done, library, number_of, numbers_of, str_of, texts_of, whole_numbers
 
-_MOST_CELLS = 512 * 512
 _MOST_WORKERS = 256
 _MOST_WINDOW = 16384
-_SHEET = 5, 3, 14  # the contest's numbers of the rules: foes that surround, food of a corpse, turns of rest
 _PARTS = 8  # of the games for each worker, so that all end at much the same time
 
 
@@ -25,7 +21,7 @@ class Score(NamedTuple):
 
 
 class Counts(NamedTuple):
-    """Of all turns of a game, how many were taken as they were looked at, and how many were made anew."""
+    """Of all turns of a game, how many were taken as they were looked at, and how many were executed again."""
     turns: int
     taken: int
     redone: int
@@ -35,37 +31,28 @@ def _rounds(value: int) -> int:
     return number_of("rounds", value, most=MOST_ROUNDS)
 
 
-def _dumped(dumps: Iterable[int], rounds: int) -> List[int]:
-    """The rounds after which a dump comes, each once: none comes after the last round."""
-    return sorted({it for it in whole_numbers("dumps", dumps) if it <= rounds})
-
-
-def _cells(world: bytes) -> int:
-    """How many cells a world's text has, or some more."""
-    return min(len(world) - world.count(b" "), _MOST_CELLS)
-
-
-def _room_of_run(dumps: int, cells: int) -> int:
-    """A guess of how long the text of a game is, so that it is seldom played twice: a cell of a dump has some 20 to 25 bytes, and at most 150."""
-    return min((1 << 12) + dumps * cells * 40, MOST_BYTES)
+def _dump(dumps: Iterable[int], rounds: int) -> List[str]:
+    """The option for dumps after these rounds, each once: there is none after the last round."""
+    found = sorted({it for it in whole_numbers("dumps", dumps) if it <= rounds})
+    return ["--dump", ",".join(map(str, found))] if found else []
 
 
 def game_output(
     command: str, game: Texts, places: Iterable[int], seed: int, rounds: int, sheet: Tuple[int, ...], *options: object, most: int = MOST_BYTES,
 ) -> str:
-    """What a command prints of a game, with the numbers that stand behind its files, the numbers of the rules where they are given, and more options."""
+    """What a command prints of a game, with the numbers that come after its files, the numbers of the rules if they are given, and more options."""
     words = [command, *game, *places, "--seed", number_of("seed", seed), "--rounds", _rounds(rounds), *options]
     for name, value, least, greatest in zip(("surround", "corpse", "rest"), sheet, (4, 0, 0), (6, 9, 255)):
         words += ["--" + name, number_of(name, value, least, greatest)]
-    return output_of(words, game, lambda: read_game(game), most)
+    return output_of(words, game, most=most)
 
 
 def _window(value: int) -> Tuple[str, int]:
     return "--window", number_of("window", value, 1, _MOST_WINDOW)
 
 
-def _dump(rounds: List[int]) -> List[str]:
-    return ["--dump", ",".join(map(str, rounds))] if rounds else []
+def _stats(stats: bool) -> List[str]:
+    return ["--stats"] if stats else []
 
 
 def score(world: Text, red: Text, black: Text, seed: int, rounds: int) -> Score:
@@ -77,16 +64,16 @@ def score(world: Text, red: Text, black: Text, seed: int, rounds: int) -> Score:
 
 
 def scores(world: Text, red: Text, black: Text, seeds: Iterable[int], rounds: int, workers: int = 1) -> List[Score]:
-    """The score of a game for each of these seeds, by so many threads; one thread reads the texts once."""
+    """The score of a game for each of these seeds, by the given number of threads. One thread reads the texts once."""
     game = texts_of(world=world, red=red, black=black)
     return _scores_of_games(game["world"], [(game["red"], game["black"])], lambda place: list(game), seeds, rounds, workers)[0]
 
 
 def scores_of_pairs(world: Text, pairs: Iterable[Tuple[Text, Text]], seeds: Iterable[int], rounds: int, workers: int = 1) -> List[List[Score]]:
-    """For each pair of a red and a black brain the scores of its games for each of these seeds, by so many threads.
+    """For each pair of a red and a black brain, the scores of its games for each of these seeds, by the given number of threads.
 
-    A text that is refused is named by its place, as "pairs[3][1]" for the black brain of the fourth pair; that of the first pair, where there are more.
-    A pair is read when its games begin, so a refusal may come late, and no score comes then. Without a pair no text is read.
+    A refused text is named by its place, such as "pairs[3][1]" for the black brain of the fourth pair. If several are refused, it is that of the first pair.
+    A pair is read when its games begin, so a refusal may be raised late, and then no score is returned. Without a pair no text is read.
     """
     ground, listed = bytes_of("world", world), [_pair(place, pair) for place, pair in enumerate(pairs)]
     held: Dict[int, bytes] = {}  # by the text, so that one of many pairs is held once
@@ -148,56 +135,42 @@ def run(
     world: Text, red: Text, black: Text, seed: int, rounds: int, dumps: Iterable[int] = (), stats: bool = False, window: int = _MOST_WINDOW,
     surround: int = 5, corpse: int = 3, rest: int = 14, most: int = MOST_BYTES,
 ) -> str:
-    """What `ants run` prints of a game, with a dump after each of these rounds, and its counts at the end where `stats` says so: at most `most` bytes."""
+    """What `ants run` prints of a game, with a dump after each of these rounds, and its counts at the end if `stats` says so: at most `most` bytes."""
     game = texts_of(world=world, red=red, black=black)
     seed, rounds = number_of("seed", seed), _rounds(rounds)
-    dumped, sheet, windows = _dumped(dumps, rounds), (surround, corpse, rest), _window(window)
-    if stats or sheet != _SHEET:
-        return game_output("run", game, (), seed, rounds, sheet, *_dump(dumped), *windows, *(["--stats"] if stats else []), most=most)
-    room = _room_of_run(len(dumped), _cells(game["world"]))
-    return text_of("ants_run", game, seed, rounds, byref(c_uint32.from_buffer(numbers_of("dumps", dumped))), len(dumped), room=room, most=most)
+    options = [*_dump(dumps, rounds), *_window(window), *_stats(stats)]
+    return game_output("run", game, (), seed, rounds, (surround, corpse, rest), *options, most=most)
 
 
 def save(
     world: Text, red: Text, black: Text, seed: int, rounds: int, window: int = _MOST_WINDOW, surround: int = 5, corpse: int = 3, rest: int = 14,
 ) -> str:
-    """The game as it stands after this number of rounds, as `ants save` prints it."""
+    """The game as it is after this number of rounds, as `ants save` prints it."""
     game = texts_of(world=world, red=red, black=black)
-    seed, rounds, sheet = number_of("seed", seed), _rounds(rounds), (surround, corpse, rest)
-    if sheet != _SHEET or window != _MOST_WINDOW:
-        return game_output("save", game, (), seed, rounds, sheet, *_window(window))
-    room = (1 << 12) + 8 * _cells(game["world"]) + 4 * (len(game["red"]) + len(game["black"]))  # a cell has four bytes of a save
-    return text_of("ants_save", game, seed, rounds, room=min(room, MOST_BYTES))
+    return game_output("save", game, (), seed, rounds, (surround, corpse, rest), *_window(window))
 
 
 def resume(save: Text, rounds: int, dumps: Iterable[int] = (), stats: bool = False, most: int = MOST_BYTES) -> str:
-    """What `ants resume` prints of a saved game that goes on to this number of rounds in all, with the counts of all of them where `stats` says so.
+    """What `ants resume` prints of a saved game that goes on to this number of rounds in all, with the counts of all of them if `stats` says so.
 
     It has at most `most` bytes.
     """
-    saved = texts_of(save=save)
-    rounds = _rounds(rounds)
-    dumped = _dumped(dumps, rounds)
-    if stats:
-        words = ["resume", "save", "--rounds", rounds, *_dump(dumped), "--stats"]
-        return output_of(words, saved, lambda: resume(saved["save"], rounds), most)
-    room = _room_of_run(len(dumped), min(len(saved["save"]) // 4, _MOST_CELLS))
-    return text_of("ants_resume", saved, rounds, byref(c_uint32.from_buffer(numbers_of("dumps", dumped))), len(dumped), room=room, most=most)
+    saved, rounds = texts_of(save=save), _rounds(rounds)
+    return output_of(["resume", "save", "--rounds", rounds, *_dump(dumps, rounds), *_stats(stats)], saved, most=most)
 
 
 def advance(save: Text, rounds: int) -> str:
     """The save of a saved game that goes on to this number of rounds in all."""
-    saved = texts_of(save=save)
-    return output_of(["advance", "save", "--rounds", _rounds(rounds)], saved, lambda: resume(saved["save"], rounds))
+    return output_of(["advance", "save", "--rounds", _rounds(rounds)], texts_of(save=save))
 
 
 def score_of(text: str) -> Score:
-    """The score that a game's text tells, as `run` and `resume` give it."""
+    """The score in a game's text, as `run` and `resume` return it."""
     return Score(*_last_numbers(r"score: red (\d+) black (\d+)", text))
 
 
 def counts_of(text: str) -> Counts:
-    """The counts that a game's text tells, as `run` and `resume` give it with `stats`."""
+    """The counts in a game's text, as `run` and `resume` return it with `stats`."""
     return Counts(*_last_numbers(r"turns (\d+) taken (\d+) redone (\d+)", text))
 
 

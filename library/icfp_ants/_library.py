@@ -1,4 +1,4 @@
-"""The library libants.so, as Python calls it: where it is found, what it is given, and what it refuses."""
+"""The library libants.so, as Python calls it: where it is found, what is passed to it, and what it refuses."""
 import ctypes
 import functools
 import mmap
@@ -7,8 +7,8 @@ import os
 import pathlib
 import sys
 from array import array
-from ctypes import byref, c_char, c_size_t, c_uint32
-from typing import Dict, Iterable, Iterator, List, Mapping, Union
+from ctypes import byref, c_size_t, c_uint32
+from typing import Dict, Iterable, Iterator, List, Mapping, NamedTuple, Optional, Union
 
 from . import _declared
 from ._declared import Kind
@@ -18,18 +18,33 @@ Texts = Dict[str, bytes]  # the bytes of texts by their names, in the order in w
 
 MOST_NUMBER = 2 ** 32 - 1
 MOST_ROUNDS = 10 ** 6
-MOST_BYTES = 1 << 28  # of a text that comes, where the caller says nothing else; a room of so many takes memory for those that are written
-MOST_LISTED = 1 << 26  # of a text that comes as a list, whose lines take some 20 times as much
+MOST_BYTES = 1 << 28  # of a text that a command prints, unless the caller says otherwise
+MOST_LISTED = 1 << 26  # of a text that is returned as a list, whose lines take some 20 times as much
 _WORDS = 1024  # bytes for the words of a fault, which have some dozens
+_NO_RESERVE = getattr(mmap, "MAP_NORESERVE", 0x4000)  # which Python names from 3.13 on
+
+
+class Fault(NamedTuple):
+    """Why a command is refused, in numbers: the same as a `Refused` has, if a text is refused, which is status 5.
+
+    At status 2 `number` is the refused word, and at status 3 it is the word that names a file that isn't there, both counted from 1. Then `kind` is None,
+    both texts are empty and the other numbers are 0.
+    """
+    name: str
+    words: str
+    kind: Optional[Kind]
+    line: int
+    column: int
+    number: int
 
 
 class Refused(ValueError):
     """A text is refused, or an element of a generated world has no room. It reads as the program's line does, with the text's name for a file's.
 
-    name: which text, as the parameter is called, or "" where it is none. words: the program's words, as "line 3: unknown word".
+    name: which text, as the parameter is called, or "" if it is none. words: the program's words, such as "line 3: unknown word".
     kind: what is wrong, a `Kind`. line: the line, from 1, or the row of a world, from 0. column: the column of a world, from 0. number: how many ants
     there are (WORLD_TOO_MANY_ANTS), the state that is not there (BRAIN_NO_SUCH_STATE), the round of the save (SAVE_ALREADY_AT), or the number of the
-    element (NO_ROOM). Each is 0 where the kind has none.
+    element (NO_ROOM). Each is 0 if the kind has none.
     """
 
     def __init__(self, name: str, words: str, kind: Kind, line: int, column: int, number: int) -> None:
@@ -55,7 +70,7 @@ def _places() -> Iterator[str]:
 
 @functools.lru_cache(maxsize=None)
 def library() -> ctypes.CDLL:
-    """The library, of this version, with the types of its functions. Where it is not there, or is another one, it is an ImportError."""
+    """The library, of this version, with the types of its functions. If it isn't there, or is another one, it is an ImportError."""
     place = next(_places())
     try:
         found = ctypes.CDLL(place)
@@ -149,62 +164,38 @@ def whole_numbers(name: str, values: Iterable[int], most: int = MOST_NUMBER) -> 
 
 
 def numbers_of(name: str, values: Iterable[int]) -> "array[int]":
-    """Numbers as C has them, with one behind them, so that their place is no null."""
+    """Numbers as C has them, with one more after them, so that their place is not null."""
     return array("I", [*whole_numbers(name, values), 0])
 
 
 class Answer:
-    """What a call of the library writes where it refuses a text, and what that comes to."""
+    """What a call of the library writes if it refuses a text, and what is raised then."""
 
     def __init__(self) -> None:
         self.fault, self.words = _declared.Fault(), ctypes.create_string_buffer(_WORDS)
         self.passed = byref(self.fault), self.words, _WORDS
 
     def is_done(self, status: int, names: Iterable[str]) -> bool:
-        """Whether there was room enough; what is wrong otherwise is raised, where the texts have these names."""
+        """Whether there was enough room. Anything else that is wrong is raised. The texts have these names."""
         if status == _declared.NUMBER:
             raise ValueError("a number is beyond its limits")
         if status == _declared.REFUSED:
             fault, line = self.fault, self.words.raw[:self.fault.words].decode("utf-8", "replace")
             raise Refused(["", *names][fault.text], line, Kind(fault.kind), fault.line, fault.column, fault.number)
         if status == _declared.MEMORY:
-            raise MemoryError("memory could not be had")
+            raise MemoryError("out of memory")
         return status == _declared.DONE
 
 
 def is_done(function: str, texts: Texts, *more: object) -> bool:
-    """Calls a function of the library; whether it had room enough."""
+    """Calls a function of the library; whether it had enough room."""
     answer, passed = Answer(), [it for text in texts.values() for it in (text, len(text))]
     return answer.is_done(getattr(library(), function)(*passed, *more, *answer.passed), texts)
 
 
 def area_of(room: int) -> mmap.mmap:
-    """A room of so many bytes, at least 1, of which only those that are written take memory."""
+    """A room of this many bytes, at least 1. Only those that are written take memory."""
     try:
-        return mmap.mmap(-1, room, flags=mmap.MAP_PRIVATE | mmap.MAP_ANONYMOUS)
-    except OSError:
-        raise MemoryError("memory could not be had") from None
-
-
-def room_within(most: int, usual: int) -> int:
-    """How large the first room is for a text of at most `most` bytes: as usual, or less; at least 1 byte."""
-    return max(1, min(number_of("most", most, most=sys.maxsize), usual))
-
-
-def check_length(size: int, most: int) -> None:
-    """Raises a ValueError where a text has more bytes than are allowed."""
-    if size > most:
-        raise ValueError("most: the text has %d bytes, and %d are allowed" % (size, most))
-
-
-def text_of(function: str, texts: Texts, *more: object, room: int = 1 << 16, most: int = MOST_BYTES) -> str:
-    """Calls a function that writes a text, once more where the text turns out to be longer than the room."""
-    room = room_within(most, room)
-    while True:
-        area = area_of(room)
-        out, used = c_char.from_buffer(area), c_size_t()
-        if is_done(function, texts, *more, byref(out), room, byref(used)):
-            with memoryview(area) as view:
-                return str(view[:used.value], "ascii")
-        check_length(used.value, most)
-        room = used.value
+        return mmap.mmap(-1, room, flags=mmap.MAP_PRIVATE | mmap.MAP_ANONYMOUS | _NO_RESERVE)
+    except (OSError, OverflowError):
+        raise MemoryError("out of memory") from None

@@ -18,7 +18,7 @@ ANT_FIELDS: List[Tuple[str, str]] = [(name, _FORMS[form]) for name, form in _dec
 
 
 class Look(NamedTuple):
-    """A game after a round: its score, and its ants by their ids, None for one that is dead."""
+    """A game after a round: its score, and its ants by their ids, None for a dead one."""
     round: int
     score: Score
     ants: List[Optional[Ant]]
@@ -36,7 +36,7 @@ class LookBuffer(NamedTuple):
 
 
 def look(world: Text, red: Text, black: Text, seed: int, rounds: Iterable[int]) -> List[Look]:
-    """The score and the ants of a game after each of these rounds, in rising order; a round that stands twice is looked at once."""
+    """The score and the ants of a game after each of these rounds, in rising order. A round that is given twice is looked at once."""
     after, scores, ants, ids = _looked(texts_of(world=world, red=red, black=black), seed, rounds)
     laid = (_declared.Ant * (len(after) * ids + 1)).from_buffer(ants)
     return [
@@ -46,7 +46,7 @@ def look(world: Text, red: Text, black: Text, seed: int, rounds: Iterable[int]) 
 
 
 def look_buffer(world: Text, red: Text, black: Text, seed: int, rounds: Iterable[int]) -> LookBuffer:
-    """What `look` gives, as one buffer in place of tuples."""
+    """What `look` returns, as one buffer instead of tuples."""
     after, scores, ants, ids = _looked(texts_of(world=world, red=red, black=black), seed, rounds)
     told, laid, size = bytes(scores), memoryview(ants), ids * sizeof(_declared.Ant)
     each = ((told[8 * place:8 * place + 8], laid[size * place:size * (place + 1)]) for place in range(len(after)))

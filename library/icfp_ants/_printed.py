@@ -24,7 +24,7 @@ class Colour(enum.Enum):
 
 
 class Ant(NamedTuple):
-    """An ant: its direction is 0 to 5, food is 1 where it carries some, and resting is how many turns it still rests."""
+    """An ant: its direction is 0 to 5, food is 1 if it carries some, and resting is how many turns it still rests."""
     id: int
     colour: Colour
     column: int
@@ -36,7 +36,7 @@ class Ant(NamedTuple):
 
 
 class Cell(NamedTuple):
-    """A cell, with the colour of the hill that it belongs to, the numbers of the markers that are set, and the ant that stands there."""
+    """A cell, with the colour of the hill that it belongs to, the numbers of the markers that are set, and the ant that is on it."""
     column: int
     row: int
     is_rock: bool
@@ -48,7 +48,7 @@ class Cell(NamedTuple):
 
 
 class Traced(NamedTuple):
-    """The cell on which an ant stands after a round, or None where it is dead."""
+    """The cell of an ant after a round, or None if it is dead."""
     round: int
     cell: Optional[Cell]
 
@@ -79,7 +79,7 @@ class Event(NamedTuple):
 
 
 class Executed(NamedTuple):
-    """How often a state was executed, and how often it was met: its instruction led to the first of two states; None where it names one."""
+    """How often a state was executed, and how often it was met: its instruction led to the first of two states; None if it names one."""
     colour: Colour
     state: int
     times: int
@@ -98,33 +98,33 @@ class Workload(NamedTuple):
 
 
 class Use(NamedTuple):
-    """A use of a block of a program, with the line of the use."""
+    """A use of a block of a program, and its line."""
     block: str
     line: int
 
 
 class Label(NamedTuple):
-    """A label of a program, the state to which it leads, and the uses on the way to it."""
+    """A label of a program, the state that it leads to, and the uses on the way to it."""
     state: int
     uses: Tuple[Use, ...]
     name: str
 
 
 class Line(NamedTuple):
-    """A state of a program's brain, the line in which its instruction stands, and the uses on the way to it."""
+    """A state of a program's brain, the line of its instruction, and the uses on the way to it."""
     state: int
     uses: Tuple[Use, ...]
     line: int
 
 
 class Renumbered(NamedTuple):
-    """A state of a brain, and which state of the minimised one it became, or None where it was dropped."""
+    """A state of a brain, and which state of the minimised one it became, or None if it was dropped."""
     old: int
     new: Optional[int]
 
 
 class Step(NamedTuple):
-    """Two brains side by side: the state of each with its instruction, and whether the answer was met; None where they differ."""
+    """Two brains side by side: the state of each with its instruction, and whether the answer was met; None if they differ."""
     first_state: int
     first: str
     second_state: int

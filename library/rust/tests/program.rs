@@ -1,5 +1,5 @@
 //! Holds the crate against the program that PROGRAM names.
-use ants::{Ant, Colour, Game, Stop};
+use ants::{Ant, Colour, Error, Game};
 use std::{collections::BTreeMap, env, fs, path::PathBuf, process::Command};
 
 const WORLD: &[u8] = b"6\n4\n######\n#+.3-#\n #.5..#\n######\n";
@@ -61,7 +61,7 @@ fn looks_are_the_dumps_of_the_program() {
     }
     assert!(looks.iter().any(|it| it.ants[0].unwrap().laden));
     assert_eq!(GAME.look(7, &[]), Ok(vec![]));
-    assert_eq!(GAME.look(7, &[3, 1_000_001]), Err(Stop::Limit));
+    assert_eq!(GAME.look(7, &[3, 1_000_001]), Err(Error::Limit));
     assert_eq!(Game { red: b"", ..GAME }.look(7, &[3]).unwrap_err().to_string(), "red: no instruction");
 }
 
@@ -95,10 +95,10 @@ fn texts_are_those_of_the_program() {
 
 #[test]
 fn a_refusal_has_the_words_of_the_program() {
-    let Err(Stop::Refused { name, words, fault }) = ants::brain(WORLD) else { panic!("a world is no brain") };
+    let Err(Error::Refused { name, words, fault }) = ants::brain(WORLD) else { panic!("a world is no brain") };
     assert_eq!(format!("ants: world: {words}\n"), written("refused", "brain world"));
     assert_eq!((name, fault.text, fault.line), ("brain", 1, 1));
-    assert_eq!(GAME.score(1, 1_000_001), Err(Stop::Limit));
+    assert_eq!(GAME.score(1, 1_000_001), Err(Error::Limit));
     let refused = Game { black: b"hop\n", ..GAME }.score(1, 1).unwrap_err();
     assert_eq!(refused.to_string(), "black: line 1: unknown word");
     assert_eq!(ants::world(1, 12, 12, 14, 11).unwrap_err().to_string(), "no room for element 0");
@@ -121,7 +121,19 @@ fn commands_are_those_of_the_program() {
     }
     let far = ants::call(&["run", "world", "red", "black", "--far"], &files).unwrap();
     assert_eq!((far.status, far.output.as_str(), far.fault.as_str()), (2, "", "ants: word 5 refused\n"));
-    assert_eq!(ants::call(&["brain", "a\nb"], &[]), Err(Stop::Unreadable));
+    assert_eq!(ants::call(&["brain", "a\nb"], &[]), Err(Error::Unreadable));
+    assert_eq!(ants::call(&["brain", "a"], &[("a\nb", RED)]), Err(Error::Unreadable));
+}
+
+#[test]
+fn a_text_has_no_more_bytes_than_are_allowed() {
+    let game = [("world", WORLD), ("red", RED), ("black", BLACK)];
+    let words: Vec<_> = "run world red black --seed 7 --rounds 0".split(' ').collect();
+    let text = "random seed: 7\n\nscore: red 0 black 0\n";
+    assert_eq!(ants::call_within(text.len(), &words, &game).unwrap().output, text);
+    for most in [text.len() - 1, 0] {
+        assert_eq!(ants::call_within(most, &words, &game), Err(Error::TooLong(text.len())));
+    }
 }
 
 /// In a process that may have 200 MB the rooms of a call, of a large look and of many scores can't be had.
@@ -134,8 +146,11 @@ fn rooms_that_cant_be_had_are_an_error() {
     }
     let rounds: Vec<u32> = (0..1_000).collect();
     let game = Game { world: &[b'+'; 1 << 14], ..GAME };
-    assert_eq!(game.look(7, &rounds), Err(Stop::OutOfMemory));
-    assert_eq!(GAME.scores(&vec![7; 20_000_000], 0), Err(Stop::OutOfMemory));
-    assert_eq!(ants::call(&["--version"], &[]), Err(Stop::OutOfMemory));
+    assert_eq!(game.look(7, &rounds), Err(Error::OutOfMemory));
+    assert_eq!(GAME.scores(&vec![7; 20_000_000], 0), Err(Error::OutOfMemory));
+    assert_eq!(ants::call(&["--version"], &[]), Err(Error::OutOfMemory));
+    assert_eq!(GAME.run(7, 1, &[]), Err(Error::OutOfMemory));
+    assert_eq!(ants::brain(RED), Err(Error::OutOfMemory));
+    assert_eq!(ants::call_within(1 << 20, &["brain", "red"], &[("red", BLACK)]).unwrap().output.as_bytes(), BLACK);
     assert_eq!(GAME.look(7, &[0]).unwrap().len(), 1);
 }
