@@ -13,7 +13,7 @@ use Rattle.ant_asm.specs.Inner.Flat.{most}
 use Rattle.ant_asm.specs.Inner.Outlines.{AreGoodNamed, IsUseBelow, all_states, further, inner_states, label_of, line_before, line_size, lines_before, most_size, outline_at, outline_size, outlines_of, own_states, size_in, state_at, told_lines}
 use Rattle.ant_asm.proofs.FlatLemmas.{all_at, read_at}
 use Rattle.ant_asm.proofs.LabelTexts.{labels_text-append, state_lines_text-append}
-use Rattle.ant_asm.proofs.LabelWalk.{AreTold, state-is, told-all, told-none}
+use Rattle.ant_asm.proofs.LabelWalk.{AreTold, state-is, told-none}
 use Rattle.ant_asm.proofs.OutlineLemmas.{IsNamedAt, line_before-size, named-at, use_below-more}
 
 -- the labels of the block that a line puts in place, if it does
