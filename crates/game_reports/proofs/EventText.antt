@@ -1,5 +1,5 @@
 -- The lines of what is seen of a turn, from what was found of it.
-use Rattle.std.proofs.Common.{◌≡◌, ℕ, ◌==◌, ◌||◌, Bool, true, false, List, [], ◌++◌, Option, Some, map, codes, refl, sym, ◌∙◌, ap, ap₂, append-nil}
+use Rattle.std.proofs.Common.{◌≡◌, ℕ, ◌==◌, ◌||◌, ◌&&◌, Bool, true, false, List, [], ◌++◌, Option, Some, map, codes, refl, sym, ◌∙◌, ap, ap₂, append-nil}
 use Rattle.std.specs.List.{flat_map}
 use Rattle.std.proofs.Math.Path.{fun_ext}
 use Rattle.std.proofs.lemmas.List.Folds.{flat_map-map}
@@ -22,26 +22,51 @@ use Rattle.match_run.specs.Seen.{Seen, killed_as, seen, seen_by, seen_of}
 use Rattle.match_run.proofs.SeenLemmas.{seen-there}
 use Rattle.game_reports.specs.Events.{changed_score, death_line, death_words, event_lines, food_lines, score_line}
 use Rattle.game_reports.specs.Inner.Broken.{broken}
-use Rattle.game_reports.specs.Inner.Chunks.{is_quiet}
+use Rattle.game_reports.specs.Inner.Chunks.{is_quiet, moves_food}
 use Rattle.game_reports.specs.Inner.EventWords.{broken_food, broken_score, moved_by, told_death}
 use Rattle.game_reports.proofs.DeathLines.{ant_in-at}
 use Rattle.game_reports.proofs.EventLemmas.{broken-append, deaths-told}
 use Rattle.game_reports.proofs.EventRests.{death-seen}
 
--- a quiet instruction moves no food
-pub food-quiet : (food : Bool) (it : Seen) → is_quiet it.instruction ≡ true → food_lines food it ≡ []
-food-quiet false it quiet = refl
-food-quiet true it quiet = go it.instruction quiet
+-- an instruction that moves no food has no line of food
+pub food-still : (food : Bool) (it : Seen) → moves_food it.instruction ≡ false → food_lines food it ≡ []
+food-still false it still = refl
+food-still true it still = go it.instruction still
   where
-    go : (i : Instr) → is_quiet i ≡ true → food_lines true (record it { instruction = i }) ≡ []
+    go : (i : Instr) → moves_food i ≡ false → food_lines true (record it { instruction = i }) ≡ []
     go (Sense sight met unmet condition) calm = refl
     go (Mark i next) calm = refl
     go (Unmark i next) calm = refl
     go (PickUp met unmet) calm = absurd (cc)
     go (Drop next) calm = absurd (cc)
     go (Turn side next) calm = refl
-    go (Move met unmet) calm = absurd (cc)
+    go (Move met unmet) calm = refl
     go (Flip bound met unmet) calm = refl
+
+-- a quiet one moves none
+pub quiet-still : (i : Instr) → is_quiet i ≡ true → moves_food i ≡ false
+quiet-still (Sense sight met unmet condition) calm = refl
+quiet-still (Mark i next) calm = refl
+quiet-still (Unmark i next) calm = refl
+quiet-still (PickUp met unmet) calm = absurd (cc)
+quiet-still (Drop next) calm = absurd (cc)
+quiet-still (Turn side next) calm = refl
+quiet-still (Move met unmet) calm = absurd (cc)
+quiet-still (Flip bound met unmet) calm = refl
+
+-- its lines are those without food
+pub lines-still : (food : Bool) (it : Seen) → moves_food it.instruction ≡ false → event_lines food it ≡ event_lines false it
+lines-still food it still =
+    ap (λ (lines : List (List ℕ)). map (death_line it.round it.ant) it.killed ++ (lines ++ map (score_line it.round it.ant) (changed_score it.before it.after))) (food-still food it still)
+
+-- a turn adds no line of food, or one is asked for
+pub lines-plain : (food : Bool) (it : Seen) → (food && moves_food it.instruction) ≡ false → event_lines food it ≡ event_lines false it
+lines-plain false it none = refl
+lines-plain true it none = lines-still true it none
+
+pub lines-fed : (food : Bool) (it : Seen) → (food && moves_food it.instruction) ≡ true → event_lines food it ≡ event_lines true it
+lines-fed false it some = absurd (cc)
+lines-fed true it some = refl
 
 module _ (minds : Minds) (seed round : ℕ) (m : Moment) (t : ℕ) (p : Pos) (ant : Ant) (valid : Valid m.world) (found : place_in m.world t ≡ Some p) (is : (m.world.cells p).ant ≡ Some ant) where
   -- what is seen of its turn, by its instruction

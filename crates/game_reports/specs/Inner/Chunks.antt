@@ -13,3 +13,14 @@ is_quiet (Drop next) = false
 is_quiet (Turn side next) = true
 is_quiet (Move met unmet) = false
 is_quiet (Flip bound met unmet) = true
+
+-- whether an instruction may move food
+abbrev pub moves_food : Instr → Bool
+moves_food (Sense sight met unmet condition) = false
+moves_food (Mark i next) = false
+moves_food (Unmark i next) = false
+moves_food (PickUp met unmet) = true
+moves_food (Drop next) = true
+moves_food (Turn side next) = false
+moves_food (Move met unmet) = false
+moves_food (Flip bound met unmet) = false

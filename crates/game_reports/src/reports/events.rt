@@ -1,5 +1,5 @@
 // The text of a game's events.
-ghost use Rattle.std.specs.Prelude.{◌≡◌, ◌+◌, ◌<◌, ◌≤◌, ◌^◌, flat_map, Some};
+ghost use Rattle.std.specs.Prelude.{◌≡◌, ◌&&◌, ◌+◌, ◌<◌, ◌≤◌, ◌^◌, flat_map, Some, false, true};
 ghost use Rattle.ant_base.specs.Layout.{text_of_option};
 ghost use Rattle.ant_base.specs.Sink.{Pushed};
 ghost use Rattle.ant_turn.specs.Listed.{IsUp};
@@ -12,7 +12,7 @@ ghost use Rattle.match_run.specs.Run.{most_rounds};
 ghost use Rattle.game_reports.specs.Events.{changed_score, event_lines};
 ghost use Rattle.game_reports.specs.Inner.Broken.{broken};
 ghost use Rattle.game_reports.specs.Inner.EventWords.{broken_death, broken_food, broken_score, broken_turn, carry_of, moved_by, told_death, verb_of};
-ghost use Rattle.game_reports.specs.Inner.Chunks.{is_quiet};
+ghost use Rattle.game_reports.specs.Inner.Chunks.{is_quiet, moves_food};
 ghost use Rattle.game_reports.specs.Report.{report_text};
 ghost use Rattle.hex_geometry.specs.Position.{IsInside};
 ghost use Rattle.match_run.specs.Seen.{seen};
@@ -64,6 +64,16 @@ struct EventReport {
     food: bool,
 }
 
+impl EventReport {
+    // Whether a turn of this instruction may have a line of food.
+    #[inline(always)]
+    fn adds_food(&self, instruction: &Instr) -> bool
+        ensures { result ≡ (self.now.food && moves_food instruction.now) }
+    {
+        self.food && moves_food(instruction)
+    }
+}
+
 impl Report for EventReport {
     ghost use Rattle.game_reports.specs.Events.{event_lines};
 
@@ -82,11 +92,15 @@ impl Report for EventReport {
         sink: &mut K,
     ) -> Result<(), Failed> {
         let ant = standing.ant;
-        if is_quiet(brains.of(ant.colour).instruction(ant.state)) {
+        let instruction = brains.of(ant.colour).instruction(ant.state);
+        if is_quiet(instruction) {
             let _deed = act(ground, *brains, stream, standing);
             return Ok(());
         }
-        push_deed(self.food, ground, brains, stream, ant.id, round, sink)
+        if self.adds_food(instruction) {
+            return push_carried(ground, brains, stream, ant.id, round, sink);
+        }
+        push_deed(ground, brains, stream, ant.id, round, sink)
     }
 }
 
@@ -101,12 +115,22 @@ fn is_quiet(instruction: &Instr) -> bool
     }
 }
 
-// Takes the turn of an ant that doesn't rest, if it is alive, and pushes its lines: one that may kill or move food. It
-// stands alone, so that what is noted costs no other turn, and takes the brains lent and the ant by its id, since
-// copies of them would be made in each.
+// Whether an instruction may move food.
+#[inline(always)]
+fn moves_food(instruction: &Instr) -> bool
+    ensures { result ≡ moves_food instruction.now }
+{
+    match *instruction {
+        Instr::PickUp { .. } | Instr::Drop { .. } => true,
+        _ => false,
+    }
+}
+
+// Takes the turn of an ant that doesn't rest, if it is alive, and pushes its lines but those of food: one that may
+// kill or move food. It stands alone, so that what is noted costs no other turn, and takes the brains lent and the ant
+// by its id, since copies of them would be made in each.
 #[inline(never)]
 fn push_deed<K: Sink>(
-    food: bool,
     ground: &mut ScoredWorld,
     brains: &Brains<'_>,
     stream: &mut Stream,
@@ -119,7 +143,7 @@ fn push_deed<K: Sink>(
     requires up { IsUp (world_of ground.old) id }
     requires place { stream.old.place + 1 < 2 ^ 63 }
     ensures text { Pushed (K.state sink.old) (K.state sink.new)
-        (broken (flat_map (event_lines food) (seen (minds_of brains.now) stream.old.seed round (moment_of (world_of ground.old) stream.old) id))) result }
+        (broken (flat_map (event_lines false) (seen (minds_of brains.now) stream.old.seed round (moment_of (world_of ground.old) stream.old) id))) result }
     ensures world { world_of ground.new ≡ with_cells (world_of ground.old)
         (turn (minds_of brains.now) stream.old.seed (world_of ground.old) stream.old.place id).cells }
     ensures stream { stream.new ≡ record stream.old {
@@ -131,7 +155,44 @@ fn push_deed<K: Sink>(
         return Ok(());
     };
     let before = ground.score();
-    let moved = food_moved(food, ground, brains, standing);
+    let mut dead = ArrayVec::new();
+    let _deed = take_turn_noting_kills(ground, *brains, stream, standing, &mut dead);
+    let turn = TurnWords {
+        round,
+        actor: standing.ant,
+    };
+    push_deaths(turn, &dead, sink)?;
+    push_score(turn, before, ground.score(), sink)
+}
+
+// The same with the line of food: of a turn that may move food, if it is asked for. So it costs no other turn.
+#[inline(never)]
+fn push_carried<K: Sink>(
+    ground: &mut ScoredWorld,
+    brains: &Brains<'_>,
+    stream: &mut Stream,
+    id: u32,
+    round: u32,
+    sink: &mut K,
+) -> Result<(), Failed>
+    requires fit { Fits (world_of ground.old) (minds_of brains.now) }
+    requires id { id < ground.old.ids }
+    requires up { IsUp (world_of ground.old) id }
+    requires place { stream.old.place + 1 < 2 ^ 63 }
+    ensures text { Pushed (K.state sink.old) (K.state sink.new)
+        (broken (flat_map (event_lines true) (seen (minds_of brains.now) stream.old.seed round (moment_of (world_of ground.old) stream.old) id))) result }
+    ensures world { world_of ground.new ≡ with_cells (world_of ground.old)
+        (turn (minds_of brains.now) stream.old.seed (world_of ground.old) stream.old.place id).cells }
+    ensures stream { stream.new ≡ record stream.old {
+      place = stream.old.place + one_if (turn (minds_of brains.now) stream.old.seed (world_of ground.old) stream.old.place id).drew;
+    } }
+    ensures fit { Fits (world_of ground.new) (minds_of brains.now) }
+{
+    let Some(standing) = ground.ant_of(id) else {
+        return Ok(());
+    };
+    let before = ground.score();
+    let moved = food_moved(ground, brains, standing);
     let mut dead = ArrayVec::new();
     let _deed = take_turn_noting_kills(ground, *brains, stream, standing, &mut dead);
     let turn = TurnWords {
@@ -169,10 +230,9 @@ struct MovedFood {
     hill: Option<Colour>,
 }
 
-// The particle that goes between this ant and its cell in its turn, if food is asked for.
+// The particle that goes between this ant and its cell in its turn, if one does.
 #[inline]
 fn food_moved(
-    food: bool,
     ground: &mut ScoredWorld,
     brains: &Brains<'_>,
     standing: PlacedAnt,
@@ -180,13 +240,10 @@ fn food_moved(
     requires fit { Fits (world_of ground.old) (minds_of brains.now) }
     requires inside { IsInside (world_of ground.old).width (world_of ground.old).height standing.place }
     requires here { ((world_of ground.old).cells standing.place).ant ≡ Some standing.ant }
-    ensures moved { result ≡ moved_by food ((world_of ground.old).cells standing.place) standing.ant
+    ensures moved { result ≡ moved_by true ((world_of ground.old).cells standing.place) standing.ant
         (instruction_at (mind_of (minds_of brains.now) standing.ant.colour) standing.ant.state) }
     ensures world { world_of ground.new ≡ world_of ground.old }
 {
-    if !food {
-        return None;
-    }
     let ant = standing.ant;
     let cell = ground.cell_at(standing.place);
     let carry = carry_of(ant.laden, cell.food, brains.of(ant.colour).at(ant.state))?;
