@@ -13,7 +13,7 @@ _ants() {
     save) options='--seed --rounds --workers --window --surround --corpse --rest' ;;
     resume) options='--rounds --dump --workers --stats' ;;
     advance) options='--rounds --workers' ;;
-    view) options='--seed --rounds' ;;
+    view) options='--seed --rounds --from' ;;
     trace) options='--seed --rounds --from --surround --corpse --rest' ;;
     events) options='--seed --rounds --surround --corpse --rest' ;;
     profile) options='--seed --rounds --surround --corpse --rest' ;;

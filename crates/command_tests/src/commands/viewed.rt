@@ -71,6 +71,38 @@ const TOGETHER: [(&str, &str); 8] = [
     ("", "no stop in 5 rounds"),
 ];
 
+// Lines of the view of the red ant's death in round 1, and the second line of the view.
+const LATER: [(&str, &str); 7] = [
+    (
+        "view w r b k --seed 12345 --rounds 5",
+        "stop: round 1, ant 1, break 1",
+    ),
+    (
+        "view w r b k --seed 12345 --rounds 5 --from 0",
+        "stop: round 1, ant 1, break 1",
+    ),
+    (
+        "view w r b k --seed 12345 --rounds 5 --from 1",
+        "stop: round 1, ant 1, break 1",
+    ),
+    (
+        "view w r b k --seed 12345 --rounds 5 --from 2",
+        "stop: round 2, ant 0, break 1",
+    ),
+    (
+        "view w r b k --seed 12345 --rounds 5 --from 5",
+        "stop: round 5, ant 0, break 1",
+    ),
+    (
+        "view w r b k --seed 12345 --rounds 5 --from 6",
+        "no stop in 5 rounds",
+    ),
+    (
+        "view w r b k --seed 12345 --rounds 5 --from 1000000",
+        "no stop in 5 rounds",
+    ),
+];
+
 // Texts that are no breaks, and the line that names the first fault of each.
 const REFUSED: [(&str, &str); 14] = [
     ("K", "ants: k: line 1: unknown word\n"),
@@ -188,8 +220,9 @@ const DRAWING: Job<'static> = Job {
 };
 
 // The numbers of seed 12345 begin 7193, 2932: it is in state 1 after round 1, in state 3 after round 2. The other seed is the state that follows
-// 12345, in its lowest 30 bits, so its numbers begin 2932: the ant is in state 2 after round 1.
-const DRAWN: [(&str, &str); 2] = [
+// 12345, in its lowest 30 bits, so its numbers begin 2932: the ant is in state 2 after round 1. In rounds that are passed over it draws its
+// numbers, too: from round 3 on it is in state 3 after the first turn.
+const DRAWN: [(&str, &str); 5] = [
     (
         "view w r b k --seed 12345 --rounds 5",
         "random seed: 12345\nstop: round 2, ant 0, break 1\ncell (0, 0): rock\ncell (1, 0): rock\ncell (2, 0): rock\ncell (0, 1): rock\ncell (1, 1): red hill; red ant of id 0, dir 0, food 0, state 3, resting 0\ncell (2, 1): rock\ncell (0, 2): rock\ncell (1, 2): rock\ncell (2, 2): rock\n",
@@ -197,6 +230,18 @@ const DRAWN: [(&str, &str); 2] = [
     (
         "view w r b k --seed 1002789326 --rounds 5",
         "random seed: 1002789326\nstop: round 1, ant 0, break 2\ncell (0, 0): rock\ncell (1, 0): rock\ncell (2, 0): rock\ncell (0, 1): rock\ncell (1, 1): red hill; red ant of id 0, dir 0, food 0, state 2, resting 0\ncell (2, 1): rock\ncell (0, 2): rock\ncell (1, 2): rock\ncell (2, 2): rock\n",
+    ),
+    (
+        "view w r b k --from 2 --seed 12345 --rounds 5",
+        "random seed: 12345\nstop: round 2, ant 0, break 1\ncell (0, 0): rock\ncell (1, 0): rock\ncell (2, 0): rock\ncell (0, 1): rock\ncell (1, 1): red hill; red ant of id 0, dir 0, food 0, state 3, resting 0\ncell (2, 1): rock\ncell (0, 2): rock\ncell (1, 2): rock\ncell (2, 2): rock\n",
+    ),
+    (
+        "view w r b k --seed 12345 --from 3 --rounds 5",
+        "random seed: 12345\nstop: round 3, ant 0, break 1\ncell (0, 0): rock\ncell (1, 0): rock\ncell (2, 0): rock\ncell (0, 1): rock\ncell (1, 1): red hill; red ant of id 0, dir 0, food 0, state 3, resting 0\ncell (2, 1): rock\ncell (0, 2): rock\ncell (1, 2): rock\ncell (2, 2): rock\n",
+    ),
+    (
+        "view w r b k --seed 12345 --rounds 5 --from 6",
+        "random seed: 12345\nno stop in 5 rounds\n",
     ),
 ];
 
@@ -229,46 +274,52 @@ fn a_view_is_of_the_game_of_its_seed_by_the_contests_numbers(rt: HostRuntime) ->
     check_rows(&rt, rt.alloc(), &CONTEST_VIEW)
 }
 
-// Asserts how the view with these breaks begins.
-fn check_start<R: Threads + Wait + Sync + Abort>(
-    rt: &R,
-    alloc: Global,
-    breaks: &str,
-    start: &str,
-) -> Result<(), Fail> {
-    let told = Told {
-        start,
-        lines: "",
-        end: "",
-    };
-    check_text(rt, alloc, &VIEWING.with(Given::Breaks, breaks), &told)
-}
-
-// Asserts the second line of the view with these breaks.
+// Asserts the second line of the view of this job.
 fn check_stop<R: Threads + Wait + Sync + Abort>(
     rt: &R,
     alloc: Global,
-    breaks: &str,
+    job: &Job<'_>,
     wanted: &str,
 ) -> Result<(), Fail> {
     let start = format!(in alloc; "random seed: 12345\n{wanted}\n")?;
-    check_start(rt, alloc, breaks, &start)
+    let told = Told {
+        start: &start,
+        lines: "",
+        end: "",
+    };
+    check_text(rt, alloc, job, &told)
 }
 
-// Asserts of each text of breaks the second line of its view.
-fn check_stops<R: Threads + Wait + Sync + Abort>(
+// Asserts of the job with each of these texts the second line of its view.
+fn check_stops<'t, R: Threads + Wait + Sync + Abort>(
     rt: &R,
     alloc: Global,
-    rows: &[(&str, &str)],
+    job: &Job<'t>,
+    given: Given,
+    rows: &[(&'t str, &'t str)],
 ) -> Result<(), Fail> {
-    for (breaks, wanted) in rows {
-        check_stop(rt, alloc, breaks, wanted)?;
+    for (text, wanted) in rows {
+        check_stop(rt, alloc, &job.with(given, text), wanted)?;
     }
     Ok(())
 }
 
 #[test]
 fn each_kind_of_break_holds_when_it_says(rt: HostRuntime) -> Result<(), Fail> {
-    check_stops(&rt, rt.alloc(), &ALONE)?;
-    check_stops(&rt, rt.alloc(), &TOGETHER)
+    let alloc = rt.alloc();
+    check_stops(&rt, alloc, &VIEWING, Given::Breaks, &ALONE)?;
+    check_stops(&rt, alloc, &VIEWING, Given::Breaks, &TOGETHER)
+}
+
+// The view of that death.
+static DYING: Job<'static> = Job {
+    breaks: "Killed 2",
+    ..VIEW
+};
+
+#[test]
+fn a_view_from_a_later_round_stops_where_the_break_still_holds(
+    rt: HostRuntime,
+) -> Result<(), Fail> {
+    check_stops(&rt, rt.alloc(), &DYING, Given::Line, &LATER)
 }

@@ -106,7 +106,7 @@ const REFUSED_CUPS: [(&str, &str); 12] = [
 ];
 
 // The same of other commands.
-const REFUSED_OTHERS: [(&str, &str); 35] = [
+const REFUSED_OTHERS: [(&str, &str); 37] = [
     ("gen 1 --width 2", "ants: word 4 refused\n"),
     ("gen 1 --height 513", "ants: word 4 refused\n"),
     ("gen 1 --rocks 256", "ants: word 4 refused\n"),
@@ -118,6 +118,8 @@ const REFUSED_OTHERS: [(&str, &str); 35] = [
     ("view w r b --seed 1", "ants: word 5 refused\n"),
     ("view w r b k --rounds 1", "ants: word 8 refused\n"),
     ("view w r b k --surround 5", "ants: word 6 refused\n"),
+    ("view w r b k --from 1000001", "ants: word 7 refused\n"),
+    ("view w r b k --from 1 --from 1", "ants: word 8 refused\n"),
     ("trace w r b", "ants: word 5 refused\n"),
     ("trace w r b 16384", "ants: word 5 refused\n"),
     ("trace w r b 1 --from 1000001", "ants: word 7 refused\n"),
