@@ -105,8 +105,9 @@
        ANTS_UNREADABLE  ants_command() and ants_call(): a word or a name isn't UTF-8; a name has an
                         LF; the sizes don't fit the names and bytes
        ANTS_NUMBER      a number is beyond its limits, such as more than 1,000,000 rounds. Of a
-                        command: its words are not a command, and fault.number is the first refused
-                        word, counted from 1
+                        command: its words are not a command, and fault.number is the first
+                        refused word, counted from 1, or one more than there are words if some are
+                        missing
        ANTS_NO_FILE     the words name a file that isn't among those that you pass; fault.number is
                         the first word that names it. Nothing is read from the machine
        ANTS_NO_ROOM     the room is too small. A call that writes a text has written as much of it
@@ -337,7 +338,7 @@ uint32_t ants_look(
 // says what is wrong to `said`. The status is the program's own:
 // - 0: done; nothing is wrong, so there is no line;
 // - 2: the words are not a command; the fault's `number` is the first refused word, counted from
-//   1;
+//   1, or one more than there are words if some are missing;
 // - 3: the words name a file that is not among `names`; the fault's `number` is the first word
 //   that names it, counted from 1;
 // - 5: a file is refused, and the fault says which file and why; or an element of the world to be
@@ -354,7 +355,8 @@ uint32_t ants_look(
 // `out` and `said` is unchanged. The fault is written at 2, 3 and 5 only. At 5 its words are the
 // end of the line: the last `fault.words` bytes before the LF. At 1 nothing is written, nor at 6
 // if memory ran out before the command began. The call plays on the caller's thread, however many
-// workers the words name. It takes memory for a copy of the files and for what the command needs.
+// workers the words name. It takes memory for a copy of each file while it is read, and for what
+// the command needs.
 uint32_t ants_call(
     const uint8_t *words, size_t words_len, const uint8_t *names, size_t names_len, const uint32_t *sizes,
     size_t sizes_len, const uint8_t *bytes, size_t bytes_len, uint8_t *out, size_t out_len, size_t *used, uint8_t *said,

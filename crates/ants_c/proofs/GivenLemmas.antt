@@ -8,7 +8,6 @@ use Rattle.std.proofs.lemmas.List.{length-drop}
 use Rattle.std.proofs.lemmas.Str.{IsUtf8-string_bytes}
 use Rattle.ant_base.proofs.Linewise.{lines_of-first}
 use Rattle.ant_base.specs.Lines.{lines_of}
-use Rattle.ant_base.specs.MemShelf.{FileList}
 use Rattle.ants_c.specs.Called.{AreFiles, CanBeRead}
 
 -- words are UTF-8
@@ -17,16 +16,16 @@ words_are [] = tt
 words_are (word ∷ words) = (IsUtf8-string_bytes word, words_are words)
 
 -- what is said of a value that is there
-pub some_at : {X : Type 0} (P : X → Type 0) (found : Option X) (x : X) → found ≡ Some x → IfSome found P → P x
+some_at : {X : Type 0} (P : X → Type 0) (found : Option X) (x : X) → found ≡ Some x → IfSome found P → P x
 some_at {X} P found x is holds = subst (λ (it : Option X). IfSome it P) is holds
 
 -- what was made into words and files can be read
-pub is_read : {Z A : Type 0} (spoken : Option (Vec (String Z) A)) (words : Vec (String Z) A) (given : Option FileList) (files : FileList) (text names sizes bytes : List ℕ) (status : ℕ)
-    → spoken ≡ Some words → IfSome spoken (λ words. map string_bytes words.items ≡ lines_of text) → given ≡ Some files → IfSome given (λ _. AreFiles (lines_of names) sizes bytes)
+pub is_read : {Z A : Type 0} (spoken : Option (Vec (String Z) A)) (words : Vec (String Z) A) (text names sizes bytes : List ℕ) (status : ℕ)
+    → spoken ≡ Some words → IfSome spoken (λ words. map string_bytes words.items ≡ lines_of text) → AreFiles (lines_of names) sizes bytes
     → (status ≡ 1) ⊎ ((status ≡ 6) ⊎ CanBeRead text names sizes bytes)
-is_read {Z} {A} spoken words given files text names sizes bytes status at same is are =
+is_read {Z} {A} spoken words text names sizes bytes status at same are =
     let lines = some_at (λ (it : Vec (String Z) A). map string_bytes it.items ≡ lines_of text) spoken words at same in
-    inr (inr (record { spoken = subst (AllByRecursion IsUtf8) lines (words_are words.items); files = some_at (λ (it : FileList). AreFiles (lines_of names) sizes bytes) given files is are }))
+    inr (inr (record { spoken = subst (AllByRecursion IsUtf8) lines (words_are words.items); files = are }))
 
 -- the words that were made are the lines
 pub spoken_are : {Z A : Type 0} (spoken : Option (Vec (String Z) A)) (words : Vec (String Z) A) (list : List (String Z)) (text : List ℕ)

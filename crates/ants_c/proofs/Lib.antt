@@ -3,6 +3,7 @@ mod EmptySinks
 mod Endings
 mod FirstRefused
 mod GivenLemmas
+mod LentFiles
 mod Looks
 mod Overlaid
 mod Stops

@@ -1,5 +1,6 @@
 pub mod Called
 pub mod Ended
+pub mod Inner
 pub mod Looked
 pub mod Numbers
 pub mod Played

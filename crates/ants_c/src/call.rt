@@ -5,12 +5,13 @@ ghost use Rattle.std.specs.Str.{IsUtf8};
 ghost use Rattle.ant_base.specs.Lines.{lines_of};
 ghost use Rattle.ant_commands.specs.FaultLines.{ending_status, plain_ending};
 ghost use Rattle.command_words.specs.Words.{texts};
-ghost use Rattle.ants_c.specs.Called.{AreFiles, Runs, files_in};
+ghost use Rattle.ants_c.specs.Called.{Runs, files_in};
 ghost use Rattle.ants_c.specs.Rooms.{behind, counted, overlaid};
 
+use crate::lent_shelf::LentShelf;
 use crate::room_log::RoomLog;
 use crate::room_sink::RoomSink;
-use ant_base::{Calls, Files, Lines, MemShelf, OutOfMemory, cut_line};
+use ant_base::{Lines, OutOfMemory};
 use ant_commands::{Ended, Status, run_alone};
 use std::alloc::Global;
 
@@ -29,56 +30,24 @@ pub fn words_of(alloc: Global, text: &[u8]) -> Result<Option<Vec<String>>, OutOf
     Ok(Some(words))
 }
 
-/// The files whose names are these lines, with their sizes and bytes; none where they are no files.
-pub fn files_of(
-    alloc: Global,
-    names: &[u8],
-    sizes: &[u32],
-    bytes: &[u8],
-) -> Result<Option<Files>, OutOfMemory>
-    ensures files { IfOk result (λ found. IfSome found (λ files. files.files ≡ files_in (lines_of names.now) sizes.now bytes.now)) }
-    ensures all { IfOk result (λ found. IfSome found (λ _. AreFiles (lines_of names.now) sizes.now bytes.now)) }
-    ensures none { IfOk result (λ found. IfNone found (AreFiles (lines_of names.now) sizes.now bytes.now → ⊥)) }
-{
-    let mut files = Files::new(alloc);
-    let mut lines = names;
-    let mut bytes = bytes;
-    for size in sizes {
-        let size = *size as usize;
-        if lines.is_empty() || bytes.len() < size {
-            return Ok(None);
-        }
-        let (line, more) = cut_line(lines);
-        let (own, others) = bytes.split_at(size);
-        let Ok(name) = str::from_utf8(line) else {
-            return Ok(None);
-        };
-        files.add(name, own)?;
-        lines = more;
-        bytes = others;
-    }
-    if !lines.is_empty() || !bytes.is_empty() {
-        return Ok(None);
-    }
-    Ok(Some(files))
-}
-
 // Runs the program with these words over these files, into two rooms.
 fn run_in_rooms<'w>(
     alloc: Global,
     words: &'w [String],
-    files: Files,
+    names: &[u8],
+    sizes: &[u32],
+    bytes: &[u8],
     output: &mut RoomSink<'_>,
     errors: &mut RoomSink<'_>,
 ) -> Ended<'w>
-    ensures runs { Runs (texts words.now) files.files (behind output.old.log.bytes output.new.log.bytes) (behind errors.old.log.bytes errors.new.log.bytes) (plain_ending result) }
+    ensures runs { Runs (texts words.now) (files_in (lines_of names.now) sizes.now bytes.now) (behind output.old.log.bytes output.new.log.bytes) (behind errors.old.log.bytes errors.new.log.bytes) (plain_ending result) }
     ensures out_name { output.new.room.ghost_name ≡ output.old.room.ghost_name }
     ensures out_log { output.new.log.bytes ≡ output.old.log.bytes ++ behind output.old.log.bytes output.new.log.bytes }
     ensures said_name { errors.new.room.ghost_name ≡ errors.old.room.ghost_name }
     ensures said_log { errors.new.log.bytes ≡ errors.old.log.bytes ++ behind errors.old.log.bytes errors.new.log.bytes }
     ensures unfailing { ending_status (plain_ending result) ≡ Status.Write → ⊥ }
 {
-    let mut shelf = MemShelf::new(files, Calls::new(alloc));
+    let mut shelf = LentShelf::new(names, sizes, bytes);
     run_alone(alloc, words, &mut shelf, output, errors)
 }
 
@@ -107,11 +76,13 @@ pub fn has_room(ran: &Ran<'_>, out: &[u8], said: &[u8]) -> bool
 pub fn lay_program<'w>(
     alloc: Global,
     words: &'w [String],
-    files: Files,
+    names: &[u8],
+    sizes: &[u32],
+    bytes: &[u8],
     out: &mut [u8],
     said: &mut [u8],
 ) -> Ran<'w>
-    ensures runs { Runs (texts words.now) files.files (behind out.old result.text.bytes) (behind said.old result.line.bytes) (plain_ending result.ended) }
+    ensures runs { Runs (texts words.now) (files_in (lines_of names.now) sizes.now bytes.now) (behind out.old result.text.bytes) (behind said.old result.line.bytes) (plain_ending result.ended) }
     ensures out { out.new ≡ overlaid out.old (behind out.old result.text.bytes) }
     ensures used { result.used ≡ counted (behind out.old result.text.bytes) }
     ensures said { said.new ≡ overlaid said.old (behind said.old result.line.bytes) }
@@ -120,7 +91,7 @@ pub fn lay_program<'w>(
 {
     let mut output = RoomSink::new(out);
     let mut errors = RoomSink::new(said);
-    let ended = run_in_rooms(alloc, words, files, &mut output, &mut errors);
+    let ended = run_in_rooms(alloc, words, names, sizes, bytes, &mut output, &mut errors);
     Ran {
         ended,
         used: output.pushed(),

@@ -22,6 +22,8 @@ mod ant;
 mod call;
 mod ending;
 mod fault;
+mod fetch_log;
+mod lent_shelf;
 mod look;
 mod numbers;
 mod read;
@@ -35,8 +37,9 @@ mod tell;
 mod texts;
 mod version;
 
-use crate::call::{files_of, has_room, lay_program, words_of};
+use crate::call::{has_room, lay_program, words_of};
 use crate::ending::tell_ending;
+use crate::lent_shelf::are_files;
 use crate::look::{are_rising, put_looks};
 use crate::read::{Setting, open_texts};
 use crate::scores::{score_of_game, scores_of_setting};
@@ -216,7 +219,7 @@ pub extern "C" fn ants_look(
 /// says what is wrong to `said`. The status is the program's own:
 /// - 0: done; nothing is wrong, so there is no line;
 /// - 2: the words are not a command; the fault's `number` is the first refused word, counted from
-///   1;
+///   1, or one more than there are words if some are missing;
 /// - 3: the words name a file that is not among `names`; the fault's `number` is the first word
 ///   that names it, counted from 1;
 /// - 5: a file is refused, and the fault says which file and why; or an element of the world to be
@@ -233,7 +236,8 @@ pub extern "C" fn ants_look(
 /// `out` and `said` is unchanged. The fault is written at 2, 3 and 5 only. At 5 its words are the
 /// end of the line: the last `fault.words` bytes before the LF. At 1 nothing is written, nor at 6
 /// if memory ran out before the command began. The call plays on the caller's thread, however many
-/// workers the words name. It takes memory for a copy of the files and for what the command needs.
+/// workers the words name. It takes memory for a copy of each file while it is read, and for what
+/// the command needs.
 #[unsafe(no_mangle)]
 pub extern "C" fn ants_call(
     alloc: Global,
@@ -259,13 +263,10 @@ pub extern "C" fn ants_call(
     let Some(list) = spoken else {
         return UNREADABLE;
     };
-    let Ok(given) = files_of(alloc, names, sizes, bytes) else {
-        return MEMORY;
-    };
-    let Some(files) = given else {
+    if !are_files(names, sizes, bytes) {
         return UNREADABLE;
-    };
-    let ran = lay_program(alloc, &list, files, out, said);
+    }
+    let ran = lay_program(alloc, &list, names, sizes, bytes, out, said);
     *used = ran.used;
     *told = ran.told;
     if !has_room(&ran, out, said) {

@@ -283,7 +283,7 @@ pub fn ants_look(
 /// says what is wrong to `said`. The status is the program's own:
 /// - 0: done; nothing is wrong, so there is no line;
 /// - 2: the words are not a command; the fault's `number` is the first refused word, counted from
-///   1;
+///   1, or one more than there are words if some are missing;
 /// - 3: the words name a file that is not among `names`; the fault's `number` is the first word
 ///   that names it, counted from 1;
 /// - 5: a file is refused, and the fault says which file and why; or an element of the world to be
@@ -300,7 +300,8 @@ pub fn ants_look(
 /// `out` and `said` is unchanged. The fault is written at 2, 3 and 5 only. At 5 its words are the
 /// end of the line: the last `fault.words` bytes before the LF. At 1 nothing is written, nor at 6
 /// if memory ran out before the command began. The call plays on the caller's thread, however many
-/// workers the words name. It takes memory for a copy of the files and for what the command needs.
+/// workers the words name. It takes memory for a copy of each file while it is read, and for what
+/// the command needs.
 pub fn ants_call(
     words: &[u8],
     names: &[u8],

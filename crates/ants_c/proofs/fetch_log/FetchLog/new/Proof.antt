@@ -1,0 +1,35 @@
+-- `new` makes the empty struct, with nothing noted.
+use Rattle.std.proofs.Common.{[], ◌∷◌, refl}
+use Rattle.std.proofs.raw_atomic.Walks.{proved}
+use mir.Val.{vstruct, vnil}
+use base.Fml.{ftrue}
+use types.Kit.{‵, raw, ◌⊛◌, ◌$◌, ◌∵◌, !, qed, keep, split, move, suffices, done}
+use types.Run.{no_more, returns, enter}
+use types.Part.{agg}
+use types.ByLocal.{alloc_all, pass_all, free_all, look_at, sets}
+use denote.RattleType.{owns}
+use denote.Shadow.{pure_i}
+use denote.Triple.Entry.{alive}
+use denote.Triple.Walked.{Stays, walk_of, says, ends_at}
+use Rattle.ants_c.specs.contracts.fetch_log.FetchLog as made
+use Rattle.ants_c.specs.contracts.fetch_log.FetchLog.new as f
+use Rattle.ants_c.proofs.fetch_log.FetchLog.new.Statement.{statement}
+use Rattle.ants_c.proofs.fetch_log.FetchLog.new.Code as code
+
+abbrev stayed : Stays f.ended.signature.params f.ended.kept
+stayed = tt
+
+pub new_spec : {M : Type 1} → statement M
+new_spec 𝓤 𝓛 𝓜 𝓡 wired =
+    let c = f.clauses 𝓛 𝓜.mem 𝓡.returns in let W = walk_of 𝓛 f.ended stayed c in
+    proved 𝓛 f.ended stayed c 𝓜 𝓡 tt
+    f.Key.name code.function (code.unfolded 𝓤 𝓛.H 𝓜 𝓡 wired)
+    (λ κs. tt) (λ κs. tt) (λ κs qs bounds a n are.
+    let y : W.Ghost = ((κs, qs, bounds, a, tt), n) in
+    let empty : made.the_row.Denot = record { fetches = [] } in
+    qed 𝓛 ((raw (alive 𝓛 f.signature κs qs) ⊛ ‵ (owns [] tt tt)) ∷ ‵ ftrue ∷ []) ∵ keep ! (0 ∷ []) $ split ! $
+    enter ! _ _ _ _ _ $ alloc_all ! (λ l. pass_all ! refl tt $
+    sets ! (agg ! (no_more !)) refl (tt, tt) $ returns ! (look_at ! 0 refl) $ free_all ! refl $
+    suffices ! _ (ends_at 𝓛 f.ended stayed c y (vstruct vnil) empty tt tt) $ says ! refl $
+    pure_i ! (made.the_row.own_val empty (vstruct vnil ∷ [])) ((λ vss. (tt, tt)), tt) ((tt, (refl, tt)), tt) $
+    move ! (1 ∷ 2 ∷ 0 ∷ []) $ done !))
