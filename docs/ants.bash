@@ -5,7 +5,7 @@ _ants() {
     local word=${COMP_WORDS[COMP_CWORD]} before=${COMP_WORDS[COMP_CWORD-1]} options=
     COMPREPLY=()
     if [ "$COMP_CWORD" -eq 1 ]; then
-        COMPREPLY=($(compgen -W 'run save resume advance view trace events profile cup workload show gen brain minimise same asm help --help --version' -- "$word"))
+        COMPREPLY=($(compgen -W 'run save resume advance view trace events acts profile cup workload show gen brain minimise same asm help --help --version' -- "$word"))
         return
     fi
     case ${COMP_WORDS[1]} in
@@ -15,8 +15,9 @@ _ants() {
     advance) options='--rounds --workers' ;;
     view) options='--seed --rounds --from' ;;
     trace) options='--seed --rounds --from --surround --corpse --rest' ;;
-    events) options='--seed --rounds --surround --corpse --rest' ;;
-    profile) options='--seed --rounds --surround --corpse --rest' ;;
+    events) options='--seed --rounds --from --surround --corpse --rest --food' ;;
+    acts) options='--seed --rounds --from --ant --surround --corpse --rest' ;;
+    profile) options='--seed --rounds --from --surround --corpse --rest' ;;
     cup) options='--worlds --brains --seed --seeds --rounds --workers --games --leads --gauntlet' ;;
     gen) options='--width --height --rocks --blobs' ;;
     minimise) options='--states' ;;
@@ -24,7 +25,7 @@ _ants() {
     asm) options='--labels --lines' ;;
     esac
     case $before in
-    --seed | --seeds | --rounds | --workers | --window | --surround | --corpse | --rest | --width | --height | --rocks | --blobs | --from) return ;;
+    --seed | --seeds | --rounds | --workers | --window | --surround | --corpse | --rest | --width | --height | --rocks | --blobs | --from | --ant) return ;;
     --dump) COMPREPLY=($(compgen -W 'none all' -- "$word")); return ;;
     esac
     case $word in
