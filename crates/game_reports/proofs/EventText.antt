@@ -60,13 +60,22 @@ lines-still food it still =
     ap (λ (lines : List (List ℕ)). map (death_line it.round it.ant) it.killed ++ (lines ++ map (score_line it.round it.ant) (changed_score it.before it.after))) (food-still food it still)
 
 -- a turn adds no line of food, or one is asked for
-pub lines-plain : (food : Bool) (it : Seen) → (food && moves_food it.instruction) ≡ false → event_lines food it ≡ event_lines false it
-lines-plain false it none = refl
-lines-plain true it none = lines-still true it none
+pub lines-plain : (food : Bool) (it : Seen) → (moves_food it.instruction && food) ≡ false → event_lines food it ≡ event_lines false it
+lines-plain food it none = go (moves_food it.instruction) food refl none
+  where
+    go : (b f : Bool) → moves_food it.instruction ≡ b → (b && f) ≡ false → event_lines f it ≡ event_lines false it
+    go true true e other = absurd (cc)
+    go true false e other = refl
+    go false true e other = lines-still true it e
+    go false false e other = refl
 
-pub lines-fed : (food : Bool) (it : Seen) → (food && moves_food it.instruction) ≡ true → event_lines food it ≡ event_lines true it
-lines-fed false it some = absurd (cc)
-lines-fed true it some = refl
+pub lines-fed : (food : Bool) (it : Seen) → (moves_food it.instruction && food) ≡ true → event_lines food it ≡ event_lines true it
+lines-fed food it some = go (moves_food it.instruction) food some
+  where
+    go : (b f : Bool) → (b && f) ≡ true → event_lines f it ≡ event_lines true it
+    go true true e = refl
+    go true false e = absurd (cc)
+    go false f e = absurd (cc)
 
 module _ (minds : Minds) (seed round : ℕ) (m : Moment) (t : ℕ) (p : Pos) (ant : Ant) (valid : Valid m.world) (found : place_in m.world t ≡ Some p) (is : (m.world.cells p).ant ≡ Some ant) where
   -- what is seen of its turn, by its instruction

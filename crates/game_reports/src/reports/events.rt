@@ -68,9 +68,9 @@ impl EventReport {
     // Whether a turn of this instruction may have a line of food.
     #[inline(always)]
     fn adds_food(&self, instruction: &Instr) -> bool
-        ensures { result ≡ (self.now.food && moves_food instruction.now) }
+        ensures { result ≡ (moves_food instruction.now && self.now.food) }
     {
-        self.food && moves_food(instruction)
+        moves_food(instruction) && self.food
     }
 }
 

@@ -65,7 +65,7 @@ returns-then-adds_food-clause-told g c =
     subst (λ (lines : List (List ℕ)). Pushed (g.K.Sink.state c.args.sink.now) (g.K.Sink.state c.push_carried.new.sink) (broken lines) c.push_carried.result)
     (ap (λ (list : List Seen). flat_map (event_lines true) list) (seen-acts minds s.seed c.args.round m it c.requires.found c.requires.here c.requires.up)
     ∙ append-nil _
-    ∙ sym (lines-fed food seen (ap (λ (i : Instr). food && moves_food i) is ∙ sym c.adds_food.ensures ∙ c.if-adds_food.true)))
+    ∙ sym (lines-fed food seen (ap (λ (i : Instr). moves_food i && food) is ∙ sym c.adds_food.ensures ∙ c.if-adds_food.true)))
     c.push_carried.ensures.text
 
 pub returns-clause-told : goal.returns-clause-told
@@ -81,5 +81,5 @@ returns-clause-told g c =
     subst (λ (lines : List (List ℕ)). Pushed (g.K.Sink.state c.args.sink.now) (g.K.Sink.state c.push_deed.new.sink) (broken lines) c.push_deed.result)
     (ap (λ (list : List Seen). flat_map (event_lines false) list) (seen-acts minds s.seed c.args.round m it c.requires.found c.requires.here c.requires.up)
     ∙ append-nil _
-    ∙ sym (lines-plain food seen (ap (λ (i : Instr). food && moves_food i) is ∙ sym c.adds_food.ensures ∙ c.if-adds_food.false)))
+    ∙ sym (lines-plain food seen (ap (λ (i : Instr). moves_food i && food) is ∙ sym c.adds_food.ensures ∙ c.if-adds_food.false)))
     c.push_deed.ensures.text
