@@ -40,7 +40,8 @@ shelf_with files = shelf_of (record { files = files; failing = []; calls = 0; fa
 abbrev pub holding : List ℕ → SinkState
 holding bytes = record { held = Some bytes; waiting = Some []; faults = 0 }
 
--- the program ran with these words over these files and ended so; it wrote this text, and said this line, which is the whole line of its ending
+-- the program ran with these words over these files and ended so; it wrote this text, and reported this line, which is the whole line of its
+-- ending
 pub record Runs (words : List (List ℕ)) (files : List (List ℕ × List ℕ)) (text line : List ℕ) (ending : Ending) : Type 0 where
   pub shelf : ShelfState
   pub run : IsRun (words_without_far words) (outside_of (shelf_with files) (holding []) (holding [])) (outside_of shelf (holding text) (holding line)) (ending_status ending)
@@ -55,6 +56,7 @@ pub record Lent : Type 0 where
   pub told : ℕ
   pub fault : AntsFault
 
+-- the same, of these parts
 abbrev pub lent : List ℕ → ℕ → List ℕ → ℕ → AntsFault → Lent
 lent out used said told fault = record { out = out; used = used; said = said; told = told; fault = fault }
 
