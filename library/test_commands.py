@@ -17,7 +17,8 @@ import warnings
 
 import icfp_ants
 from icfp_ants import (
-    Ant, Cell, Colour, Counts, Death, Event, Executed, Fault, Kind, Label, Line, Played, Refused, Renumbered, Score, Standing, Step, Stop, Use,
+    Act, Ant, Cell, Colour, Counts, Death, Event, Executed, Fault, Kind, Label, Line, Played, Refused, Renumbered, Score, Standing, Step, Stop,
+    Use,
 )
 from icfp_ants._library import library
 from faults import rows
@@ -277,6 +278,54 @@ class Functions(Beside):
         self.assertEqual(found.text, self.written(*self.words("events", 12345, 5), **AMBUSH))
         self.assertEqual(icfp_ants.events(**FIRST, seed=1, rounds=110), [Event(110, RED, 0, None, Score(1, 0))])
         self.assertEqual(icfp_ants.events(**AMBUSH, seed=12345, rounds=1, corpse=9)[1].score, Score(9, 0))
+
+    def test_events_from_a_round_and_with_food(self):
+        found = icfp_ants.events(**FIRST, seed=1, rounds=110, food=True, start=0)
+        self.assertEqual(found.text, self.written(*self.words("events", 1, 110, "--food", "--from", 0), **FIRST))
+        self.assertEqual(found[-1], Event(110, RED, 0, None, Score(1, 0)))
+        self.assertEqual([it.food.is_taken for it in found if it.food], [True, False])
+        dropped = found[-2]
+        self.assertEqual((dropped.round, dropped.death, dropped.score, dropped.food.hill), (110, None, None, RED))
+        taken = next(it for it in found if it.food)
+        self.assertEqual((taken.colour, taken.ant, taken.food.hill), (RED, 0, None))
+        self.assertEqual(icfp_ants.events(**FIRST, seed=1, rounds=110, start=111), [])
+        self.assertEqual(icfp_ants.events(**AMBUSH, seed=12345, rounds=5, start=2), [])
+        self.assertEqual(len(icfp_ants.events(**AMBUSH, seed=12345, rounds=5, start=1)), 2)
+
+    def test_acts(self):
+        """The ambush of docs/RULES.md: each ant of the black hill moves in round 1, and rests then."""
+        found = icfp_ants.acts(**AMBUSH, seed=12345, rounds=1, ant=1)
+        self.assertEqual(found, [Act(1, BLACK, 1, 1, 3, 0, 0, 0, "Move 0 0", True)])
+        self.assertEqual(found.text, self.written(*self.words("acts", 12345, 1, "--ant", 1), **AMBUSH))
+        every = icfp_ants.acts(**AMBUSH, seed=12345, rounds=2)
+        self.assertEqual(every.text, self.written(*self.words("acts", 12345, 2), **AMBUSH))
+        for it in icfp_ants.profile(**AMBUSH, seed=12345, rounds=2):
+            of_state = [act for act in every if (act.colour, act.state) == (it.colour, it.state)]
+            self.assertEqual((len(of_state), sum(act.met for act in of_state)), (it.times, it.met))
+        self.assertEqual(icfp_ants.acts(**AMBUSH, seed=12345, rounds=2, start=2), [act for act in every if act.round == 2])
+        self.assertEqual(icfp_ants.acts(**AMBUSH, seed=12345, rounds=2, start=3), [])
+        self.assertRaisesRegex(ValueError, "^ant: the world has no ant of id 7$", lambda: icfp_ants.acts(**AMBUSH, seed=12345, rounds=1, ant=7))
+        self.assertRaisesRegex(ValueError, "^ant: 16384 is not", lambda: icfp_ants.acts(**AMBUSH, seed=12345, rounds=1, ant=16384))
+
+    def test_view_and_profile_from_a_round(self):
+        stop = icfp_ants.view(**AMBUSH, breaks="Killed 2", seed=12345, rounds=5, start=3)
+        self.assertEqual(stop[:3], (3, 0, 1))
+        self.assertIsNone(icfp_ants.view(**AMBUSH, breaks="Killed 2", seed=12345, rounds=5, start=6))
+        whole, first, rest = (icfp_ants.profile(**AMBUSH, seed=12345, rounds=last, start=start) for last, start in ((9, None), (4, 0), (9, 5)))
+        self.assertEqual([it.times for it in whole], [one.times + other.times for one, other in zip(first, rest)])
+
+    def test_cup_of_seeds(self):
+        names = {"step.brain": AMBUSH["black"], "flip_two.brain": AMBUSH["red"], "idle.brain": example("idle.brain")}
+        step, flip, idle = names
+        found = icfp_ants.cup({"w": AMBUSH["world"]}, names, MOST_SEED, 1, games=True, seeds=2, leads=True, gauntlet=True)
+        pairs = [(step, flip, 0), (flip, step, 3), (step, idle, 0), (idle, step, 3)]
+        games = [Played("w", red, black, Score(score, 0), seed) for seed in (MOST_SEED, 0) for red, black, score in pairs]
+        self.assertEqual(found.games, games)
+        self.assertEqual(found.standing, [Standing(6, flip, 2, 2, 0, 6), Standing(6, idle, 2, 2, 0, 6), Standing(4, step, 0, 4, 4, -12)])
+        one = icfp_ants.cup({"w": AMBUSH["world"]}, names, 12345, 1, games=True, seeds=1)
+        self.assertEqual([it.seed for it in one.games], [12345] * 6)
+        self.assertEqual([it.lead for it in one.standing], [None] * 3)
+        self.assertRaisesRegex(ValueError, "^seeds: 1001 is not 1 to 1000$", lambda: icfp_ants.cup({"w": WORLD}, names, 1, 1, seeds=1001))
 
     def test_profile(self):
         found = icfp_ants.profile(**AMBUSH, seed=12345, rounds=2)

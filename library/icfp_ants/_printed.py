@@ -69,13 +69,41 @@ class Death(NamedTuple):
     row: int
 
 
+class Carried(NamedTuple):
+    """Food that an ant takes or drops by the instruction of this state, and the cell, with the colour of the hill that it belongs to."""
+    state: int
+    is_taken: bool
+    column: int
+    row: int
+    hill: Optional[Colour]
+
+
 class Event(NamedTuple):
-    """What happens in the turn of the ant of this colour and id: one dies, and `score` is None, or the score becomes another, and `death` is None."""
+    """What happens in the turn of the ant of this colour and id: one dies, the score changes, or the ant takes or drops food. Of these three exactly one is
+    not None.
+    """
     round: int
     colour: Colour
     ant: int
     death: Optional[Death]
     score: Optional[Score]
+    food: Optional[Carried] = None
+
+
+class Act(NamedTuple):
+    """An instruction that an ant of this colour and id executes. The cell, the direction, the food and the state are those before it. `met` is its answer,
+    and True if it names one state only.
+    """
+    round: int
+    colour: Colour
+    ant: int
+    column: int
+    row: int
+    direction: int
+    food: int
+    state: int
+    instruction: str
+    met: bool
 
 
 class Executed(NamedTuple):
@@ -133,20 +161,22 @@ class Step(NamedTuple):
 
 
 class Standing(NamedTuple):
-    """A brain's place in a cup."""
+    """A brain's place in a cup. `lead` is its food minus that of its opponents, over all its games, or None if leads weren't requested."""
     points: int
     brain: str
     won: int
     drawn: int
     lost: int
+    lead: Optional[int] = None
 
 
 class Played(NamedTuple):
-    """A game of a cup: the names of its world and its brains, and its score."""
+    """A game of a cup: the names of its world and its brains, its score, and its seed if the number of seeds was given."""
     world: str
     red: str
     black: str
     score: Score
+    seed: Optional[int] = None
 
 
 class Cup(NamedTuple):
