@@ -362,7 +362,8 @@ uint32_t ants_call(
     size_t sizes_len, const uint8_t *bytes, size_t bytes_len, uint8_t *out, size_t out_len, size_t *used, uint8_t *said,
     size_t said_len, size_t *told, struct ants_fault_data *fault);
 
-// A file that a command may read: its name, as the words of the command have it, and its bytes. `bytes` may be NULL if `len` is 0.
+// A file that a command may read: its name, as the words of the command have it, and its bytes.
+// `bytes` may be NULL if `len` is 0.
 struct ants_file {
     const char *name;
     const uint8_t *bytes;
@@ -376,30 +377,35 @@ struct ants_answer {
     // What the program prints: `len` bytes, and then a zero byte. It is never NULL.
     const char *text;
     size_t len;
-    // The line in which the program says what is wrong, LF included: `line_len` bytes, and then a zero byte. It is never NULL, and it is empty at
-    // ANTS_DONE and ANTS_UNREADABLE. At ANTS_REFUSED the words of the fault are the last fault.words bytes before the LF.
+    // The line in which the program says what is wrong, LF included: `line_len` bytes, and then a
+    // zero byte. It is never NULL, and it is empty at ANTS_DONE and ANTS_UNREADABLE. At
+    // ANTS_REFUSED the words of the fault are the last fault.words bytes before the LF.
     const char *line;
     size_t line_len;
     // How many bytes the whole text has: more than `len` at ANTS_NO_ROOM, and otherwise `len`.
     size_t whole_len;
-    // The error in numbers, as ants_call() writes it. All numbers are 0 at each status except 2, 3 and 5.
+    // The error in numbers, as ants_call() writes it. All numbers are 0 at each status except 2, 3
+    // and 5.
     struct ants_fault_data fault;
     // The memory of all this.
     void *memory;
 };
 
-// Runs a command of the program over these files, and allocates what it returns: this is ants_call() for words and files as C has them. `words` are
-// the words of the command line, without the program's name. The status is that of ants_call(). A word with an LF is refused like an empty word,
-// with status 2. If the name of a file has an LF, the status is 1.
+// Runs a command of the program over these files, and allocates what it returns: this is
+// ants_call() for words and files as C has them. `words` are the words of the command line, without
+// the program's name. The status is that of ants_call(). A word with an LF is refused like an empty
+// word, with status 2. If the name of a file has an LF, the status is 1.
 //
-// The text may have `most` bytes, and 0 means 268,435,456. If it is longer, the status is 4, and `text` has its first `most` bytes. The room for
-// `most` bytes is allocated before the program runs, so that no game is played twice. Only pages that are written take memory. Free each answer
+// The text may have `most` bytes, and 0 means 268,435,456. If it is longer, the status is 4, and
+// `text` has its first `most` bytes. The room for `most` bytes is allocated before the program
+// runs, so that no game is played twice. Only pages that are written take memory. Free each answer
 // with ants_answer_free(), at every status.
 uint32_t ants_command(
     int word_count, const char *const *words, const struct ants_file *files, size_t file_count, size_t most,
     struct ants_answer *answer);
 
-// Frees the memory of an answer. Its texts are empty afterwards, and its numbers are unchanged. A second call does nothing.
+// Frees the memory of an answer. Its texts are empty afterwards, and its status and its fault are
+// unchanged. A second call does nothing.
 void ants_answer_free(struct ants_answer *answer);
 
 #ifdef __cplusplus
