@@ -160,4 +160,4 @@ def to_believe(spec, page):
         ["all commands: [the index](SPECIFICATION.md); the law `%s` itself has %d lines" % (LAW, lines_of(spec.page)), whole, None],
     ]
     rows = [[says, number(lines), number(minutes or round(lines / LINES))] for says, lines, minutes in rows]
-    return table(["to believe", "lines", "minutes"], rows) + "\nMinutes are at %d lines a minute; those of the page include its prose and comments, at %d words a minute.\n" % (LINES, PROSE)
+    return table(["to believe", "lines", "minutes"], rows) + "\nMinutes are at %d lines a minute; those of the page include its prose and comments,\nat %d words a minute.\n" % (LINES, PROSE)
