@@ -295,9 +295,11 @@ uint32_t ants_version(
     uint8_t *out, size_t out_len, size_t *used);
 
 // Plays a game by the contest's rules, turn after turn, and gives its score (the task's game play). The status is
-// - 0: the texts are those of a world and of two brains, and the score is that of their game after so many rounds with this seed;
+// - 0: the texts are those of a world and of two brains, and the score is that of their game after so many rounds with
+//   this seed;
 // - 2: there are more than 1,000,000 rounds;
-// - 5: a text is refused, the first one that is; the fault says which and why, and its words are laid over `words`, as far as they go;
+// - 5: a text is refused, the first one that is; the fault says which and why, and its words are laid over `words`, as
+//   far as they go;
 // - 6: memory could not be had.
 //
 // The score is written at 0 alone, the fault and the words at 5 alone.
@@ -306,24 +308,25 @@ uint32_t ants_score(
     uint32_t seed, uint32_t rounds, struct ants_score_data *score, struct ants_fault_data *fault, uint8_t *words,
     size_t words_len);
 
-// Plays a game as `ants_score` does for each of these seeds, and reads the texts once (the task's game play). The status is that of
-// `ants_score`, or
+// Plays a game as `ants_score` does for each of these seeds, and reads the texts once (the task's game play). The
+// status is that of `ants_score`, or
 // - 4: there is room for fewer scores than there are seeds.
 //
-// The scores are written at 0 alone, in the order of the seeds, and those behind them stay; the fault and the words at 5 alone. It takes
-// memory for as many scores, and for a copy of the world.
+// The scores are written at 0 alone, in the order of the seeds, and those behind them stay; the fault and the words at
+// 5 alone. It takes memory for as many scores, and for a copy of the world.
 uint32_t ants_scores(
     const uint8_t *world, size_t world_len, const uint8_t *red, size_t red_len, const uint8_t *black, size_t black_len,
     const uint32_t *seeds, size_t seeds_len, uint32_t rounds, struct ants_score_data *scores, size_t scores_len,
     struct ants_fault_data *fault, uint8_t *words, size_t words_len);
 
-// Plays a game as `ants_score` does, and looks at it after each of these rounds: its score, and the ants of all ids that were made, in order, those
-// of one round behind those of the round before (the task's game play and biology). The status is that of `ants_score`, or
+// Plays a game as `ants_score` does, and looks at it after each of these rounds: its score, and the ants of all ids
+// that were made, in order, those of one round behind those of the round before (the task's game play and biology).
+// The status is that of `ants_score`, or
 // - 2: a round is not above the one before it, or above 1,000,000;
 // - 4: there is room for fewer scores than there are rounds, or for fewer ants than the rounds have together.
 //
-// `ids` is how many ants a round has, at 0 and at 4. The scores and the ants are written at 0 alone, and those behind them stay; the fault and the
-// words at 5 alone.
+// `ids` is how many ants a round has, at 0 and at 4. The scores and the ants are written at 0 alone, and those behind
+// them stay; the fault and the words at 5 alone.
 uint32_t ants_look(
     const uint8_t *world, size_t world_len, const uint8_t *red, size_t red_len, const uint8_t *black, size_t black_len,
     uint32_t seed, const uint32_t *rounds, size_t rounds_len, struct ants_score_data *scores, size_t scores_len,

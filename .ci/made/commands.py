@@ -13,7 +13,7 @@ from words import Words
 
 SECTIONS = "docs/commands.txt"
 OUTPUT = re.compile(r"\w+_output|\w+_text|Tells\w+|Is\w+Output")  # the definitions of texts
-ROW = re.compile(r"(.+?) (\w+) \w+ = (\w+)(?: |$)")  # an equation of `job_by`
+ROW = re.compile(r"(.+?) (\w+) \w+ =\s+(\w+)(?:\s|$)")  # an equation of `job_by`
 
 
 class Commands:

@@ -21,8 +21,8 @@ use Rattle.ant_asm.specs.Inner.Outlines.{lines_said, outline_size, said_before, 
 use Rattle.ant_asm.specs.Inner.Reading.{Read}
 use Rattle.ant_asm.proofs.LineLemmas.{line_again, lines_decide}
 
--- an outline is that of items; a fact holds of each instruction and its line, and another of each use's line and name; and each block that is used
--- has an instruction
+-- an outline is that of items; a fact holds of each instruction and its line, and another of each use's line and name;
+-- and each block that is used has an instruction
 abbrev pub Tells : (ℕ → Action Label → Type 0) → (ℕ → List ℕ → Type 0) → Outline → Items → Type 0
 Tells P Q Closed End = Unit {0}
 Tells P Q (Labelled name outline) items = Tells P Q outline items

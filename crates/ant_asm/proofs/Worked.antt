@@ -98,8 +98,8 @@ worked_room = (refl, refl, refl, refl)
 worked_blocks : (place_fault (record nothing_yet { count = 255 }) 1 (Begins (codes "z") []) ≡ None) × (place_fault (record nothing_yet { count = 256 }) 1 (Begins (codes "z") []) ≡ Some (TooMany 1))
 worked_blocks = (refl, refl)
 
--- which fault of a line counts: below 256 blocks, block z p p, and block b where there is one; in a block, block z; and where no instruction has
--- room, use b next of a block that has no parameters
+-- which fault of a line counts: below 256 blocks, block z p p, and block b where there is one; in a block, block z; and
+-- where no instruction has room, use b next of a block that has no parameters
 worked_order : (place_fault (record nothing_yet { count = 256 }) 1 (Begins (codes "z") (codes "p" ∷ codes "p" ∷ [])) ≡ Some (Twice 1))
     × (place_fault (record (after_so_many 0) { count = 256 }) 5 (Begins (codes "b") []) ≡ Some (Twice 5))
     × (place_fault (record (below nothing_yet 1 (Begins (codes "a") [])) { count = 256 }) 2 (Begins (codes "z") []) ≡ Some (Misplaced 2))

@@ -23,8 +23,8 @@ abbrev numbered_from : ℕ → List Line → List NumberedLine
 numbered_from number [] = []
 numbered_from number (line ∷ lines) = At number line ∷ numbered_from (suc number) lines
 
--- block left on / turn: / Turn Left on / end / block half on / use left next / mid: / use left on / last: / end / block idle / idle: / Drop idle / end /
--- start: / use half next / use half start / stop:
+-- block left on / turn: / Turn Left on / end / block half on / use left next / mid: / use left on / last: / end / block
+-- idle / idle: / Drop idle / end / start: / use half next / use half start / stop:
 abbrev nested : List NumberedLine
 nested = numbered_from 1
     (Begins (codes "left") (codes "on" ∷ []) ∷ Marks (codes "turn") ∷ Instructs (Turn Left (Name (codes "on"))) ∷ Ends
@@ -51,7 +51,8 @@ worked_plain_lines : state_lines_text (state_lines_of (items_of (below_lines not
 unfolding digits
 worked_plain_lines = refl
 
--- block a / Drop next / end / block b / Turn Left next / use a / end / block c / use b / Drop next / use a / end / Drop next / use c / on: / Drop on
+-- block a / Drop next / end / block b / Turn Left next / use a / end / block c / use b / Drop next / use a / end / Drop
+-- next / use c / on: / Drop on
 abbrev deep : List NumberedLine
 deep = numbered_from 1
     (Begins (codes "a") [] ∷ Instructs (Drop NextWord) ∷ Ends

@@ -29,10 +29,13 @@ abbrev pub AnswersProgram : Result code.Assembled AsmFault → Items → Type 0
 AnswersProgram (Ok made) main = IsAssembled main made.brain made.places
 AnswersProgram (Err fault) main = fault ≡ OutOfMemory
 
--- whatever the opening world, the other brain, the numbers of the rules, the seed, the side and the number of rounds: the game with the brain that
--- is answered on that side is the labelled game of the text's program with each address replaced by its number, at an equal place of the stream
+-- whatever the opening world, the other brain, the numbers of the rules, the seed, the side and the number of rounds:
+-- the game with the brain that is answered on that side is the labelled game of the text's program with each address
+-- replaced by its number, at an equal place of the stream
 abbrev pub PlaysText : List ℕ → Result code.Assembled AsmFault → Type 0
-PlaysText text (Ok made) = (main : Items) → IsAsmText text main → (side : Colour) (minds : Minds) (seed width height : ℕ) (kinds : List Kind) (r : ℕ) →
+PlaysText text (Ok made) =
+    (main : Items) → IsAsmText text main
+    → (side : Colour) (minds : Minds) (seed width height : ℕ) (kinds : List Kind) (r : ℕ) →
     AreSound (with_mind minds side made.brain) → Valid (world_of (opening width height kinds)) →
     after_rounds (with_mind minds side made.brain) seed (start_of (world_of (opening width height kinds))) r
     ≡ numbered_moment made.places side (label_game main side minds seed width height kinds r)
@@ -40,5 +43,7 @@ PlaysText text (Err fault) = Unit {0}
 
 -- the program of a text is assembled to one brain, with one list of places
 pub record OneBrain : Type 0 where
-  pub some : (text : List ℕ) (main : Items) → IsAsmText text main → (brain : List Instr) × (list : List Address) × IsAssembled main brain list
-  pub one : (main : Items) (a b : List Instr) (first second : List Address) → IsAssembled main a first → IsAssembled main b second → (a ≡ b) × (first ≡ second)
+  pub some : (text : List ℕ) (main : Items) → IsAsmText text main
+      → (brain : List Instr) × (list : List Address) × IsAssembled main brain list
+  pub one : (main : Items) (a b : List Instr) (first second : List Address) → IsAssembled main a first
+      → IsAssembled main b second → (a ≡ b) × (first ≡ second)

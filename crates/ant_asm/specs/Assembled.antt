@@ -21,4 +21,5 @@ pub record IsAssembled (main : Items) (brain : List Instr) (list : List Address)
   pub as_many : length brain ≡ length list
   -- instruction i is the one at place i, with each label replaced by the number of the place to which it leads
   pub each : (i : ℕ) (address : Address) → slice_get list i ≡ Some address
-      → slice_get brain i ≡ Some (instruction_by (λ label. number_in list ((placed main address).target label)) (placed main address).action)
+      → slice_get brain i ≡ Some
+      (instruction_by (λ label. number_in list ((placed main address).target label)) (placed main address).action)

@@ -1,4 +1,5 @@
--- Games in which the ants of one side have addresses of a labelled program in the place of states (the task's kinetics; labels are this project's own).
+-- Games in which the ants of one side have addresses of a labelled program in the place of states (the task's kinetics;
+-- labels are this project's own).
 use Rattle.std.specs.Prelude.{ℕ, zero, suc, ◌+◌, if◌then◌else◌, ◌||◌, ◌==◌, [], ◌∷◌, Option, Some, None}
 use Rattle.hex_geometry.specs.declared.position.Pos.{Pos}
 use Rattle.hex_geometry.specs.Neighbourhood.{adjacent_pos, sensed_pos}
@@ -37,24 +38,26 @@ bare_instruction action = instruction_by (λ label. 0) action
 
 -- the label by which an instruction of the ant of p goes on, on these cells and at this place of a seed's stream
 abbrev pub label_taken : ℕ → Cells → ℕ → Pos → Ant → Action Label → Label
-label_taken seed cells place p ant (Sense sight met unmet condition) = if meets (cells (sensed_pos p ant.facing sight)) condition ant.colour then met else unmet
+label_taken seed cells place p ant (Sense sight met unmet condition) =
+    if meets (cells (sensed_pos p ant.facing sight)) condition ant.colour then met else unmet
 label_taken seed cells place p ant (Mark i on) = on
 label_taken seed cells place p ant (Unmark i on) = on
 label_taken seed cells place p ant (PickUp met unmet) = if ant.laden || (cells p).food == 0 then unmet else met
 label_taken seed cells place p ant (Drop on) = on
 label_taken seed cells place p ant (Turn side on) = on
-label_taken seed cells place p ant (Move met unmet) = if is_blocked (cells (adjacent_pos p ant.facing)) then unmet else met
+label_taken seed cells place p ant (Move met unmet) =
+    if is_blocked (cells (adjacent_pos p ant.facing)) then unmet else met
 label_taken seed cells place p ant (Flip bound met unmet) = if drawn seed place bound == 0 then met else unmet
 
--- A moment of such a game: a world in which the ants of the side have no states (theirs are 0 throughout), the address of each ant by its
--- id, and how many random numbers were used so far.
+-- A moment of such a game: a world in which the ants of the side have no states (theirs are 0 throughout), the address
+-- of each ant by its id, and how many random numbers were used so far.
 pub record LabelMoment : Type 0 where
   pub world : World
   pub address : ℕ → Address
   pub place : ℕ
 
--- where the ant of p stands in the program after its turn: where it rests, where it stood, and else where the label leads that its
--- instruction takes
+-- where the ant of p stands in the program after its turn: where it rests, where it stood, and else where the label
+-- leads that its instruction takes
 abbrev pub address_acted : ℕ → ℕ → Cells → ℕ → Pos → Ant → Placed → Address → Address
 address_acted zero seed cells place p ant at address = at.target (label_taken seed cells place p ant at.action)
 address_acted (suc left) seed cells place p ant at address = address
@@ -62,7 +65,8 @@ address_acted (suc left) seed cells place p ant at address = address
 -- the same at a position that may hold an ant, which may be of this side
 abbrev pub address_at : Colour → ℕ → Cells → ℕ → Pos → Option Ant → Placed → Address → Address
 address_at side seed cells place p None at address = address
-address_at side seed cells place p (Some ant) at address = if same_colour side ant.colour then address_acted ant.resting seed cells place p ant at address else address
+address_at side seed cells place p (Some ant) at address =
+    if same_colour side ant.colour then address_acted ant.resting seed cells place p ant at address else address
 
 -- the same of an ant that has a place, or is dead
 abbrev pub address_from : Colour → ℕ → Cells → ℕ → Option Pos → Placed → Address → Address
@@ -75,25 +79,31 @@ with_address addresses t address u = if t == u then address else addresses u
 
 -- the turn of an id: that of an ant whose brain is the one instruction at its address
 unfoldable pub label_outcome : Items → Colour → Minds → ℕ → LabelMoment → ℕ → Outcome
-label_outcome main side minds seed m t = turn (with_mind minds side (bare_instruction (placed main (m.address t)).action ∷ [])) seed m.world m.place t
+label_outcome main side minds seed m t =
+    turn (with_mind minds side (bare_instruction (placed main (m.address t)).action ∷ [])) seed m.world m.place t
 
 -- the moment after it
 unfoldable pub label_turn : Items → Colour → Minds → ℕ → LabelMoment → ℕ → LabelMoment
 label_turn main side minds seed m t = record {
   world = with_cells m.world (label_outcome main side minds seed m t).cells;
-  address = with_address m.address t (address_from side seed m.world.cells m.place (place_in m.world t) (placed main (m.address t)) (m.address t));
+  address =
+      with_address m.address t
+      (address_from side seed m.world.cells m.place (place_in m.world t) (placed main (m.address t)) (m.address t));
   place = m.place + one_if (label_outcome main side minds seed m t).drew;
 }
 
 -- the moment after the turns of n ids from `from` on, in rising order
 abbrev pub label_turns : Items → Colour → Minds → ℕ → LabelMoment → ℕ → ℕ → LabelMoment
 label_turns main side minds seed m from zero = m
-label_turns main side minds seed m from (suc n) = label_turn main side minds seed (label_turns main side minds seed m from n) (from + n)
+label_turns main side minds seed m from (suc n) =
+    label_turn main side minds seed (label_turns main side minds seed m from n) (from + n)
 
 -- the moment after r rounds
 abbrev pub label_rounds : Items → Colour → Minds → ℕ → LabelMoment → ℕ → LabelMoment
 label_rounds main side minds seed m zero = m
-label_rounds main side minds seed m (suc r) = let before : LabelMoment = label_rounds main side minds seed m r in label_turns main side minds seed before 0 before.world.ids
+label_rounds main side minds seed m (suc r) =
+    let before : LabelMoment = label_rounds main side minds seed m r in
+    label_turns main side minds seed before 0 before.world.ids
 
 -- the moment at the start: each ant of the side begins at main's first instruction
 abbrev pub label_start : Items → World → LabelMoment

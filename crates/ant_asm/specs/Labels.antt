@@ -23,7 +23,8 @@ AreSaid [] (said ∷ others) = ⊥
 AreSaid (line ∷ lines) [] = ⊥
 AreSaid (line ∷ lines) (At number said ∷ others) = (number ≡ line.number) × Says line.tokens said × AreSaid lines others
 
--- The lines of a body by their names, in order: a label; an instruction, with its line; or a use, with its line, the name of its block, and the block's own lines.
+-- The lines of a body by their names, in order: a label; an instruction, with its line; or a use, with its line, the
+-- name of its block, and the block's own lines.
 pub data Outline : Type 0 where
   Closed : Outline
   Labelled : (name : List ℕ) → (others : Outline) → Outline
@@ -35,22 +36,26 @@ abbrev pub with_use : ℕ → List ℕ → Option Outline → Outline → Outlin
 with_use line name None others = others
 with_use line name (Some block) others = Used line name block others
 
--- the lines of a block up to its end, where these follow the one that begins it, and blocks of these names have ended above
+-- the lines of a block up to its end, where these follow the one that begins it, and blocks of these names have ended
+-- above
 abbrev pub block_outline : List NumberedLine → (List ℕ → Option Outline) → Outline
 block_outline [] blocks = Closed
 block_outline (At number (Marks name) ∷ lines) blocks = Labelled name (block_outline lines blocks)
 block_outline (At number (Begins name parameters) ∷ lines) blocks = block_outline lines blocks
 block_outline (At number Ends ∷ lines) blocks = Closed
-block_outline (At number (Uses name handed) ∷ lines) blocks = with_use number name (blocks name) (block_outline lines blocks)
+block_outline (At number (Uses name handed) ∷ lines) blocks =
+    with_use number name (blocks name) (block_outline lines blocks)
 block_outline (At number (Instructs action) ∷ lines) blocks = Instructed number (block_outline lines blocks)
 
 -- the lines of main, which are those outside blocks; whether the first of these is inside one is told
 abbrev pub main_outline : List NumberedLine → Bool → (List ℕ → Option Outline) → Outline
 main_outline [] inside blocks = Closed
-main_outline (At number (Begins name parameters) ∷ lines) false blocks = main_outline lines true (with_name name (block_outline lines blocks) blocks)
+main_outline (At number (Begins name parameters) ∷ lines) false blocks =
+    main_outline lines true (with_name name (block_outline lines blocks) blocks)
 main_outline (At number Ends ∷ lines) false blocks = main_outline lines false blocks
 main_outline (At number (Marks name) ∷ lines) false blocks = Labelled name (main_outline lines false blocks)
-main_outline (At number (Uses name handed) ∷ lines) false blocks = with_use number name (blocks name) (main_outline lines false blocks)
+main_outline (At number (Uses name handed) ∷ lines) false blocks =
+    with_use number name (blocks name) (main_outline lines false blocks)
 main_outline (At number (Instructs action) ∷ lines) false blocks = Instructed number (main_outline lines false blocks)
 main_outline (At number (Begins name parameters) ∷ lines) true blocks = main_outline lines true blocks
 main_outline (At number Ends ∷ lines) true blocks = main_outline lines false blocks
@@ -103,17 +108,21 @@ put_inside body k name line = record {
 -- the labels of a body itself, in the order of its lines, of which these are left; the item that follows is its k-th
 abbrev pub own_labels : Outline → PutBody → ℕ → List LabelState
 own_labels Closed body k = []
-own_labels (Labelled name others) body k = (record { way = body.way; name = name; state = body.state (first_at body.items body.frame k) }) ∷ own_labels others body k
+own_labels (Labelled name others) body k =
+    (record { way = body.way; name = name; state = body.state (first_at body.items body.frame k) })
+    ∷ own_labels others body k
 own_labels (Instructed line others) body k = own_labels others body (suc k)
 own_labels (Used line name block others) body k = own_labels others body (suc k)
 
--- the labels of the blocks that it puts in place, use by use: of each its own, and then those of the blocks that it puts in place
+-- the labels of the blocks that it puts in place, use by use: of each its own, and then those of the blocks that it
+-- puts in place
 abbrev pub inner_labels : Outline → PutBody → ℕ → List LabelState
 inner_labels Closed body k = []
 inner_labels (Labelled name others) body k = inner_labels others body k
 inner_labels (Instructed line others) body k = inner_labels others body (suc k)
 inner_labels (Used line name block others) body k =
-    (own_labels block (put_inside body k name line) 0 ++ inner_labels block (put_inside body k name line) 0) ++ inner_labels others body (suc k)
+    (own_labels block (put_inside body k name line) 0 ++ inner_labels block (put_inside body k name line) 0)
+    ++ inner_labels others body (suc k)
 
 -- main
 abbrev pub put_main : Items → PutBody
@@ -121,7 +130,8 @@ put_main main = record { state = number_in (places main); items = main; frame = 
 
 -- the labels of a program whose lines say this
 abbrev pub labels_of : Items → List NumberedLine → List LabelState
-labels_of main lines = own_labels (outline_of lines) (put_main main) 0 ++ inner_labels (outline_of lines) (put_main main) 0
+labels_of main lines =
+    own_labels (outline_of lines) (put_main main) 0 ++ inner_labels (outline_of lines) (put_main main) 0
 
 -- these are the labels of the text's program
 pub record AreLabelsOf (text : List ℕ) (labels : List LabelState) : Type 0 where

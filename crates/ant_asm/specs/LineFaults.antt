@@ -13,7 +13,8 @@ use Rattle.ant_asm.specs.Lines.{Keyword, keywords, most_parameters, word_of_keyw
 use Rattle.ant_asm.specs.Lines.Keyword.{BlockWord, EndWord, UseWord}
 use Rattle.ant_asm.specs.Names.{before_colon, label_of, name_if, name_of}
 
--- what is wanted at a place of a line: what an instruction has there, a label, a name, or one of the last two where a token is left
+-- what is wanted at a place of a line: what an instruction has there, a label, a name, or one of the last two where a
+-- token is left
 pub data Position : Type 0 where
   Of : brain.Position → Position
   LabelToken NameToken MayLabel MayName : Position
@@ -86,7 +87,8 @@ first_fault line [] (position ∷ positions) = missing_at position line
 first_fault line (token ∷ tokens) [] = Some (if has_bad_byte token then BadByte line else ExtraToken line)
 first_fault line (token ∷ tokens) (position ∷ positions) =
     if has_bad_byte token then Some (BadByte line)
-    else judged (accepted position token) (fault_of position line) (λ brings. first_fault line tokens (brings ++ positions))
+    else judged (accepted position token) (fault_of position line)
+    (λ brings. first_fault line tokens (brings ++ positions))
 
 -- the fault of a line's first position at fault: the first token decides which positions follow it
 unfoldable pub spelling_fault : ℕ → List (List ℕ) → Option AsmFault

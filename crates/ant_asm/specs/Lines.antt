@@ -30,8 +30,8 @@ keywords = BlockWord ∷ EndWord ∷ UseWord ∷ []
 abbrev pub most_parameters : ℕ
 most_parameters = 8
 
--- what a line says: it names the item that follows, begins a block with these parameters, ends it, puts a block in place with these labels,
--- or is an instruction
+-- what a line says: it names the item that follows, begins a block with these parameters, ends it, puts a block in
+-- place with these labels, or is an instruction
 pub data Line : Type 0 where
   Marks : List ℕ → Line
   Begins : (name : List ℕ) → (parameters : List (List ℕ)) → Line
@@ -49,19 +49,23 @@ pub data Field : Type 0 where
 -- how an instruction is spelled: the table of forms, with labels for states
 abbrev pub fields_of_action : Action Named → List Field
 fields_of_action (Sense sight met unmet condition) =
-    Plain (Word (word_of_form Form.Sense)) ∷ Plain (Word (word_of_sight sight)) ∷ LabelField met ∷ LabelField unmet ∷ map Plain (fields_of_condition condition)
+    Plain (Word (word_of_form Form.Sense)) ∷ Plain (Word (word_of_sight sight)) ∷ LabelField met ∷ LabelField unmet
+    ∷ map Plain (fields_of_condition condition)
 fields_of_action (Mark i on) = Plain (Word (word_of_form Form.Mark)) ∷ Plain (Number i) ∷ LabelField on ∷ []
 fields_of_action (Unmark i on) = Plain (Word (word_of_form Form.Unmark)) ∷ Plain (Number i) ∷ LabelField on ∷ []
 fields_of_action (PickUp met unmet) = Plain (Word (word_of_form Form.PickUp)) ∷ LabelField met ∷ LabelField unmet ∷ []
 fields_of_action (Drop on) = Plain (Word (word_of_form Form.Drop)) ∷ LabelField on ∷ []
-fields_of_action (Turn side on) = Plain (Word (word_of_form Form.Turn)) ∷ Plain (Word (word_of_side side)) ∷ LabelField on ∷ []
+fields_of_action (Turn side on) =
+    Plain (Word (word_of_form Form.Turn)) ∷ Plain (Word (word_of_side side)) ∷ LabelField on ∷ []
 fields_of_action (Move met unmet) = Plain (Word (word_of_form Form.Move)) ∷ LabelField met ∷ LabelField unmet ∷ []
-fields_of_action (Flip bound met unmet) = Plain (Word (word_of_form Form.Flip)) ∷ Plain (Number bound) ∷ LabelField met ∷ LabelField unmet ∷ []
+fields_of_action (Flip bound met unmet) =
+    Plain (Word (word_of_form Form.Flip)) ∷ Plain (Number bound) ∷ LabelField met ∷ LabelField unmet ∷ []
 
 -- how a line is spelled: the table of lines
 abbrev pub fields_of_line : Line → List Field
 fields_of_line (Marks name) = ColonField name ∷ []
-fields_of_line (Begins name parameters) = Plain (Word (word_of_keyword BlockWord)) ∷ NameField name ∷ map NameField parameters
+fields_of_line (Begins name parameters) =
+    Plain (Word (word_of_keyword BlockWord)) ∷ NameField name ∷ map NameField parameters
 fields_of_line Ends = Plain (Word (word_of_keyword EndWord)) ∷ []
 fields_of_line (Uses name handed) = Plain (Word (word_of_keyword UseWord)) ∷ NameField name ∷ map LabelField handed
 fields_of_line (Instructs instruction) = fields_of_action instruction

@@ -21,30 +21,39 @@ use Rattle.ant_asm.specs.LabelGame.{LabelMoment, label_rounds, label_start}
 
 -- the ant, of this side in the state that is the number of its address
 abbrev pub numbered_ant : List Address → Colour → (ℕ → Address) → Ant → Ant
-numbered_ant places side addresses ant = record ant { state = if same_colour side ant.colour then number_in places (addresses ant.id) else ant.state }
+numbered_ant places side addresses ant =
+    record ant { state = if same_colour side ant.colour then number_in places (addresses ant.id) else ant.state }
 
 abbrev pub numbered_cell : List Address → Colour → (ℕ → Address) → Cell → Cell
-numbered_cell places side addresses cell = record cell { ant = option_map (numbered_ant places side addresses) cell.ant }
+numbered_cell places side addresses cell =
+    record cell { ant = option_map (numbered_ant places side addresses) cell.ant }
 
 -- the moment with each address replaced by its number
 abbrev pub numbered_moment : List Address → Colour → LabelMoment → Moment
-numbered_moment places side m = record { world = with_cells m.world (λ p. numbered_cell places side m.address (m.world.cells p)); place = m.place }
+numbered_moment places side m = record {
+  world = with_cells m.world (λ p. numbered_cell places side m.address (m.world.cells p));
+  place = m.place;
+}
 
 -- the moment after r rounds of the labelled game that starts in the opening world of these kinds
 abbrev pub label_game : Items → Colour → Minds → ℕ → ℕ → ℕ → List Kind → ℕ → LabelMoment
-label_game main side minds seed width height kinds r = label_rounds main side minds seed (label_start main (world_of (opening width height kinds))) r
+label_game main side minds seed width height kinds r =
+    label_rounds main side minds seed (label_start main (world_of (opening width height kinds))) r
 
--- whatever the opening world, the other brain, the numbers of the rules, the seed, the side and the number of rounds: the game with the
--- assembled brain on that side is the labelled game with each address replaced by its number, at an equal place of the stream
+-- whatever the opening world, the other brain, the numbers of the rules, the seed, the side and the number of rounds:
+-- the game with the assembled brain on that side is the labelled game with each address replaced by its number, at an
+-- equal place of the stream
 abbrev pub PlaysLabelled : Type 0
 PlaysLabelled = (main : Items) (brain : List Instr) (list : List Address) → IsAssembled main brain list →
-    (side : Colour) (minds : Minds) (seed width height : ℕ) (kinds : List Kind) (r : ℕ) → AreSound (with_mind minds side brain) → Valid (world_of (opening width height kinds)) →
+    (side : Colour) (minds : Minds) (seed width height : ℕ) (kinds : List Kind) (r : ℕ)
+    → AreSound (with_mind minds side brain) → Valid (world_of (opening width height kinds)) →
     after_rounds (with_mind minds side brain) seed (start_of (world_of (opening width height kinds))) r
     ≡ numbered_moment list side (label_game main side minds seed width height kinds r)
 
 -- so the scores are equal
 abbrev pub ScoresLabelled : Type 0
 ScoresLabelled = (main : Items) (brain : List Instr) (list : List Address) → IsAssembled main brain list →
-    (side : Colour) (minds : Minds) (seed width height : ℕ) (kinds : List Kind) (r : ℕ) → AreSound (with_mind minds side brain) → Valid (world_of (opening width height kinds)) →
+    (side : Colour) (minds : Minds) (seed width height : ℕ) (kinds : List Kind) (r : ℕ)
+    → AreSound (with_mind minds side brain) → Valid (world_of (opening width height kinds)) →
     score_of (after_rounds (with_mind minds side brain) seed (start_of (world_of (opening width height kinds))) r).world
     ≡ score_of (label_game main side minds seed width height kinds r).world

@@ -11,32 +11,34 @@ use Rattle.ant_asm.specs.Program.Items.{End, Do, Use}
 abbrev pub Address : Type 0
 Address = List ℕ
 
--- the addresses of the instructions of some items, in order, where the first item is the k-th of the body that this path leads to
+-- the addresses of the instructions of some items, in order, where the first item is the k-th of the body that this
+-- path leads to
 abbrev pub places_of : Items → Address → ℕ → List Address
 places_of End path k = []
 places_of (Do action others) path k = (path ++ k ∷ []) ∷ places_of others path (suc k)
 places_of (Use handed block others) path k = places_of block (path ++ k ∷ []) 0 ++ places_of others path (suc k)
 
--- the address of the first instruction of some items, the first of which is the k-th of its body; where they have none, the address
--- `after`, of what follows the body
+-- the address of the first instruction of some items, the first of which is the k-th of its body; where they have none,
+-- the address `after`, of what follows the body
 abbrev pub first_of : Items → Address → ℕ → Address → Address
 first_of End path k after = after
 first_of (Do action others) path k after = path ++ k ∷ []
 first_of (Use handed block others) path k after = first_of block (path ++ k ∷ []) 0 (first_of others path (suc k) after)
 
--- where a body is put in place: the path of its use, what follows it there, and where the labels lead that are handed for its parameters
+-- where a body is put in place: the path of its use, what follows it there, and where the labels lead that are handed
+-- for its parameters
 pub record Frame : Type 0 where
   pub path : Address
   pub after : Address
   pub given : List Address
 
--- the first instruction from the k-th item of a body on: the item's own, or that of the block which it puts in place; at the body's end
--- that of what follows the body's use
+-- the first instruction from the k-th item of a body on: the item's own, or that of the block which it puts in place;
+-- at the body's end that of what follows the body's use
 abbrev pub first_at : Items → Frame → ℕ → Address
 first_at items frame k = first_of (from_place k items) frame.path k frame.after
 
--- where a label of the k-th item of a body leads: to the next item, to a place of the body, or, as a parameter, where the label leads that is
--- handed for it
+-- where a label of the k-th item of a body leads: to the next item, to a place of the body, or, as a parameter, where
+-- the label leads that is handed for it
 abbrev pub target : Items → Frame → ℕ → Label → Address
 target items frame k Next = first_at items frame (suc k)
 target items frame k (Place j) = first_at items frame j
@@ -62,7 +64,8 @@ placed_from [] items frame k (Do action others) = Some (record { action = action
 placed_from [] items frame k (Use handed block others) = None
 placed_from (j ∷ address) items frame k End = None
 placed_from (j ∷ address) items frame k (Do action others) = None
-placed_from (j ∷ address) items frame k (Use handed block others) = placed_from address block (inner items frame k handed) j (from_place j block)
+placed_from (j ∷ address) items frame k (Use handed block others) =
+    placed_from address block (inner items frame k handed) j (from_place j block)
 
 -- main's first instruction
 unfoldable pub beginning : Items → Address

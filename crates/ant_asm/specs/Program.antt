@@ -3,8 +3,8 @@ use Rattle.std.specs.Prelude.{ℕ, zero, suc, ◌+◌, List}
 use Rattle.ant_asm.specs.declared.action.Action.{Action}
 use Rattle.ant_asm.specs.declared.action.Label.{Label}
 
--- The items of a body, in order: main's, or a block's. A use holds the labels that are handed for the block's parameters, and the items of the
--- block that it puts in place.
+-- The items of a body, in order: main's, or a block's. A use holds the labels that are handed for the block's
+-- parameters, and the items of the block that it puts in place.
 pub data Items : Type 0 where
   End : Items
   Do : Action Label → Items → Items

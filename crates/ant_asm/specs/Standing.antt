@@ -30,8 +30,8 @@ pub record ItemLine : Type 0 where
   pub line : ℕ
   pub item : Item
 
--- A body of which more lines may follow: how many parameters it has, what each name stands for in it, its items, and how many instructions they
--- expand to.
+-- A body of which more lines may follow: how many parameters it has, what each name stands for in it, its items, and
+-- how many instructions they expand to.
 pub record Draft : Type 0 where
   pub parameters : ℕ
   pub meaning : List ℕ → Option Label
@@ -49,8 +49,9 @@ pub record Begun : Type 0 where
   pub line : ℕ
   pub draft : Draft
 
--- What stands above a line: main as far as it goes, how many blocks have ended, which block each name is that of, the block that has begun and not
--- ended, and the first line of an ended block that names a label which its body doesn't have.
+-- What stands above a line: main as far as it goes, how many blocks have ended, which block each name is that of, the
+-- block that has begun and not ended, and the first line of an ended block that names a label which its body doesn't
+-- have.
 pub record Standing : Type 0 where
   pub main : Draft
   pub count : ℕ
@@ -69,7 +70,12 @@ parameter_names i (parameter ∷ parameters) = with_name parameter (Parameter i)
 
 -- a body with these parameters and nothing else
 abbrev pub new_draft : List (List ℕ) → Draft
-new_draft parameters = record { parameters = length parameters; meaning = parameter_names 0 parameters; items = []; size = 0 }
+new_draft parameters = record {
+  parameters = length parameters;
+  meaning = parameter_names 0 parameters;
+  items = [];
+  size = 0;
+}
 
 -- nothing
 abbrev pub nothing_yet : Standing
@@ -131,7 +137,8 @@ items_of draft = items_by (way_or_next draft.meaning) draft.items
 -- the line of the first item that names a label which its body doesn't have
 abbrev pub unknown_in : (List ℕ → Option Label) → List ItemLine → Option ℕ
 unknown_in meaning [] = None
-unknown_in meaning (read ∷ others) = if has_unknown meaning (labels_in read.item) then Some read.line else unknown_in meaning others
+unknown_in meaning (read ∷ others) =
+    if has_unknown meaning (labels_in read.item) then Some read.line else unknown_in meaning others
 
 abbrev pub unknown_of : Draft → Option ℕ
 unknown_of draft = unknown_in draft.meaning draft.items
@@ -180,13 +187,18 @@ mark_fault (Some label) line = Some (Twice line)
 -- the fault of a use of a block that has ended, or hasn't
 abbrev pub use_fault : ℕ → Option Block → List Named → ℕ → Option AsmFault
 use_fault size None handed line = Some (NoBlock line)
-use_fault size (Some block) handed line = if not (length handed == block.parameters) then Some (WrongCount line) else size_fault size (size_of block.items) line
+use_fault size (Some block) handed line =
+    if not (length handed == block.parameters)
+    then Some (WrongCount line)
+    else size_fault size (size_of block.items) line
 
 -- the fault of a line that begins a block, where the name is free or taken
 abbrev pub begin_fault : Option Begun → Option Block → ℕ → List (List ℕ) → ℕ → Option AsmFault
 begin_fault (Some begun) taken count parameters line = Some (Misplaced line)
 begin_fault None taken count parameters line =
-    if has_twice parameters || is_some taken then Some (Twice line) else (if nat_le most_blocks count then Some (TooMany line) else None)
+    if has_twice parameters || is_some taken
+    then Some (Twice line)
+    else (if nat_le most_blocks count then Some (TooMany line) else None)
 
 -- the fault of a line that ends one
 abbrev pub end_fault : Option Begun → ℕ → Option AsmFault
@@ -196,7 +208,8 @@ end_fault (Some begun) line = if length begun.draft.items == 0 then Some (EmptyB
 -- the fault of a line that is spelled well, below what stands above it
 abbrev pub place_fault : Standing → ℕ → Line → Option AsmFault
 place_fault standing line (Marks name) = mark_fault ((current standing).meaning name) line
-place_fault standing line (Begins name parameters) = begin_fault standing.begun (standing.blocks name) standing.count parameters line
+place_fault standing line (Begins name parameters) =
+    begin_fault standing.begun (standing.blocks name) standing.count parameters line
 place_fault standing line Ends = end_fault standing.begun line
 place_fault standing line (Uses name handed) = use_fault (current standing).size (standing.blocks name) handed line
 place_fault standing line (Instructs action) = size_fault (current standing).size 1 line
@@ -207,7 +220,10 @@ with_mark draft name = record draft { meaning = with_name name (Place (length dr
 
 -- a body with one item more
 abbrev pub with_line : Draft → ℕ → Item → Draft
-with_line draft line item = record draft { items = draft.items ++ (record { line = line; item = item }) ∷ []; size = draft.size + item_size item }
+with_line draft line item = record draft {
+  items = draft.items ++ (record { line = line; item = item }) ∷ [];
+  size = draft.size + item_size item;
+}
 
 -- the block that a body is
 abbrev pub block_of : Draft → Block
@@ -226,12 +242,14 @@ ended (Some begun) standing = record standing {
 -- a block is put in place
 abbrev pub used : Option Block → Standing → ℕ → List Named → Standing
 used None standing line handed = standing
-used (Some block) standing line handed = with_current standing (with_line (current standing) line (Call handed block.items))
+used (Some block) standing line handed =
+    with_current standing (with_line (current standing) line (Call handed block.items))
 
 -- what stands below a line without a fault
 abbrev pub below : Standing → ℕ → Line → Standing
 below standing line (Marks name) = with_current standing (with_mark (current standing) name)
-below standing line (Begins name parameters) = record standing { begun = Some (record { name = name; line = line; draft = new_draft parameters }) }
+below standing line (Begins name parameters) =
+    record standing { begun = Some (record { name = name; line = line; draft = new_draft parameters }) }
 below standing line Ends = ended standing.begun standing
 below standing line (Uses name handed) = used (standing.blocks name) standing line handed
 below standing line (Instructs action) = with_current standing (with_line (current standing) line (Instruction action))

@@ -34,11 +34,13 @@ from_item zero (Used line name block others) = Used line name block others
 from_item (suc k) (Instructed line others) = from_item k others
 from_item (suc k) (Used line name block others) = from_item k others
 
--- Where the instruction stands to which the rest of an address leads, by the lines of a body from the item on to which the address has led, and
--- the uses on the way. An item's next place is one in the block that it puts in place. No instruction is on line 0, since lines are counted from 1.
+-- Where the instruction stands to which the rest of an address leads, by the lines of a body from the item on to which
+-- the address has led, and the uses on the way. An item's next place is one in the block that it puts in place. No
+-- instruction is on line 0, since lines are counted from 1.
 abbrev pub line_from : ℕ → Address → Outline → List WayStep → StateLine
 line_from state [] (Instructed line others) way = record { state = state; line = line; way = way }
-line_from state (k ∷ address) (Used line name block others) way = line_from state address (from_item k block) (way ++ (record { name = name; line = line }) ∷ [])
+line_from state (k ∷ address) (Used line name block others) way =
+    line_from state address (from_item k block) (way ++ (record { name = name; line = line }) ∷ [])
 line_from state address others way = record { state = state; line = 0; way = way }
 
 -- where the instruction of a state stands, by its address and main's lines
@@ -51,7 +53,8 @@ abbrev pub lines_at : Outline → ℕ → List Address → List StateLine
 lines_at main state [] = []
 lines_at main state (address ∷ addresses) = line_at main state address ∷ lines_at main (suc state) addresses
 
--- where the instructions of a program stand whose lines say this: a brain's state is the number of its instruction's address among all, in order
+-- where the instructions of a program stand whose lines say this: a brain's state is the number of its instruction's
+-- address among all, in order
 abbrev pub state_lines_of : Items → List NumberedLine → List StateLine
 state_lines_of main lines = lines_at (outline_of lines) 0 (places main)
 
@@ -66,7 +69,8 @@ pub record AreStateLinesOf (text : List ℕ) (list : List StateLine) : Type 0 wh
 -- the uses on the way: this stands before the first, and `/` before every other
 abbrev pub uses_text : List ℕ → List WayStep → List ℕ
 uses_text before [] = []
-uses_text before (step ∷ steps) = (before +++ step.name +++ codes "@" +++ decimal step.line) ++ uses_text (codes "/") steps
+uses_text before (step ∷ steps) =
+    (before +++ step.name +++ codes "@" +++ decimal step.line) ++ uses_text (codes "/") steps
 
 -- the line of a state: its number, the line of its instruction, and the uses on the way
 abbrev pub state_line_text : StateLine → List ℕ
@@ -77,8 +81,8 @@ abbrev pub state_lines_text : List StateLine → List ℕ
 state_lines_text [] = []
 state_lines_text (it ∷ others) = state_line_text it ++ state_lines_text others
 
--- The line of this number in the text says the instruction of the i-th of these addresses. Each label of the line stands for
--- a label of its body, and the instruction has the number of the place to which that one leads.
+-- The line of this number in the text says the instruction of the i-th of these addresses. Each label of the line
+-- stands for a label of its body, and the instruction has the number of the place to which that one leads.
 pub record SaysInstruction (text : List ℕ) (list : List Address) (i number : ℕ) (instruction : Instr) : Type 0 where
   pub place : ℕ
   pub line : TokenLine
@@ -91,7 +95,8 @@ pub record SaysInstruction (text : List ℕ) (list : List Address) (i number : �
   pub address : Address
   pub at : slice_get list i ≡ Some address
   pub meaning : List ℕ → Option Label
-  pub is : instruction ≡ instruction_by (λ label. number_in list ((placed main address).target (way_or_next meaning label))) action
+  pub is : instruction
+      ≡ instruction_by (λ label. number_in list ((placed main address).target (way_or_next meaning label))) action
 
 -- the line of this number in the text is a use of the block of this name
 pub record SaysUse (text : List ℕ) (step : WayStep) : Type 0 where
@@ -105,9 +110,15 @@ pub record SaysUse (text : List ℕ) (step : WayStep) : Type 0 where
 -- There is a line for each state of the brain to which the text is assembled, in order from 0. It says the state's
 -- instruction, and has a use for each place of the state's address but the last.
 pub record LineForEachState : Type 0 where
-  pub as_many : (text : List ℕ) (brain : List Instr) (list : List Address) (lines : List StateLine) → IsAssembledText text brain list → AreStateLinesOf text lines → length lines ≡ length brain
-  pub in_order : (text : List ℕ) (lines : List StateLine) (i : ℕ) (it : StateLine) → AreStateLinesOf text lines → slice_get lines i ≡ Some it → it.state ≡ i
-  pub says : (text : List ℕ) (brain : List Instr) (list : List Address) (lines : List StateLine) (i : ℕ) (it : StateLine) (instruction : Instr) → IsAssembledText text brain list → AreStateLinesOf text lines →
-      slice_get lines i ≡ Some it → slice_get brain i ≡ Some instruction → SaysInstruction text list i it.line instruction
-  pub uses : (text : List ℕ) (brain : List Instr) (list : List Address) (lines : List StateLine) (i : ℕ) (it : StateLine) (address : Address) → IsAssembledText text brain list → AreStateLinesOf text lines →
-      slice_get lines i ≡ Some it → slice_get list i ≡ Some address → (length address ≡ suc (length it.way)) × AllByRecursion (SaysUse text) it.way
+  pub as_many : (text : List ℕ) (brain : List Instr) (list : List Address) (lines : List StateLine)
+      → IsAssembledText text brain list → AreStateLinesOf text lines → length lines ≡ length brain
+  pub in_order : (text : List ℕ) (lines : List StateLine) (i : ℕ) (it : StateLine) → AreStateLinesOf text lines
+      → slice_get lines i ≡ Some it → it.state ≡ i
+  pub says : (text : List ℕ) (brain : List Instr) (list : List Address) (lines : List StateLine) (i : ℕ)
+      (it : StateLine) (instruction : Instr) → IsAssembledText text brain list → AreStateLinesOf text lines →
+      slice_get lines i ≡ Some it → slice_get brain i ≡ Some instruction
+      → SaysInstruction text list i it.line instruction
+  pub uses : (text : List ℕ) (brain : List Instr) (list : List Address) (lines : List StateLine) (i : ℕ)
+      (it : StateLine) (address : Address) → IsAssembledText text brain list → AreStateLinesOf text lines →
+      slice_get lines i ≡ Some it → slice_get list i ≡ Some address
+      → (length address ≡ suc (length it.way)) × AllByRecursion (SaysUse text) it.way

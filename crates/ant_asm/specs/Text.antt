@@ -11,11 +11,16 @@ use Rattle.ant_asm.specs.Standing.{Begun, Standing, below, earlier, items_of, no
 -- these lines, none of which is at fault, lead from one standing to another
 abbrev pub Leads : Standing → List TokenLine → Standing → Type 0
 Leads standing [] last = standing ≡ last
-Leads standing (line ∷ lines) last = (said : Line) × Says line.tokens said × (place_fault standing line.number said ≡ None) × Leads (below standing line.number said) lines last
+Leads standing (line ∷ lines) last =
+    (said : Line) × Says line.tokens said × (place_fault standing line.number said ≡ None)
+    × Leads (below standing line.number said) lines last
 
 -- the fault of a text of which no line is at fault and no block is left open
 abbrev pub main_fault : Standing → Option AsmFault
-main_fault standing = if length standing.main.items == 0 then Some Empty else option_map NoLabel (earlier standing.unknown (unknown_of standing.main))
+main_fault standing =
+    if length standing.main.items == 0
+    then Some Empty
+    else option_map NoLabel (earlier standing.unknown (unknown_of standing.main))
 
 -- the fault of a text of which no line is at fault
 abbrev pub last_fault : Option Begun → Standing → Option AsmFault
@@ -32,7 +37,8 @@ pub record IsAsmText (text : List ℕ) (main : Items) : Type 0 where
 -- the fault of a line that says something, or says nothing
 pub data IsLineFault (standing : Standing) (line : TokenLine) (fault : AsmFault) : Type 0 where
   OfSpelling : spelling_fault line.number line.tokens ≡ Some fault → IsLineFault standing line fault
-  OfPlace : (said : Line) → Says line.tokens said → place_fault standing line.number said ≡ Some fault → IsLineFault standing line fault
+  OfPlace : (said : Line) → Says line.tokens said → place_fault standing line.number said ≡ Some fault
+      → IsLineFault standing line fault
 
 -- a line has this fault, and none before it is at fault
 pub record HasLineFault (text : List ℕ) (fault : AsmFault) : Type 0 where
@@ -47,7 +53,8 @@ pub record HasLineFault (text : List ℕ) (fault : AsmFault) : Type 0 where
 -- the fault of a text: its first line at fault has it, or no line is at fault and the text as a whole has it
 pub data IsAsmFault (text : List ℕ) (fault : AsmFault) : Type 0 where
   OfLine : HasLineFault text fault → IsAsmFault text fault
-  OfWhole : (standing : Standing) → Leads nothing_yet (lines_with_tokens text) standing → last_fault standing.begun standing ≡ Some fault → IsAsmFault text fault
+  OfWhole : (standing : Standing) → Leads nothing_yet (lines_with_tokens text) standing
+      → last_fault standing.begun standing ≡ Some fault → IsAsmFault text fault
 
 -- every text has one program or one fault, and never both
 pub record OneProgramOrOneFault : Type 0 where

@@ -2,7 +2,8 @@
 use brain_read::{Cond, Side, Sight};
 use std::alloc::AllocError;
 
-/// A label of an item in its body: what follows the item, a place of the body, from 0 to its length, or the parameter of this number.
+/// A label of an item in its body: what follows the item, a place of the body, from 0 to its length, or the parameter
+/// of this number.
 #[derive(Clone, Copy)]
 pub enum Label {
     Next,

@@ -30,13 +30,13 @@ pub struct Assembled {
     pub places: Places,
 }
 
-/// The brain of a labelled program of at most 4,194,304 bytes, with the address of each of its instructions, or the text's fault.
-/// `OutOfMemory` may be answered at any text; every other answer follows from the text alone, since every text has one program or one
-/// fault. The places are the addresses of all instructions of main's expansion, in order, and the brain's instruction `i` is the one at
-/// place `i`, with the number of its target's place for each label.
+/// The brain of a labelled program of at most 4,194,304 bytes, with the address of each of its instructions, or the
+/// text's fault. `OutOfMemory` may be answered at any text; every other answer follows from the text alone, since every
+/// text has one program or one fault. The places are the addresses of all instructions of main's expansion, in order,
+/// and the brain's instruction `i` is the one at place `i`, with the number of its target's place for each label.
 ///
-/// Given `go:\nMove go next\nTurn Left go\n` it answers the brain `Move 0 1`, `Turn Left 0`. Given `Move go go\n` it answers
-/// `NoLabel { line: 1 }`, and given `go:\n` `Empty`.
+/// Given `go:\nMove go next\nTurn Left go\n` it answers the brain `Move 0 1`, `Turn Left 0`. Given `Move go go\n` it
+/// answers `NoLabel { line: 1 }`, and given `go:\n` `Empty`.
 pub fn assemble(alloc: Global, text: &[u8]) -> Result<Assembled, AsmFault>
     requires { length text.now ≤ longest }
     ensures program { IfOk result (λ made. IsAssembledText text.now made.brain made.places) }

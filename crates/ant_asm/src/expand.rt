@@ -21,7 +21,8 @@ pub struct Expansion {
     pub path: Vec<u32>,
 }
 
-/// Where a body is put in place: the number of its first instruction, of what follows it, and of what is handed for its parameters.
+/// Where a body is put in place: the number of its first instruction, of what follows it, and of what is handed for its
+/// parameters.
 #[derive(Clone, Copy)]
 pub struct Frame<'f> {
     pub base: u16,

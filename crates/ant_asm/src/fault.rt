@@ -7,8 +7,8 @@ use std::alloc::{AllocError, AllocFailed};
 use std::error::Error;
 use std::fmt;
 
-/// The fault of a text that is no labelled program's: the first line at fault; where no line is, a block without an end, no item, or a label
-/// that its body doesn't have. Lines are counted from 1, lines without a token included.
+/// The fault of a text that is no labelled program's: the first line at fault; where no line is, a block without an
+/// end, no item, or a label that its body doesn't have. Lines are counted from 1, lines without a token included.
 #[derive(Clone, Copy, Debug, PartialEq, Eq)]
 pub enum AsmFault {
     /// A token has a byte that is none of tab, LF, CR and 32 to 126.

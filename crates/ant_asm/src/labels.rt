@@ -18,8 +18,9 @@ use ant_base::{Failed, Layout, Sink, layout};
 #[derive(Clone, Copy)]
 pub struct Labels<'s>(pub &'s Source);
 
-/// A line for each label, in order: the state, the uses on the way to its body, each with the name of its block, `@`, its line and `/`, and
-/// the label's name, as `40 carry` or `13 step@90/turn@14/again`. Lines are pushed one by one, and it takes no memory.
+/// A line for each label, in order: the state, the uses on the way to its body, each with the name of its block, `@`,
+/// its line and `/`, and the label's name, as `40 carry` or `13 step@90/turn@14/again`. Lines are pushed one by one,
+/// and it takes no memory.
 impl Layout for Labels<'_> {
     ghost use Rattle.ant_asm.specs.Labels.{labels_text};
 

@@ -1,7 +1,8 @@
 // The bodies on the way to one that is put in place.
 
-/// A place in a body that is put in place: the body's number, how many of its items have been passed, the number of the next instruction, that
-/// of the first instruction behind the body, and the number to which a label at the body's end leads.
+/// A place in a body that is put in place: the body's number, how many of its items have been passed, the number of the
+/// next instruction, that of the first instruction behind the body, and the number to which a label at the body's end
+/// leads.
 #[derive(Clone, Copy, Default)]
 pub struct Spot {
     pub number: usize,

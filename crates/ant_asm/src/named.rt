@@ -5,7 +5,8 @@ ghost use Rattle.ant_asm.specs.Inner.Outlines.{IsUseBelow, counted_from, line_si
 use hex_geometry::OutOfMemory;
 use std::alloc::Global;
 
-/// A line of a body: a label, the instruction on this line, or the use on this line of the block of this name and number.
+/// A line of a body: a label, the instruction on this line, or the use on this line of the block of this name and
+/// number.
 #[derive(Drop)]
 pub enum NamedLine {
     Label(Vec<u8>),
@@ -17,8 +18,8 @@ pub enum NamedLine {
     },
 }
 
-/// The lines of a body, the places of those that aren't labels, and how many instructions they expand to: at most 10,000 in a program, and so
-/// never more than is counted.
+/// The lines of a body, the places of those that aren't labels, and how many instructions they expand to: at most
+/// 10,000 in a program, and so never more than is counted.
 #[derive(Drop)]
 pub struct NamedBody {
     pub lines: Vec<NamedLine>,

@@ -38,8 +38,8 @@ pub struct OpenItem<'t> {
     pub kind: OpenKind<'t>,
 }
 
-/// A body of which more lines may follow: how many parameters it has, what its names stand for, its items, and how many instructions they
-/// expand to.
+/// A body of which more lines may follow: how many parameters it has, what its names stand for, its items, and how many
+/// instructions they expand to.
 #[derive(Drop)]
 pub struct OpenBody<'t> {
     pub parameters: usize,

@@ -27,8 +27,8 @@ pub struct Around<'t> {
     pub name: &'t [u8],
 }
 
-/// What was read so far: the body to which lines add, what stands round it where it is a block, the blocks that have ended, and which of
-/// them each name is that of.
+/// What was read so far: the body to which lines add, what stands round it where it is a block, the blocks that have
+/// ended, and which of them each name is that of.
 #[derive(Drop)]
 pub struct Outlines<'t> {
     pub current: NamedBody,
@@ -51,7 +51,8 @@ impl<'t> Outlines<'t> {
         }
     }
 
-    // A line more, of this number. A program's lines are spelled well, so one that isn't read is one for which memory was refused.
+    // A line more, of this number. A program's lines are spelled well, so one that isn't read is one for which memory
+    // was refused.
     pub(crate) fn read(
         &mut self,
         alloc: Global,

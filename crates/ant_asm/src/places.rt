@@ -3,8 +3,8 @@ ghost use Rattle.std.specs.Prelude.{◌≡◌, ◌<◌, length, slice_get, Some}
 
 use std::marker::Model;
 
-/// Where an instruction stands in a program: a place in main, then a place in the block that is put in place there, and so on; all counted
-/// from 0. Contracts see the list of these numbers.
+/// Where an instruction stands in a program: a place in main, then a place in the block that is put in place there, and
+/// so on; all counted from 0. Contracts see the list of these numbers.
 #[derive(Drop)]
 pub struct Address {
     steps: Vec<u32>,
@@ -42,7 +42,8 @@ impl Address {
     }
 }
 
-/// Where the instructions of an assembled brain stand in its program: an address for each state. Contracts see the list of the addresses.
+/// Where the instructions of an assembled brain stand in its program: an address for each state. Contracts see the list
+/// of the addresses.
 #[derive(Drop)]
 pub struct Places {
     list: Vec<Address>,

@@ -33,7 +33,8 @@ use std::mem;
 /// The largest number of blocks.
 pub(crate) const MOST_BLOCKS: usize = 256;
 
-/// What stands round a block that has begun and not ended: main as far as it goes, the block's name, and the line that began it.
+/// What stands round a block that has begun and not ended: main as far as it goes, the block's name, and the line that
+/// began it.
 #[derive(Drop)]
 pub struct Outer<'t> {
     pub main: OpenBody<'t>,
@@ -41,8 +42,9 @@ pub struct Outer<'t> {
     pub line: u32,
 }
 
-/// What was read so far: the body to which lines add, what stands round it where it is a block, the blocks that have ended, which of them
-/// each name is that of, and the first line of an ended block that names a label which its body doesn't have.
+/// What was read so far: the body to which lines add, what stands round it where it is a block, the blocks that have
+/// ended, which of them each name is that of, and the first line of an ended block that names a label which its body
+/// doesn't have.
 #[derive(Drop)]
 pub struct Program<'t> {
     pub current: OpenBody<'t>,

@@ -17,9 +17,9 @@ use ant_base::{Failed, Layout, Sink, layout};
 #[derive(Clone, Copy)]
 pub struct StateLines<'s>(pub &'s Source);
 
-/// A line for each state, in order: the state, from 0, and the line of its instruction, from 1; in a block that is used a space and the uses on
-/// the way, from main on, each with the name of its block, `@` and its line, and `/` between, as `3 12` or `10 5 out_to_1@77/step@23`. Lines are
-/// pushed one by one, and it takes no memory.
+/// A line for each state, in order: the state, from 0, and the line of its instruction, from 1; in a block that is used
+/// a space and the uses on the way, from main on, each with the name of its block, `@` and its line, and `/` between,
+/// as `3 12` or `10 5 out_to_1@77/step@23`. Lines are pushed one by one, and it takes no memory.
 impl Layout for StateLines<'_> {
     ghost use Rattle.ant_asm.specs.StateLines.{state_lines_text};
 

@@ -11,7 +11,8 @@ is_lf byte = byte == 10
 abbrev pub ends_in_lf : List ℕ → Bool
 ends_in_lf text = ends_with_byte 10 text
 
--- the lines of a text: its pieces between LF bytes, and no further line after a last LF; so `codes "a\nb\n"` has the lines `a` and `b`
+-- the lines of a text: its pieces between LF bytes, and no further line after a last LF; so `codes "a\nb\n"` has the
+-- lines `a` and `b`
 abbrev pub lines_of : List ℕ → List (List ℕ)
 lines_of [] = []
 lines_of (byte ∷ text) = if is_lf byte then [] ∷ lines_of text else onto_first byte (lines_of text)
@@ -44,4 +45,5 @@ after_separators line = drop (prefix_len is_separator line) line
 
 -- a line without the separators at its front and at its end
 abbrev pub trimmed : List ℕ → List ℕ
-trimmed line = let rest = drop (prefix_len is_separator line) line in take (length rest - suffix_len is_separator rest) rest
+trimmed line =
+    let rest = drop (prefix_len is_separator line) line in take (length rest - suffix_len is_separator rest) rest

@@ -13,13 +13,15 @@ abbrev pub content_of : List (List ℕ × List ℕ) → List ℕ → Option (Lis
 content_of [] name = None
 content_of (file ∷ files) name = if bytes_eq file.0 name then Some file.1 else content_of files name
 
--- the names with their bytes in the order in which they were added, and for how many names more and for how many bytes more there is room
+-- the names with their bytes in the order in which they were added, and for how many names more and for how many bytes
+-- more there is room
 pub record FileList : Type 0 where
   pub files : List (List ℕ × List ℕ)
   pub spare : ℕ
   pub room : ℕ
 
--- the names with their bytes, the calls that fail, how many calls and faults there were, and all fetches with their answers
+-- the names with their bytes, the calls that fail, how many calls and faults there were, and all fetches with their
+-- answers
 pub record MemShelfState : Type 0 where
   pub files : List (List ℕ × List ℕ)
   pub failing : List ℕ

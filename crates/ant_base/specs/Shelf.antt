@@ -6,7 +6,8 @@ use Rattle.ant_base.specs.Fetched.{Fetched, fetched}
 use Rattle.ant_base.specs.declared.shelf.FetchFault.{FetchFault}
 use Rattle.ant_base.specs.declared.shelf.FetchFault.TheVariants.{Failed, TooLong, OutOfMemory}
 
--- the content under each name, where the shelf tells it; of which names it is sure; the count of faults; and the log: all fetches with their answers, in order
+-- the content under each name, where the shelf tells it; of which names it is sure; the count of faults; and the log:
+-- all fetches with their answers, in order
 pub record ShelfState : Type 0 where
   pub files : Option (List ℕ → Option (List ℕ))
   pub sure : List ℕ → Bool
@@ -17,8 +18,9 @@ pub record ShelfState : Type 0 where
 abbrev pub longest : ℕ
 longest = 4194304
 
--- an answer that agrees with what is told: the bytes are no more than the longest and, where contents are told, the one of the name; or it is
--- too long: where contents are told, the name has one that is longer than that; a fetch that failed or wanted memory says nothing
+-- an answer that agrees with what is told: the bytes are no more than the longest and, where contents are told, the one
+-- of the name; or it is too long: where contents are told, the name has one that is longer than that; a fetch that
+-- failed or wanted memory says nothing
 abbrev pub AnswerIsTold : Option (List ℕ → Option (List ℕ)) → List ℕ → Result (List ℕ) FetchFault → Type 0
 AnswerIsTold files name (Ok bytes) = IfSome files (λ at. at name ≡ Some bytes) × (length bytes ≤ longest)
 AnswerIsTold files name (Err TooLong) = IfSome files (λ at. IsSomeAnd (at name) (λ content. longest < length content))
@@ -36,9 +38,10 @@ Answers old new name (Err Failed) = IsFailed old new name
 Answers old new name (Err TooLong) = AnswerIsTold old.files name (Err TooLong)
 Answers old new name (Err OutOfMemory) = ⊤
 
--- what a fetch did: it is the last of the log, contents stay, the shelf stays sure of what it was sure of, and the count of faults falls
--- never and rises for no sure name
-pub record Fetches {A : Type 0} (old new : ShelfState) (name : List ℕ) (result : Result (Vec ℕ A) FetchFault) : Type 0 where
+-- what a fetch did: it is the last of the log, contents stay, the shelf stays sure of what it was sure of, and the
+-- count of faults falls never and rises for no sure name
+pub record Fetches {A : Type 0} (old new : ShelfState) (name : List ℕ)
+    (result : Result (Vec ℕ A) FetchFault) : Type 0 where
   pub answer : Answers old new name result
   pub log : new.log ≡ old.log ++ fetched name result ∷ []
   pub files : new.files ≡ old.files
@@ -54,8 +57,9 @@ IsTold files fetch = AnswerIsTold files fetch.name fetch.answer
 abbrev pub AreSure : ShelfState → List Fetched → Type 0
 AreSure shelf fetches = AllByRecursion (λ fetch. shelf.sure fetch.name ≡ true) fetches
 
--- what some fetches one after another did: they are the last of the log, they agree with what is told, contents stay, the shelf stays sure
--- of what it was sure of, and the count of faults falls never and stays where the shelf was sure of all their names
+-- what some fetches one after another did: they are the last of the log, they agree with what is told, contents stay,
+-- the shelf stays sure of what it was sure of, and the count of faults falls never and stays where the shelf was sure
+-- of all their names
 pub record FetchesEach (old new : ShelfState) (fetches : List Fetched) : Type 0 where
   pub log : new.log ≡ old.log ++ fetches
   pub told : AllByRecursion (λ fetch. AnswerIsTold old.files fetch.name fetch.answer) fetches

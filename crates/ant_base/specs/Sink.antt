@@ -4,7 +4,8 @@ use Rattle.std.specs.Prelude.{◌≡◌, ℕ, ◌≤◌, true, List, [], ◌++�
 use Rattle.ant_base.specs.Faults.{Rose}
 use Rattle.ant_base.specs.declared.sink.Failed.{Failed}
 
--- the bytes held, where the sink tells them; those of them that wait in its buffer, to be flushed, where it tells that; and the count of faults
+-- the bytes held, where the sink tells them; those of them that wait in its buffer, to be flushed, where it tells that;
+-- and the count of faults
 pub record SinkState : Type 0 where
   pub held : Option (List ℕ)
   pub waiting : Option (List ℕ)
@@ -14,8 +15,8 @@ pub record SinkState : Type 0 where
 abbrev pub NothingWaits : Option (List ℕ) → Type 0
 NothingWaits waiting = IfSome waiting (λ bytes. bytes ≡ [])
 
--- all of the text was appended to what is held, where that is told, without a fault. After a text that ends in LF, the byte 10, nothing waits; and a text
--- without bytes leaves nothing waiting where nothing was
+-- all of the text was appended to what is held, where that is told, without a fault. After a text that ends in LF, the
+-- byte 10, nothing waits; and a text without bytes leaves nothing waiting where nothing was
 pub record PushedAll (old new : SinkState) (text : List ℕ) : Type 0 where
   pub held : new.held ≡ option_map (λ bytes. bytes ++ text) old.held
   pub quiet : new.faults ≡ old.faults

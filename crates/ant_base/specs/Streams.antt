@@ -1,7 +1,8 @@
 -- The state of the sinks and shelves over the streams and files of the system (this project's own).
 --
--- The bytes that a stream took and the log of a shelf of files are ghost data: no memory holds them. They are what the system's own calls
--- answered: each write adds the bytes that it answered to have taken, and each fetch adds its name with its answer.
+-- The bytes that a stream took and the log of a shelf of files are ghost data: no memory holds them. They are what the
+-- system's own calls answered: each write adds the bytes that it answered to have taken, and each fetch adds its name
+-- with its answer.
 use Rattle.std.specs.Prelude.{◌≡◌, ◌⊎◌, ℕ, ◌<◌, Bool, List, ◌++◌, [], Option, Result, Ok, Err, true, false, None, Some}
 use Rattle.std.specs.Io.KnownBytes.{Appends}
 use Rattle.std.specs.declared.io.Error.{Error}
@@ -11,8 +12,8 @@ use Rattle.ant_base.specs.Lines.{ends_in_lf}
 use Rattle.ant_base.specs.Shelf.{ShelfState}
 use Rattle.ant_base.specs.Sink.{SinkState}
 
--- the bytes that the stream took since the sink was made, those that still wait in its buffer, those that it tells by itself where it does,
--- the count of faults, and whether the stream never fails
+-- the bytes that the stream took since the sink was made, those that still wait in its buffer, those that it tells by
+-- itself where it does, the count of faults, and whether the stream never fails
 pub record StreamState : Type 0 where
   pub taken : List ℕ
   pub waiting : List ℕ
@@ -34,7 +35,8 @@ abbrev pub sink_of_stream : StreamState → SinkState
 sink_of_stream s = record { held = Some s.taken; waiting = Some s.waiting; faults = s.faults }
 
 -- a prefix of the piece was taken, and this rest of it is left; what the stream tells by itself grew by that prefix
-pub record TookUpTo (taken new_taken : List ℕ) (written new_written : Option (List ℕ)) (piece rest : List ℕ) : Type 0 where
+pub record TookUpTo (taken new_taken : List ℕ) (written new_written : Option (List ℕ))
+    (piece rest : List ℕ) : Type 0 where
   pub front : List ℕ
   pub whole : piece ≡ front ++ rest
   pub took : new_taken ≡ taken ++ front
@@ -43,7 +45,8 @@ pub record TookUpTo (taken new_taken : List ℕ) (written new_written : Option (
 -- what was taken of a piece: all of it at Ok, and a prefix of it at a fault
 abbrev pub Takes : List ℕ → List ℕ → Option (List ℕ) → Option (List ℕ) → List ℕ → Result (Unit {0}) Failed → Type 0
 Takes taken new_taken written new_written piece (Ok _) = TookUpTo taken new_taken written new_written piece []
-Takes taken new_taken written new_written piece (Err _) = (rest : List ℕ) × TookUpTo taken new_taken written new_written piece rest
+Takes taken new_taken written new_written piece (Err _) =
+    (rest : List ℕ) × TookUpTo taken new_taken written new_written piece rest
 
 -- the system of a shelf of files, its count of faults, and its log
 pub record FileShelfState (R : Type 0) : Type 0 where

@@ -36,19 +36,24 @@ pub record TakesAtMost (most : ℕ) (remaining new_remaining : Option (List ℕ)
   pub taken : Consumes remaining new_remaining bytes
   pub few : length bytes ≤ most
 
--- what is read of a reader: it is all that it had left, and it is Failed only where the reader wasn't sure of one byte more than the longest
-pub record IsReadFrom {A : Type 0} (sure : ℕ) (remaining : Option (List ℕ)) (result : Result (Vec ℕ A) FetchFault) : Type 0 where
+-- what is read of a reader: it is all that it had left, and it is Failed only where the reader wasn't sure of one byte
+-- more than the longest
+pub record IsReadFrom {A : Type 0} (sure : ℕ) (remaining : Option (List ℕ))
+    (result : Result (Vec ℕ A) FetchFault) : Type 0 where
   pub read : IsReadOf remaining result
   pub failed : longest + 1 ≤ sure → is_failed result ≡ false
 
--- what is made of a file: it was read, and what was closed is that file with at most one byte more than the longest taken from it
-pub record IsMadeOf {File A : Type 0} (sure : File → ℕ) (remaining : File → Option (List ℕ)) (closed : File → Type 0) (file : File) (result : Result (Vec ℕ A) FetchFault) : Type 0 where
+-- what is made of a file: it was read, and what was closed is that file with at most one byte more than the longest
+-- taken from it
+pub record IsMadeOf {File A : Type 0} (sure : File → ℕ) (remaining : File → Option (List ℕ)) (closed : File → Type 0)
+    (file : File) (result : Result (Vec ℕ A) FetchFault) : Type 0 where
   pub whole : IsReadFrom (sure file) (remaining file) result
   pub last : File
   pub ended : closed last
   pub taken : TakesAtMost (longest + 1) (remaining file) (remaining last)
 
 -- what is made of the answer of an open: of the file that was opened; the fault of one that wasn't is exact
-abbrev pub IsMadeOfOpen : {File A : Type 0} → (File → ℕ) → (File → Option (List ℕ)) → (File → Type 0) → Result File Error → Result (Vec ℕ A) FetchFault → Type 0
+abbrev pub IsMadeOfOpen : {File A : Type 0} → (File → ℕ) → (File → Option (List ℕ)) → (File → Type 0)
+    → Result File Error → Result (Vec ℕ A) FetchFault → Type 0
 IsMadeOfOpen sure remaining closed (Ok file) result = IsMadeOf sure remaining closed file result
 IsMadeOfOpen sure remaining closed (Err error) result = result ≡ Err (fetch_fault_at (error_kind error))

@@ -31,8 +31,8 @@ impl Calls {
         }
     }
 
-    /// Adds a call number, from 1, last. It is refused only where the list is full and memory for more could not be had, and then changes
-    /// nothing. An add takes at most one of the places that are spare.
+    /// Adds a call number, counted from 1, at the end. It fails only if the list is full and there is no memory for
+    /// more; then it changes nothing. Each add uses at most one spare place.
     pub fn add(&mut self, number: u64) -> Result<(), OutOfMemory>
         ensures added { OnOk result (self.new.numbers ≡ self.old.numbers ++ number ∷ []) }
         ensures refused { OnErr result (self.new ≡ self.old) }

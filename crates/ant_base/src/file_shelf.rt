@@ -21,8 +21,9 @@ const CHUNK: usize = 8192;
 
 /// Files by their names, and standard input under the name `-`.
 ///
-/// It tells no content, and is sure of no name. A second fetch of `-` gets what is left there, commonly nothing. It reads no further than
-/// 4,194,305 bytes. The count of faults rises by one at each fetch that is `Failed` and at no other, and stays at the last value of a u64.
+/// It tells no content, and is sure of no name. A second fetch of `-` gets what is left there, commonly nothing. It
+/// reads no further than 4,194,305 bytes. The count of faults rises by one at each fetch that is `Failed` and at no
+/// other, and stays at the last value of a u64.
 #[derive(Drop)]
 pub struct FileShelf<'r, R: System> {
     rt: &'r R,

@@ -6,8 +6,8 @@ use crate::OutOfMemory;
 use std::alloc::Global;
 use std::marker::Model;
 
-/// A list of names with bytes. A name that was added twice has the bytes that were added first. Contracts see its names with their bytes,
-/// and for how many more names and for how many more bytes it has room.
+/// A list of names with bytes. A name that was added twice has the bytes that were added first. Contracts see its names
+/// with their bytes, and for how many more names and for how many more bytes it has room.
 #[derive(Drop)]
 pub struct Files {
     // Each name and the bytes under it, end to end.
@@ -49,8 +49,9 @@ impl Files {
         }
     }
 
-    /// Adds a name with its bytes last. It is refused only where there is no room for one name more or for the bytes of both, and memory for
-    /// more could not be had; the list then has the same names and bytes, and no less room. An add takes no more room than it needs.
+    /// Adds a name with its bytes at the end. It fails only if the list has no room for the name or the bytes and there
+    /// is no memory for more; the list then keeps its names, its bytes and at least its room. An add uses no more room
+    /// than it needs.
     pub fn add(&mut self, name: &str, bytes: &[u8]) -> Result<(), OutOfMemory>
         ensures added { OnOk result (self.new.files ≡ self.old.files ++ (name.now, bytes.now) ∷ []) }
         ensures refused { OnErr result (self.new.files ≡ self.old.files) }

@@ -1,10 +1,11 @@
 //! The outside of the simulator: where input comes from, where output goes, what workers announce, and texts as values.
 //!
-//! What the layers above rest on: a push that is Ok appended the whole piece, and a fetch that is Ok gave the content; each fault comes
-//! only where a count of faults rose; a name of which a shelf is sure is never Failed; a gate changes nothing; a value that is a
-//! `Layout` is pushed as one exact text. Lines, separators and numbers of the contest's files are read here once for all readers.
+//! The crates above rely on five promises. A push that returns Ok appended the whole piece. A fetch that returns Ok
+//! gave the content. A fault is returned only if a count of faults rose, and a fetch of a name of which the shelf is
+//! sure never returns `Failed`. A gate changes nothing. A value that is a `Layout` is pushed as one exact text. Lines,
+//! separators and numbers of the contest's files are read here, once for all readers.
 //!
-//! Of this repository it stands on lemmas alone, and prints numbers by `itoa`.
+//! It depends on lemmas alone in this repository, and prints numbers by `itoa`.
 //!
 //! What names no section of the contest's task is this project's own.
 #![tactic(auto)]

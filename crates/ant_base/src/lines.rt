@@ -6,8 +6,8 @@ ghost use Rattle.ant_base.specs.Lines.{lines_of, first_line, after_line, is_lf, 
 
 use std::marker::Model;
 
-/// The lines of a text that are left, from the first on: the pieces between LF bytes, with no further line after a last LF
-/// (the contest's files). It takes no memory, and reads each byte once.
+/// The lines of a text that are left, from the first on: the pieces between LF bytes, with no further line after a last
+/// LF (the contest's files). It takes no memory, and reads each byte once.
 #[derive(Drop)]
 pub struct Lines<'t> {
     rest: &'t [u8],
@@ -49,7 +49,8 @@ impl<'t> Iterator for Lines<'t> {
     }
 }
 
-/// The first line of a text without its LF, and what stands after that LF; of an empty text both are empty (the contest's files).
+/// The first line of a text without its LF, and what stands after that LF; of an empty text both are empty (the
+/// contest's files).
 pub fn cut_line(text: &[u8]) -> (&[u8], &[u8])
     ensures line { result.0.now ≡ first_line text.now }
     ensures rest { result.1.now ≡ after_line text.now }

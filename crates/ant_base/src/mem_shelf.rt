@@ -14,8 +14,8 @@ use std::marker::Model;
 
 /// A shelf in memory, some of whose calls fail.
 ///
-/// It tells its contents. Where no call is to fail it is sure of each name that it has, and else of none. The counts of calls and of faults
-/// stay at the last value of a u64.
+/// It tells its contents. Where no call is to fail it is sure of each name that it has, and else of none. The counts of
+/// calls and of faults stay at the last value of a u64.
 #[derive(Drop)]
 pub struct MemShelf {
     files: Files,

@@ -32,8 +32,8 @@ impl Model for MemSink {
 }
 
 impl MemSink {
-    /// A sink that holds nothing, with room for so many bytes, whose pushes of the given numbers fail; the first push has the number 1. It
-    /// is refused where the room can't be had at once.
+    /// An empty sink with room for `room` bytes, whose pushes of the given numbers fail; the first push has the number
+    /// 1. It fails if there is no memory for the room.
     pub fn with_room(alloc: Global, room: u64, failing: Calls) -> Result<Self, OutOfMemory>
         ensures { IfOk result (λ s. s ≡ record { held = []; room = room; failing = failing.numbers; calls = 0; faults = 0 }) }
     {

@@ -8,7 +8,8 @@ use crate::{Failed, Layout, Sink};
 
 const MAX_DIGITS: usize = 10;
 
-/// The value of 1 to 10 decimal digits, leading zeros included; `None` exactly where the text isn't 1 to 10 digits (the contest's files).
+/// The value of 1 to 10 decimal digits, leading zeros included; `None` if the text isn't 1 to 10 digits (the contest's
+/// files).
 #[tactic(auto, unfolding(crate::specs::Number::decimal_value))]
 pub fn read_number(text: &[u8]) -> Option<u64>
     ensures value { result ≡ decimal_value text.now }
@@ -27,8 +28,8 @@ pub fn read_number(text: &[u8]) -> Option<u64>
     Some(value)
 }
 
-/// The value of 1 to 10 decimal digits that lies between `least` and `most`, both included; `None` exactly where the text isn't 1 to 10
-/// digits or its value lies outside (the contest's files).
+/// The value of 1 to 10 decimal digits, if it is between `least` and `most`, both included; `None` if the text isn't 1
+/// to 10 digits or the value is outside (the contest's files).
 pub fn read_number_within(text: &[u8], least: u64, most: u64) -> Option<u64>
     ensures value { result ≡ number_within least most text.now }
     ensures bounds { IfSome result (λ n. (least ≤ n) × (n ≤ most)) }
@@ -41,8 +42,8 @@ pub fn read_number_within(text: &[u8], least: u64, most: u64) -> Option<u64>
     }
 }
 
-/// The same as a u32, within bounds that are: the value of 1 to 10 decimal digits that lies between `least` and `most`, both included; `None`
-/// exactly where the text isn't 1 to 10 digits or its value lies outside (the contest's files).
+/// The same as a `u32`, with bounds that are `u32`: the value of 1 to 10 decimal digits, if it is between `least` and
+/// `most`, both included; `None` if the text isn't 1 to 10 digits or the value is outside (the contest's files).
 pub fn read_u32_within(text: &[u8], least: u32, most: u32) -> Option<u32>
     ensures value { result ≡ number_within least most text.now }
     ensures bounds { IfSome result (λ n. (least ≤ n) × (n ≤ most)) }
@@ -51,8 +52,8 @@ pub fn read_u32_within(text: &[u8], least: u32, most: u32) -> Option<u32>
     u32::try_from(number).ok()
 }
 
-/// Pushes the decimal text of n, from 0 to 18,446,744,073,709,551,615, without leading zeros. At `Failed` a prefix of it was appended, and
-/// the count of faults rose.
+/// Pushes the decimal text of n, from 0 to 18,446,744,073,709,551,615, without leading zeros. At `Failed` a prefix of
+/// it was appended, and the count of faults rose.
 pub fn push_number<K: Sink>(sink: &mut K, n: u64) -> Result<(), Failed>
     ensures { Pushed (K.state sink.old) (K.state sink.new) (decimal n) result }
 {

@@ -5,7 +5,7 @@ use crate::{Failed, Layout, OutOfMemory, Sink, show};
 use std::error::Error;
 use std::fmt;
 
-/// Why a text that is made as it is pushed, as that of a game, wasn't pushed whole.
+/// Why a text that is built while it is pushed, such as that of a game, wasn't pushed whole.
 #[derive(Clone, Copy, Debug, PartialEq, Eq)]
 pub enum PushFault {
     /// The sink failed.

@@ -7,7 +7,7 @@ use std::alloc::{AllocError, AllocFailed, Global};
 use std::error::Error;
 use std::fmt;
 
-/// The length of the longest content that a shelf answers, in bytes; no text that is read is longer.
+/// The length of the longest content that a shelf returns, in bytes; no longer text is read.
 pub const LONGEST: usize = 4_194_304;
 
 /// Why a name's content was not fetched. The shelf's contents stay as they were.
@@ -60,13 +60,13 @@ impl From<AllocError> for FetchFault {
 
 /// Where input comes from.
 pub trait Shelf {
-    /// The content under each name, where the shelf tells it; of which names it is sure; and the count of faults.
+    /// The content under each name, if the shelf reports it; the names of which it is sure; and the count of faults.
     ghost state: { Self → ShelfState };
 
-    /// The content under the name, at most 4,194,304 bytes; `TooLong` where it has more.
+    /// The content under the name, at most 4,194,304 bytes; `TooLong` if it has more.
     ///
-    /// At `Failed` the count of faults rose, and the shelf wasn't sure of the name. No fetch changes the contents, makes the shelf
-    /// less sure, or lowers the count.
+    /// If it returns `Failed`, the count of faults rose, and the shelf wasn't sure of the name. No fetch changes the
+    /// contents, makes the shelf less sure, or lowers the count.
     fn fetch(&mut self, alloc: Global, name: &str) -> Result<Vec<u8>, FetchFault>
         ensures { Fetches (state self.old) (state self.new) name.now result };
 }

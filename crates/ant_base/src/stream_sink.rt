@@ -12,12 +12,13 @@ use crate::{Failed, Sink, Writer};
 use std::io::{self, BufWriter, ErrorKind, Stderr, Stdout};
 use std::marker::Model;
 
-/// A sink over a stream. It tells the bytes that the stream took.
+/// A sink over a stream. It reports the bytes that the stream took.
 ///
-/// It writes by a loop, in which a write that was interrupted is made again, and sends on what waits after each piece that ends in LF. A
-/// write that takes nothing of what is left is a fault, as is a failure to send on; over a stream that never fails no push does. The count
-/// of faults rises by one at each push that is `Failed` and at no other, and stays at the last value of a u64. So where it is 0, and the
-/// bytes that the stream took end in LF or are none, nothing waits in the stream's buffer.
+/// It writes in a loop. A write that was interrupted is tried again. After each piece that ends in LF the stream is
+/// flushed. A write that takes no bytes is a fault, and so is a flush that fails; over a stream that never fails, no
+/// push fails. The count of faults rises by one at each push that returns `Failed` and at no other, and stays at the
+/// largest `u64`. So if it is 0, and the bytes that the stream took are none or end in LF, nothing waits in the
+/// stream's buffer.
 #[derive(Drop)]
 pub struct StreamSink<W: Writer> {
     stream: W,
@@ -110,7 +111,8 @@ fn write_whole<W: Writer>(
     Err(Failed)
 }
 
-// How many bytes a write took. One that was interrupted took none, and is no fault; one that takes none by itself is one.
+// How many bytes a write took. One that was interrupted took none, and is no fault; one that takes none by itself is
+// one.
 fn taken_by(answer: io::Result<usize>) -> Result<usize, Failed>
     ensures { result ≡ taken_of answer }
 {

@@ -10,7 +10,8 @@ use std::io::{self, Read, Stdin};
 
 /// A reader that may be sure of its next bytes.
 pub trait SureReader: Read {
-    /// For how many bytes from here on no read fails that asks for no more. It is none for each file and stream of the system.
+    /// The number of bytes from here on for which no read fails that requests no more. It is 0 for every file and
+    /// stream of the system.
     ghost sure: { Self → ℕ };
 
     /// Holds of a reader that was closed.
@@ -27,9 +28,9 @@ pub trait SureReader: Read {
         ensures { closed self };
 }
 
-/// What a shelf of files asks of the system: files by their names, and standard input.
+/// What a shelf of files needs from the system: files by their names, and standard input.
 ///
-/// The answers are known by these calls alone, so a caller that has the answer to a name asked for that very name.
+/// Answers come from these calls alone. So a caller that has the answer to a name has opened that very name.
 pub trait System {
     /// A file that was opened.
     type File: SureReader + Drop;

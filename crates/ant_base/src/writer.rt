@@ -14,7 +14,8 @@ pub trait Writer: Write {
     /// Whether no write and no sending on of this writer fails. It is known of no stream of the system.
     ghost sure: { Self → Bool };
 
-    /// Takes a prefix of the piece, and answers how many bytes that is: `Write::write`, and what a writer that is sure answers to it.
+    /// Takes a prefix of the piece, and answers how many bytes that is: `Write::write`, and what a writer that is sure
+    /// answers to it.
     fn write_some(&mut self, piece: &[u8]) -> io::Result<usize>
         ensures bound { WritesAtMost result piece.now }
         ensures taken { WriteAppends (Self.contents self.old) (Self.contents self.new) result piece.now }

@@ -15,7 +15,8 @@ use Rattle.ant_commands.specs.Outputs.{ReadCup, Tells, TellsFirstWorlds, minds_n
 use Rattle.ant_commands.specs.Outside.{Outside}
 use Rattle.ant_commands.specs.Setups.{setup_of}
 
--- a command that has all its memory before it writes has written nothing in play, nor has a cup that tells its standing alone
+-- a command that has all its memory before it writes has written nothing in play, nor has a cup that tells its standing
+-- alone
 plain_writes_none : (files : List File) (IsText : List FileContent → List ℕ → Type 0) (contents : List FileContent) (front : List ℕ) → WritesInPlay (plain_job files IsText) contents front → ⊥
 plain_writes_none files IsText contents front is = is
 

@@ -1,4 +1,5 @@
--- Each law of the commands, used on closed command lines: a law that says less, or that asks for more, doesn't give these.
+-- Each law of the commands, used on closed command lines: a law that says less, or that asks for more, doesn't give
+-- these.
 use Rattle.std.proofs.Common.{◌≡◌, ◌≢◌, inl, inr, ℕ, zero, suc, ◌+◌, ◌<◌, ◌≤◌, Bool, true, false, List, [], ◌∷◌, ◌++◌, Option, Some, None, Ok, Err, codes, cond, nat_le, slice_get, unwrap_or, refl, sym, ap, ◌∙◌, subst, arith}
 use Rattle.std.proofs.lemmas.Bool.{lt-leb}
 use Rattle.std.specs.List.{Contains}
@@ -261,7 +262,8 @@ played_text red black start =
 abbrev played_counts : List Instr → List Instr → Grid → List ℕ
 played_counts red black start = counts_text true (totals_of (minds_named counted red black) 7 3 (start_of (world_of start)) 5)
 
--- three files were fetched, which are a world and two brains, and the output got the whole text of their game; the errors got nothing
+-- three files were fetched, which are a world and two brains, and the output got the whole text of their game; the
+-- errors got nothing
 record Played (before after : Outside) : Type 0 where
   first : List ℕ
   second : List ℕ
@@ -297,9 +299,9 @@ headline_played law before after run =
       silent = game.silent;
     }
 
--- a run of a whole game prints it; where it says that a file wasn't read, that is so, and nothing was written, nor is anything where a file is
--- refused; where the output failed, a prefix was written; out of memory it says so; and it has no other status. Words without a number of
--- rounds are refused at word 7
+-- a run of a whole game prints it; where it says that a file wasn't read, that is so, and nothing was written, nor is
+-- anything where a file is refused; where the output failed, a prefix was written; out of memory it says so; and it has
+-- no other status. Words without a number of rounds are refused at word 7
 headline_used : Headline → (before after : Outside)
     → (IsRunTo all_words before after 0 → Played before after)
     × (IsRunTo all_words before after 3 → (name : List ℕ) × (after.out ≡ before.out) × Rose before.shelf.faults after.shelf.faults × GotLine before.err after.err (fault_line (AtFile name)))
@@ -374,7 +376,8 @@ plain_played law before after run = elim (law.kept plain_words plain_asked reord
 none_among : ¬ Contains [] (codes "--stats")
 none_among it = (let no = it.1 in omega (arith, no))
 
--- at 0 the game was printed; the words ask for one run; and words that begin with `run`, without `--stats`, of which the program printed a text, ask for one
+-- at 0 the game was printed; the words ask for one run; and words that begin with `run`, without `--stats`, of which
+-- the program printed a text, ask for one
 run_promise_used : RunPromise →
     ((before after : Outside) → IsRunTo plain_words before after 0 → PlainPlayed before after)
     × ((asked : RunAsked) → IsRunOf plain_words asked → asked ≡ plain_asked)
@@ -385,7 +388,8 @@ run_promise_used law = (
   λ before after run. law.every [] before after 0 run (λ e. omega (arith, e)) none_among,
 )
 
--- where it says that a file wasn't read, the shelf wasn't sure of it and failed; and each fetch agrees with what the shelf tells
+-- where it says that a file wasn't read, the shelf wasn't sure of it and failed; and each fetch agrees with what the
+-- shelf tells
 run_shelf_used : RunShelf → (before after : Outside) → IsRunTo plain_words before after 3
     → ((name : List ℕ) × (before.shelf.sure name ≡ false) × Rose before.shelf.faults after.shelf.faults) × (fetches : List Fetched) × FetchesEach before.shelf after.shelf fetches
 run_shelf_used law before after run =
@@ -433,7 +437,8 @@ IsAfter game round saved = IsSavedAs (codes "w") (codes "r") (codes "b") counted
 abbrev resumed : Job
 resumed = resume_job (codes "s") (record { rounds = 5; dumps = EveryDump; workers = 16; stats = true })
 
--- the save is accepted, from a shelf too; what `resume` prints goes on where the save was made, and after round 4 too, to which `advance` goes on
+-- the save is accepted, from a shelf too; what `resume` prints goes on where the save was made, and after round 4 too,
+-- to which `advance` goes on
 saves_are_resumed_used : SavesAreResumed → (game : ReadGame) → IsGameOf (codes "w") (codes "r") (codes "b") counted game →
     ((text : List ℕ) → IsSave game text → (saved : SavedValue) × Reads (SaveFile 5) text (SaveContent saved))
     × ((text : List ℕ) (at : List ℕ → Option (List ℕ)) → IsSave game text → at (codes "s") ≡ Some text → (saved : SavedValue) × IsJudged at (files_of resumed) (AllAccepted (SaveContent saved ∷ [])))

@@ -1,4 +1,5 @@
--- What the end of a run says of its status: when the words are no command, when input is refused, and that nothing else is in the way.
+-- What the end of a run says of its status: when the words are no command, when input is refused, and that nothing else
+-- is in the way.
 use Rattle.std.proofs.Common.{◌≡◌, ◌≢◌, ◌⊎◌, inl, inr, ℕ, ◌<◌, ◌≤◌, true, List, [], ◌∷◌, ◌++◌, length, map, Ok, Err, Option, Some, None, refl, sym, ◌∙◌, ap, subst, arith}
 use Rattle.std.specs.List.{AllByRecursion}
 use Rattle.std.specs.Prelude.{IsSomeAnd}

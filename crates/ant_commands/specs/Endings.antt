@@ -36,14 +36,16 @@ pub record IsUnsure (shelf : ShelfState) (name : List ℕ) (file : File) (fetch 
   pub failed : fetch ≡ record { name = file.name; answer = Err answer.Failed }
   pub unsure : shelf.sure name ≡ false
 
--- a file was not read: its fetch failed, the shelf's count of faults rose, each file before it was accepted, and nothing was written
+-- a file was not read: its fetch failed, the shelf's count of faults rose, each file before it was accepted, and
+-- nothing was written
 pub record IsUnread (command : Job) (before after : Outside) (fetches : List Fetched) (name : List ℕ) : Type 0 where
   pub stopped : StopsAt (IsUnsure before.shelf name) (files_of command) fetches
   pub rose : Rose before.shelf.faults after.shelf.faults
   pub unwritten : after.out ≡ before.out
 
 -- a file was refused, each file before it was accepted, and nothing was written
-pub record IsBadInput (command : Job) (before after : Outside) (fetches : List Fetched) (name : List ℕ) (fault : FileFault) : Type 0 where
+pub record IsBadInput (command : Job) (before after : Outside) (fetches : List Fetched) (name : List ℕ)
+    (fault : FileFault) : Type 0 where
   pub stopped : StopsAt (IsRefusedAs name fault) (files_of command) fetches
   pub unwritten : after.out ≡ before.out
 
@@ -54,12 +56,14 @@ pub record IsCrowded (command : Job) (before after : Outside) (fetches : List Fe
   pub lacks : LacksRoom command element
   pub unwritten : after.out ≡ before.out
 
--- memory could not be had before the text was begun; no fetch failed or was too long, each file that was fetched, but perhaps the last, was accepted, and nothing was written
+-- memory could not be had before the text was begun; no fetch failed or was too long, each file that was fetched, but
+-- perhaps the last, was accepted, and nothing was written
 pub record IsUnbegun (command : Job) (before after : Outside) (fetches : List Fetched) : Type 0 where
   pub begun : AreBegun (files_of command) fetches
   pub unwritten : after.out ≡ before.out
 
--- all files were accepted, and a proper prefix of the text was written before memory could not be had; only a command that writes while it plays ends so
+-- all files were accepted, and a proper prefix of the text was written before memory could not be had; only a command
+-- that writes while it plays ends so
 pub record IsBrokenOff (command : Job) (before after : Outside) (fetches : List Fetched) : Type 0 where
   pub contents : List FileContent
   pub accepted : AreAccepted (files_of command) fetches contents
@@ -70,7 +74,8 @@ pub record IsBrokenOff (command : Job) (before after : Outside) (fetches : List 
 
 -- memory could not be had
 abbrev pub WantsMemory : Job → Outside → Outside → List Fetched → Type 0
-WantsMemory command before after fetches = IsUnbegun command before after fetches ⊎ IsBrokenOff command before after fetches
+WantsMemory command before after fetches =
+    IsUnbegun command before after fetches ⊎ IsBrokenOff command before after fetches
 
 -- how a command stopped
 abbrev pub StopsFor : Job → Outside → Outside → List Fetched → Reason → Type 0

@@ -17,8 +17,8 @@ use Rattle.ant_commands.specs.declared.stop.CommandStop.TheVariants as stop
 use Rattle.ant_commands.specs.declared.stop.Ended.{Ended}
 use Rattle.ant_commands.specs.declared.stop.Ended.TheVariants as ended
 
--- why a command stopped: at a file that was not read, at the output, at a file that was refused, at an element of a generated world that
--- has no room, or out of memory
+-- why a command stopped: at a file that was not read, at the output, at a file that was refused, at an element of a
+-- generated world that has no room, or out of memory
 pub data Reason : Type 0 where
   AtFile : List ℕ → Reason
   AtOutput : Reason

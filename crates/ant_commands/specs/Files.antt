@@ -19,7 +19,8 @@ use Rattle.world_read.specs.Opened.{OpensAs}
 use Rattle.ant_commands.specs.declared.stop.FileFault.{FileFault}
 use Rattle.ant_commands.specs.declared.stop.FileFault.TheVariants.{Breaks, Text}
 
--- what a file is read as; of a labelled program the brain is wanted, or else where its labels and states stand; a save is one of which at most so many rounds are done
+-- what a file is read as; of a labelled program the brain is wanted, or else where its labels and states stand; a save
+-- is one of which at most so many rounds are done
 pub data FileKind : Type 0 where
   WorldFile : FileKind
   BrainFile : FileKind
@@ -77,21 +78,25 @@ pub record IsNoText (file : File) (fetch : Fetched) (fault : FileFault) : Type 0
 -- the file was fetched, and is refused with this fault: it is too long, or no such text
 abbrev pub IsRefused : File → Fetched → FileFault → Type 0
 IsRefused file fetch fault =
-    ((fault ≡ Text TooLong) × (fetch ≡ record { name = file.name; answer = Err answer.TooLong })) ⊎ IsNoText file fetch fault
+    ((fault ≡ Text TooLong) × (fetch ≡ record { name = file.name; answer = Err answer.TooLong }))
+    ⊎ IsNoText file fetch fault
 
 -- the files were fetched, each once and in order, and accepted as these contents
 abbrev pub AreAccepted : List File → List Fetched → List FileContent → Type 0
 AreAccepted [] fetches contents = (fetches ≡ []) × (contents ≡ [])
 AreAccepted (file ∷ files) [] contents = ⊥
 AreAccepted (file ∷ files) (fetch ∷ fetches) [] = ⊥
-AreAccepted (file ∷ files) (fetch ∷ fetches) (content ∷ contents) = IsAccepted file fetch content × AreAccepted files fetches contents
+AreAccepted (file ∷ files) (fetch ∷ fetches) (content ∷ contents) =
+    IsAccepted file fetch content × AreAccepted files fetches contents
 
--- the files were fetched, each once and in order, up to one at which this came about; each before it was accepted, and none after it was fetched
+-- the files were fetched, each once and in order, up to one at which this came about; each before it was accepted, and
+-- none after it was fetched
 abbrev pub StopsAt : (File → Fetched → Type 0) → List File → List Fetched → Type 0
 StopsAt IsSuch [] fetches = ⊥
 StopsAt IsSuch (file ∷ files) [] = ⊥
 StopsAt IsSuch (file ∷ files) (fetch ∷ fetches) =
-    (IsSuch file fetch × (fetches ≡ [])) ⊎ ((content : FileContent) × IsAccepted file fetch content × StopsAt IsSuch files fetches)
+    (IsSuch file fetch × (fetches ≡ []))
+    ⊎ ((content : FileContent) × IsAccepted file fetch content × StopsAt IsSuch files fetches)
 
 -- the file was fetched: its bytes came, or memory could not be had for them
 abbrev pub IsFetched : File → Fetched → Type 0
@@ -99,12 +104,14 @@ IsFetched file fetch =
     ((bytes : List ℕ) × (fetch ≡ record { name = file.name; answer = Ok bytes }))
     ⊎ (fetch ≡ record { name = file.name; answer = Err answer.OutOfMemory })
 
--- the first of the files were fetched, each once and in order: each but perhaps the last was accepted, and none failed or was too long
+-- the first of the files were fetched, each once and in order: each but perhaps the last was accepted, and none failed
+-- or was too long
 abbrev pub AreBegun : List File → List Fetched → Type 0
 AreBegun [] fetches = fetches ≡ []
 AreBegun (file ∷ files) [] = Unit {0}
 AreBegun (file ∷ files) (fetch ∷ fetches) =
-    (IsFetched file fetch × (fetches ≡ [])) ⊎ ((content : FileContent) × IsAccepted file fetch content × AreBegun files fetches)
+    (IsFetched file fetch × (fetches ≡ []))
+    ⊎ ((content : FileContent) × IsAccepted file fetch content × AreBegun files fetches)
 
 -- the names that were fetched are those of the first of these files, in order and each once
 pub record AreInOrder (files : List File) (fetches : List Fetched) : Type 0 where

@@ -1,6 +1,6 @@
--- The promise on one page, to be read from the top down. Each run of `run_to_exit` ends with one of six statuses, and each status says what was
--- fetched, accepted and written (this project's own). `IsRunTo` is what the call that `main` makes ensures; the law `headline` says that all
--- below follows from it.
+-- The promise on one page, to be read from the top down. Each run of `run_to_exit` ends with one of six statuses, and
+-- each status says what was fetched, accepted and written (this project's own). `IsRunTo` is what the call that `main`
+-- makes ensures; the law `headline` says that all below follows from it.
 use Rattle.std.specs.Prelude.{◌≡◌, ◌≢◌, ◌⊎◌, ℕ, ◌+◌, false, List, [], ◌∷◌, Ok}
 use Rattle.ant_base.specs.Fetched.{Fetched}
 use Rattle.ant_base.specs.Layout.{◌+++◌}
@@ -57,7 +57,8 @@ pub record PrintsTheGame (world red black : List ℕ) (setup : RunSetup) (before
   pub red_bytes : List ℕ
   pub black_bytes : List ℕ
   pub fetched : FetchesEach before.shelf after.shelf
-      (record { name = world; answer = Ok world_bytes } ∷ record { name = red; answer = Ok red_bytes } ∷ record { name = black; answer = Ok black_bytes } ∷ [])
+      (record { name = world; answer = Ok world_bytes } ∷ record { name = red; answer = Ok red_bytes }
+      ∷ record { name = black; answer = Ok black_bytes } ∷ [])
   -- they are a world and two brains
   pub start : Grid
   pub is_world : OpensAs world_bytes start
@@ -65,24 +66,28 @@ pub record PrintsTheGame (world red black : List ℕ) (setup : RunSetup) (before
   pub is_red : IsBrainText red_bytes red_brain
   pub black_brain : List Instr
   pub is_black : IsBrainText black_bytes black_brain
-  -- the output got the line of the seed, the dump of the world after each chosen round from 0 to the last, the score of the world after the
-  -- last, and nothing else but the counts, of which there are none where they aren't asked for
+  -- the output got the line of the seed, the dump of the world after each chosen round from 0 to the last, the score of
+  -- the world after the last, and nothing else but the counts, of which there are none where they aren't asked for
   pub counts : List ℕ
   pub uncounted : setup.stats ≡ false → counts ≡ []
   pub written : PushedAll before.out after.out (
       (seed_text setup.seed
-      +++ dumps_text (minds_named setup red_brain black_brain) setup.seed (chosen_rounds setup.dumps) (world_of start) (setup.rounds + 1)
-      +++ score_text (score_of (world_after (minds_named setup red_brain black_brain) setup.seed (world_of start) setup.rounds)))
+      +++ dumps_text (minds_named setup red_brain black_brain) setup.seed (chosen_rounds setup.dumps) (world_of start)
+      (setup.rounds + 1)
+      +++ score_text
+      (score_of (world_after (minds_named setup red_brain black_brain) setup.seed (world_of start) setup.rounds)))
       +++ counts)
   pub flushed : NothingWaits after.out.waiting
   pub silent : after.err ≡ before.err
 
 -- the counts of a game that was printed are those of its turns, in windows of the size that the words name
-pub record TellsItsCounts (world red black : List ℕ) (setup : RunSetup) (before after : Outside) (game : PrintsTheGame world red black setup before after) : Type 0 where
+pub record TellsItsCounts (world red black : List ℕ) (setup : RunSetup) (before after : Outside)
+    (game : PrintsTheGame world red black setup before after) : Type 0 where
   pub told : game.counts ≡ counts_text setup.stats
       (totals_of (minds_named setup game.red_brain game.black_brain) setup.seed setup.window (start_of (world_of game.start)) setup.rounds)
 
--- status 2: the words are no command, and the errors got the line of the first word that is refused; nothing was fetched or written
+-- status 2: the words are no command, and the errors got the line of the first word that is refused; nothing was
+-- fetched or written
 pub record NamesTheWord (words : List (List ℕ)) (before after : Outside) : Type 0 where
   pub none : IsNoCommand words
   pub word : ℕ
@@ -109,13 +114,16 @@ pub record KeepsPromise (words : List (List ℕ)) (before after : Outside) (numb
   pub no_command : number ≡ 2 → NamesTheWord words before after
   pub not_read : number ≡ 3 → (name : List ℕ) × NamesTheReason words before after (AtFile name)
   pub output_failed : number ≡ 4 → NamesTheReason words before after AtOutput
-  pub refused : number ≡ 5 → ((name : List ℕ) × (fault : FileFault) × NamesTheReason words before after (AtInput name fault))
+  pub refused : number ≡ 5
+      → ((name : List ℕ) × (fault : FileFault) × NamesTheReason words before after (AtInput name fault))
       ⊎ ((element : ℕ) × NamesTheReason words before after (AtRoom element))
-  -- nothing was written; or a proper prefix of its text, by a `run` or a `resume`, and by a `cup` with `--games` the lines of the games on its
-  -- first worlds
+  -- nothing was written; or a proper prefix of its text, by a `run` or a `resume`, and by a `cup` with `--games` the
+  -- lines of the games on its first worlds
   pub out_of_memory : number ≡ 6 → NamesTheReason words before after AtMemory
   pub no_other : (number ≡ 0) ⊎ (number ≡ 2) ⊎ (number ≡ 3) ⊎ (number ≡ 4) ⊎ (number ≡ 5) ⊎ (number ≡ 6)
 
 -- each run of the program keeps `KeepsPromise`
 abbrev pub Headline : Type 0
-Headline = (words : List (List ℕ)) (before after : Outside) (number : ℕ) → IsRunTo words before after number → KeepsPromise words before after number
+Headline =
+    (words : List (List ℕ)) (before after : Outside) (number : ℕ) → IsRunTo words before after number
+    → KeepsPromise words before after number

@@ -1,5 +1,5 @@
--- The pages of `--help` and `--version` (this project's own). What a page says of commands and options is made of the table of words, with
--- their limits; each line has at most 80 columns (proofs/HelpWorked.antt).
+-- The pages of `--help` and `--version` (this project's own). What a page says of commands and options is made of the
+-- table of words, with their limits; each line has at most 80 columns (proofs/HelpWorked.antt).
 use Rattle.std.specs.Prelude.{ℕ, List, codes}
 use Rattle.ant_base.specs.Layout.{◌+++◌}
 use Rattle.command_words.specs.Help.{table_text}

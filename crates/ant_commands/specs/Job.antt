@@ -17,7 +17,13 @@ pub record Job : Type 1 where
 
 -- a job that generates no world, has all memory that it needs before it writes, and plays no windows
 abbrev pub plain_job : List File → (List FileContent → List ℕ → Type 0) → Job
-plain_job files IsText = record { files = files; IsText = IsText; Lacks = λ element. ⊥; InPlay = λ contents front. ⊥; workers = 1 }
+plain_job files IsText = record {
+  files = files;
+  IsText = IsText;
+  Lacks = λ element. ⊥;
+  InPlay = λ contents front. ⊥;
+  workers = 1;
+}
 
 abbrev pub files_of : Job → List File
 files_of job = job.files

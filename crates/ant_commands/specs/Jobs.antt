@@ -24,20 +24,36 @@ abbrev pub minimise_job : List ℕ → Bool → Job
 minimise_job file states = plain_job (brain_file file ∷ []) (Tells brain_contents (TellsMinimised states))
 
 abbrev pub run_job : List ℕ → List ℕ → List ℕ → RunSetup → Job
-run_job world red black setup = record (plain_job (game_files world red black) (Tells game_contents (is_text_of (match_output setup)))) { InPlay = λ contents front. Unit {0}; workers = setup.workers }
+run_job world red black setup =
+    record (plain_job (game_files world red black) (Tells game_contents (is_text_of (match_output setup)))) {
+      InPlay = λ contents front. Unit {0};
+      workers = setup.workers;
+    }
 
 abbrev pub gen_job : ℕ → GenShape → Job
-gen_job seed shape = record (plain_job [] (Tells no_contents (λ nothing. TellsGenerated seed (shape_named shape)))) { Lacks = HasNoRoom seed (shape_named shape) }
+gen_job seed shape =
+    record (plain_job [] (Tells no_contents (λ nothing. TellsGenerated seed (shape_named shape)))) {
+      Lacks = HasNoRoom seed (shape_named shape);
+    }
 
 abbrev pub cup_job : List (List ℕ) → List (List ℕ) → Format → ℕ → ℕ → Bool → Job
 cup_job worlds brains format rounds workers games =
-    record (plain_job (cup_files worlds brains) (Tells roster_contents (IsCupOutput games worlds brains format rounds))) { InPlay = CupInPlay games worlds brains format rounds }
+    record (plain_job (cup_files worlds brains)
+    (Tells roster_contents (IsCupOutput games worlds brains format rounds))) {
+      InPlay = CupInPlay games worlds brains format rounds;
+    }
 
 abbrev pub view_job : List ℕ → List ℕ → List ℕ → List ℕ → ℕ → ℕ → ℕ → Job
-view_job world red black breaks seed rounds from = plain_job (game_files world red black ++ break_file breaks ∷ []) (Tells view_contents (IsViewOutput seed rounds from))
+view_job world red black breaks seed rounds from =
+    plain_job (game_files world red black ++ break_file breaks ∷ [])
+    (Tells view_contents (IsViewOutput seed rounds from))
 
 abbrev pub workload_job : ℕ → ℕ → ℕ → Job
-workload_job seed rounds workers = record (plain_job [] (Tells no_contents (λ nothing. TellsWorkload seed rounds))) { Lacks = HasNoRoom seed contest_shape; workers = workers }
+workload_job seed rounds workers =
+    record (plain_job [] (Tells no_contents (λ nothing. TellsWorkload seed rounds))) {
+      Lacks = HasNoRoom seed contest_shape;
+      workers = workers;
+    }
 
 abbrev pub help_job : Job
 help_job = plain_job [] (Tells no_contents (is_text_of (λ nothing. help_text)))
@@ -49,28 +65,39 @@ abbrev pub asm_job : List ℕ → Bool → Bool → Job
 asm_job file labels lines = plain_job (labelled_file (labels || lines) file ∷ []) (IsAsmOutput labels lines)
 
 abbrev pub save_job : List ℕ → List ℕ → List ℕ → RunSetup → Job
-save_job world red black setup = record (plain_job (game_files world red black) (Tells game_contents (is_text_of (save_output setup)))) { workers = setup.workers }
+save_job world red black setup =
+    record (plain_job (game_files world red black) (Tells game_contents (is_text_of (save_output setup)))) {
+      workers = setup.workers;
+    }
 
 abbrev pub resume_job : List ℕ → ResumeSetup → Job
-resume_job save setup = record (plain_job (save_file save setup.rounds ∷ []) (Tells save_contents (is_text_of (resume_output setup)))) { InPlay = λ contents front. Unit {0}; workers = setup.workers }
+resume_job save setup =
+    record (plain_job (save_file save setup.rounds ∷ []) (Tells save_contents (is_text_of (resume_output setup)))) {
+      InPlay = λ contents front. Unit {0};
+      workers = setup.workers;
+    }
 
 abbrev pub advance_job : List ℕ → ℕ → ℕ → Job
 advance_job save rounds workers = record (plain_job (save_file save rounds ∷ []) (Tells save_contents (is_text_of (advance_output rounds)))) { workers = workers }
 
 abbrev pub trace_job : List ℕ → List ℕ → List ℕ → ℕ → ReportSetup → Job
-trace_job world red black id setup = plain_job (game_files world red black) (Tells game_contents (is_text_of (trace_output id setup)))
+trace_job world red black id setup =
+    plain_job (game_files world red black) (Tells game_contents (is_text_of (trace_output id setup)))
 
 abbrev pub same_job : List ℕ → List ℕ → Bool → Job
 same_job first second way = plain_job (brain_file first ∷ brain_file second ∷ []) (Tells pair_contents (TellsSame way))
 
 abbrev pub events_job : List ℕ → List ℕ → List ℕ → Bool → ReportSetup → Job
-events_job world red black food setup = plain_job (game_files world red black) (Tells game_contents (is_text_of (events_output food setup)))
+events_job world red black food setup =
+    plain_job (game_files world red black) (Tells game_contents (is_text_of (events_output food setup)))
 
 abbrev pub acts_job : List ℕ → List ℕ → List ℕ → Option ℕ → ReportSetup → Job
-acts_job world red black one setup = plain_job (game_files world red black) (Tells game_contents (is_text_of (acts_output one setup)))
+acts_job world red black one setup =
+    plain_job (game_files world red black) (Tells game_contents (is_text_of (acts_output one setup)))
 
 abbrev pub profile_job : List ℕ → List ℕ → List ℕ → ReportSetup → Job
-profile_job world red black setup = plain_job (game_files world red black) (Tells game_contents (is_text_of (profile_output setup)))
+profile_job world red black setup =
+    plain_job (game_files world red black) (Tells game_contents (is_text_of (profile_output setup)))
 
 -- the job of a command line, a row a command
 abbrev pub job_by : CommandKind → PlainAsked → Job
@@ -79,7 +106,8 @@ job_by Brain a = brain_job (a.file 0)
 job_by Minimise a = minimise_job (a.file 0) (a.has States)
 job_by Run a = run_job (a.file 0) (a.file 1) (a.file 2) (setup_of a)
 job_by Gen a = gen_job (a.number 0) (shape_of a)
-job_by Cup a = cup_job (a.names Worlds) (a.names Brains) (format_of a) (a.option Rounds) (a.option Workers) (a.has Games)
+job_by Cup a =
+    cup_job (a.names Worlds) (a.names Brains) (format_of a) (a.option Rounds) (a.option Workers) (a.has Games)
 job_by View a = view_job (a.file 0) (a.file 1) (a.file 2) (a.file 3) (a.option Seed) (a.option Rounds) (a.option From)
 job_by Workload a = workload_job (a.number 0) (a.number 1) (a.number 2)
 job_by Help a = help_job

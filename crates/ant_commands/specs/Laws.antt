@@ -49,7 +49,8 @@ pub record TellsNoLabel (command : PlainAsked) (text : List ℕ) : Type 0 where
   pub no_lines : command.has Lines ≡ false
   pub empty : text ≡ []
 
--- each output of a command whose numbers and names are within the limits, and whose files were accepted, ends in LF, or tells no label
+-- each output of a command whose numbers and names are within the limits, and whose files were accepted, ends in LF, or
+-- tells no label
 abbrev pub TextsEndInLf : Type 0
 TextsEndInLf =
     (command : PlainAsked) (fetches : List Fetched) (contents : List FileContent) (text : List ℕ) → AskedWithin command
@@ -58,13 +59,16 @@ TextsEndInLf =
 
 -- a command has at most one output for the same contents of its files
 abbrev pub OneText : Type 0
-OneText = (command : PlainAsked) (contents : List FileContent) (text other : List ℕ) → IsJobText (job_of command) contents text → IsJobText (job_of command) contents other → text ≡ other
+OneText =
+    (command : PlainAsked) (contents : List FileContent) (text other : List ℕ)
+    → IsJobText (job_of command) contents text → IsJobText (job_of command) contents other → text ≡ other
 
 -- two command lines ask for the same, but for how many workers play, and for whether they stand by
 pub record AreAlikeButForWorkers (a b : PlainAsked) : Type 0 where
   pub kind : a.kind ≡ b.kind
   pub file : (place : ℕ) → a.file place ≡ b.file place
-  pub number : (place : ℕ) → slice_get (places_of a.kind) place ≢ Some (number_place WorkerCount) → a.number place ≡ b.number place
+  pub number : (place : ℕ) → slice_get (places_of a.kind) place ≢ Some (number_place WorkerCount)
+      → a.number place ≡ b.number place
   pub names : (list : NameList) → a.names list ≡ b.names list
   pub option : (choice : Choice) → choice ≢ Workers → a.option choice ≡ b.option choice
   pub dumps : a.dumps ≡ b.dumps
@@ -73,42 +77,58 @@ pub record AreAlikeButForWorkers (a b : PlainAsked) : Type 0 where
 -- they read the same files and have the same outputs
 pub record WorkersChangeNothing : Type 0 where
   pub files : (a b : PlainAsked) → AreAlikeButForWorkers a b → files_of (job_of a) ≡ files_of (job_of b)
-  pub text : (a b : PlainAsked) → AreAlikeButForWorkers a b → (contents : List FileContent) (text : List ℕ) → IsJobText (job_of a) contents text → IsJobText (job_of b) contents text
+  pub text : (a b : PlainAsked) → AreAlikeButForWorkers a b → (contents : List FileContent) (text : List ℕ)
+      → IsJobText (job_of a) contents text → IsJobText (job_of b) contents text
 
 -- without its counts the output of `run` is the same for every number of turns that a window has
 abbrev pub WindowsChangeCountsAlone : Type 0
 WindowsChangeCountsAlone =
-    (world red black : List ℕ) (setup : RunSetup) (window : ℕ) (contents : List FileContent) (text : List ℕ) → setup.stats ≡ false
-    → IsJobText (run_job world red black setup) contents text → IsJobText (run_job world red black (record setup { window = window })) contents text
+    (world red black : List ℕ) (setup : RunSetup) (window : ℕ) (contents : List FileContent) (text : List ℕ)
+    → setup.stats ≡ false
+    → IsJobText (run_job world red black setup) contents text
+    → IsJobText (run_job world red black (record setup { window = window })) contents text
 
--- the score of a game of a cup, between two players of a list on a world of a list with one of the cup's seeds, is the one that `run` prints of
--- the same world, brains, seed and rounds by the contest's rules
+-- the score of a game of a cup, between two players of a list on a world of a list with one of the cup's seeds, is the
+-- one that `run` prints of the same world, brains, seed and rounds by the contest's rules
 abbrev pub CupGamesAreRuns : Type 0
 CupGamesAreRuns =
-    (worlds : List Grid) (players : List (List Instr)) (seeds : Seeds) (setup : RunSetup) (n red black : ℕ) → setup.seed ≡ seed_at seeds n → sheet_named setup ≡ contest → setup.dumps ≡ NoDump → setup.stats ≡ false
-    → match_output setup (record { world = slice_index_or worlds (world_at seeds n) nowhere; red = slice_index_or players red []; black = slice_index_or players black [] })
+    (worlds : List Grid) (players : List (List Instr)) (seeds : Seeds) (setup : RunSetup) (n red black : ℕ)
+    → setup.seed ≡ seed_at seeds n → sheet_named setup ≡ contest → setup.dumps ≡ NoDump → setup.stats ≡ false
+    → match_output setup (record {
+      world = slice_index_or worlds (world_at seeds n) nowhere;
+      red = slice_index_or players red [];
+      black = slice_index_or players black [];
+    })
     ≡ seed_text setup.seed +++ score_text (score_in_cup worlds players seeds setup.rounds n red black)
 
 -- a command within the limits whose files were accepted, and whose elements have room, has an output
 abbrev pub HasOutput : Type 0
 HasOutput =
-    (command : PlainAsked) (fetches : List Fetched) (contents : List FileContent) → AskedWithin command → AreAccepted (files_of (job_of command)) fetches contents → HasRoom (job_of command)
+    (command : PlainAsked) (fetches : List Fetched) (contents : List FileContent) → AskedWithin command
+    → AreAccepted (files_of (job_of command)) fetches contents → HasRoom (job_of command)
     → (text : List ℕ) × IsJobText (job_of command) contents text
 
--- the brain of a labelled program, minimised, plays the labelled game, whatever the opening world, the other brain, the numbers of the rules,
--- the seed, the side and the number of rounds
-pub record MinimisedPlaysLabelled (main : Items) (brain new : List Instr) (list : List Address) (numbers : List (Option ℕ)) : Type 0 where
-  -- with the number of its place for each address, and then that of the minimised brain's state, at an equal place of the stream
-  pub plays : (side : Colour) (minds : Minds) (seed width height : ℕ) (kinds : List Kind) (r : ℕ) → AreSound (with_mind minds side brain) → Valid (world_of (opening width height kinds)) →
+-- the brain of a labelled program, minimised, plays the labelled game, whatever the opening world, the other brain, the
+-- numbers of the rules, the seed, the side and the number of rounds
+pub record MinimisedPlaysLabelled (main : Items) (brain new : List Instr) (list : List Address)
+    (numbers : List (Option ℕ)) : Type 0 where
+  -- with the number of its place for each address, and then that of the minimised brain's state, at an equal place of
+  -- the stream
+  pub plays : (side : Colour) (minds : Minds) (seed width height : ℕ) (kinds : List Kind) (r : ℕ)
+      → AreSound (with_mind minds side brain) → Valid (world_of (opening width height kinds)) →
       game (with_mind minds side new) seed width height kinds r
-      ≡ renumbered_moment (new_number numbers) side (numbered_moment list side (label_game main side minds seed width height kinds r))
+      ≡ renumbered_moment (new_number numbers) side
+      (numbered_moment list side (label_game main side minds seed width height kinds r))
   -- so with the same score
-  pub scores : (side : Colour) (minds : Minds) (seed width height : ℕ) (kinds : List Kind) (r : ℕ) → AreSound (with_mind minds side brain) → Valid (world_of (opening width height kinds)) →
-      score_of (game (with_mind minds side new) seed width height kinds r).world ≡ score_of (label_game main side minds seed width height kinds r).world
+  pub scores : (side : Colour) (minds : Minds) (seed width height : ℕ) (kinds : List Kind) (r : ℕ)
+      → AreSound (with_mind minds side brain) → Valid (world_of (opening width height kinds)) →
+      score_of (game (with_mind minds side new) seed width height kinds r).world
+      ≡ score_of (label_game main side minds seed width height kinds r).world
 
 abbrev pub AssembledAndMinimised : Type 0
 AssembledAndMinimised =
-    (main : Items) (brain new : List Instr) (list : List Address) (numbers : List (Option ℕ)) → IsAssembled main brain list → IsMinimised brain new numbers
+    (main : Items) (brain new : List Instr) (list : List Address) (numbers : List (Option ℕ))
+    → IsAssembled main brain list → IsMinimised brain new numbers
     → MinimisedPlaysLabelled main brain new list numbers
 
 -- what `save` says of a game of `run`: its numbers, but this round and these workers, and no dumps and counts
@@ -117,12 +137,18 @@ saved_setup setup round workers = record setup { rounds = round; dumps = NoDump;
 
 -- what `resume` says of it: its rounds, its dumps and its counts, and these workers
 abbrev pub resumed_setup : RunSetup → ℕ → ResumeSetup
-resumed_setup setup workers = record { rounds = setup.rounds; dumps = setup.dumps; workers = workers; stats = setup.stats }
+resumed_setup setup workers = record {
+  rounds = setup.rounds;
+  dumps = setup.dumps;
+  workers = workers;
+  stats = setup.stats;
+}
 
 -- what `run` prints up to a round: the line of the seed, and the chosen dumps up to that round
 unfoldable pub front_output : RunSetup → ℕ → ReadGame → List ℕ
 front_output setup round game =
-    seed_text setup.seed +++ dumps_text (minds_named setup game.red game.black) setup.seed (chosen_rounds setup.dumps) (world_of game.world) (round + 1)
+    seed_text setup.seed +++ dumps_text (minds_named setup game.red game.black) setup.seed (chosen_rounds setup.dumps)
+    (world_of game.world) (round + 1)
 
 -- a game of `run`, within the limits, whose files were accepted
 pub record IsGameOf (world red black : List ℕ) (setup : RunSetup) (game : ReadGame) : Type 0 where
@@ -130,8 +156,10 @@ pub record IsGameOf (world red black : List ℕ) (setup : RunSetup) (game : Read
   pub fetches : List Fetched
   pub accepted : AreAccepted (game_files world red black) fetches (game_contents game)
 
--- such a game was saved after a round by so many workers, and what was printed is accepted where at most so many rounds are to be played in all
-pub record IsSavedAs (world red black : List ℕ) (setup : RunSetup) (game : ReadGame) (round : ℕ) (saved : SavedValue) : Type 0 where
+-- such a game was saved after a round by so many workers, and what was printed is accepted where at most so many rounds
+-- are to be played in all
+pub record IsSavedAs (world red black : List ℕ) (setup : RunSetup) (game : ReadGame) (round : ℕ)
+    (saved : SavedValue) : Type 0 where
   pub early : round ≤ setup.rounds
   pub workers : ℕ
   pub text : List ℕ
@@ -145,26 +173,33 @@ pub record SavesAreResumed : Type 0 where
       → IsGameOf world red black setup game → round ≤ setup.rounds
       → IsJobText (save_job world red black (saved_setup setup round workers)) (game_contents game) text
       → (saved : SavedValue) × Reads (SaveFile setup.rounds) text (SaveContent saved)
-  -- and it is no longer than a file may be: where it lies under the name of the save, `resume` accepts that file, whoever plays on
-  pub fetched : (world red black save : List ℕ) (setup : RunSetup) (game : ReadGame) (round workers others : ℕ) (text : List ℕ) (at : List ℕ → Option (List ℕ))
+  -- and it is no longer than a file may be: where it lies under the name of the save, `resume` accepts that file,
+  -- whoever plays on
+  pub fetched : (world red black save : List ℕ) (setup : RunSetup) (game : ReadGame) (round workers others : ℕ)
+      (text : List ℕ) (at : List ℕ → Option (List ℕ))
       → IsGameOf world red black setup game → round ≤ setup.rounds
       → IsJobText (save_job world red black (saved_setup setup round workers)) (game_contents game) text
       → at save ≡ Some text
-      → (saved : SavedValue) × IsJudged at (files_of (resume_job save (resumed_setup setup others))) (AllAccepted (SaveContent saved ∷ []))
+      → (saved : SavedValue)
+      × IsJudged at (files_of (resume_job save (resumed_setup setup others))) (AllAccepted (SaveContent saved ∷ []))
   -- what `run` prints is what it prints up to the saved round, and then what `resume` prints of the save
-  pub goes_on : (world red black save : List ℕ) (setup : RunSetup) (game : ReadGame) (round workers : ℕ) (saved : SavedValue) (text rest : List ℕ)
+  pub goes_on : (world red black save : List ℕ) (setup : RunSetup) (game : ReadGame) (round workers : ℕ)
+      (saved : SavedValue) (text rest : List ℕ)
       → IsGameOf world red black setup game → IsSavedAs world red black setup game round saved
       → IsJobText (run_job world red black setup) (game_contents game) text
       → IsJobText (resume_job save (resumed_setup setup workers)) (save_contents saved) rest
       → text ≡ front_output setup round game ++ rest
-  -- what `advance` prints of the save up to a round is what `save` prints of the game after that round, so all of this holds of it too
-  pub advanced : (world red black save : List ℕ) (setup : RunSetup) (game : ReadGame) (round later workers others : ℕ) (saved : SavedValue) (text : List ℕ)
+  -- what `advance` prints of the save up to a round is what `save` prints of the game after that round, so all of this
+  -- holds of it too
+  pub advanced : (world red black save : List ℕ) (setup : RunSetup) (game : ReadGame)
+      (round later workers others : ℕ) (saved : SavedValue) (text : List ℕ)
       → IsGameOf world red black setup game → IsSavedAs world red black setup game round saved
       → round ≤ later → later ≤ setup.rounds
       → IsJobText (advance_job save later workers) (save_contents saved) text
       → IsJobText (save_job world red black (saved_setup setup later others)) (game_contents game) text
   -- so it doesn't matter after which round it was saved
-  pub any_round : (world red black save other : List ℕ) (setup : RunSetup) (game : ReadGame) (round later workers others : ℕ) (saved changed : SavedValue) (rest last : List ℕ)
+  pub any_round : (world red black save other : List ℕ) (setup : RunSetup) (game : ReadGame)
+      (round later workers others : ℕ) (saved changed : SavedValue) (rest last : List ℕ)
       → IsGameOf world red black setup game
       → IsSavedAs world red black setup game round saved → IsSavedAs world red black setup game later changed
       → IsJobText (resume_job save (resumed_setup setup workers)) (save_contents saved) rest

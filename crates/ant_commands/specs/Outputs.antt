@@ -146,7 +146,8 @@ abbrev pub roster_contents : ReadCup → List FileContent
 roster_contents cup = cup_contents cup.worlds cup.players
 
 -- these contents are those of some value, of which this text tells
-pub record Tells {A : Type 0} (contents_of : A → List FileContent) (IsText : A → List ℕ → Type 0) (contents : List FileContent) (text : List ℕ) : Type 0 where
+pub record Tells {A : Type 0} (contents_of : A → List FileContent) (IsText : A → List ℕ → Type 0)
+    (contents : List FileContent) (text : List ℕ) : Type 0 where
   pub value : A
   pub read : contents ≡ contents_of value
   pub told : IsText value text
@@ -180,11 +181,14 @@ minds_named setup red black = record { red = red; black = black; sheet = sheet_n
 -- the output of `run`: the line of the seed, the chosen dumps, the score, and the counts where they are asked for
 unfoldable pub match_output : RunSetup → ReadGame → List ℕ
 match_output setup game =
-    whole_text (minds_named setup game.red game.black) setup.seed setup.rounds (chosen_rounds setup.dumps) setup.window setup.stats (world_of game.world)
+    whole_text (minds_named setup game.red game.black) setup.seed setup.rounds
+    (chosen_rounds setup.dumps) setup.window setup.stats (world_of game.world)
 
 -- the output of `save`: the save of the game after its rounds
 unfoldable pub save_output : RunSetup → ReadGame → List ℕ
-save_output setup game = save_text (saved_after (minds_named setup game.red game.black) setup.seed setup.window (world_of game.world) setup.rounds)
+save_output setup game =
+    save_text
+    (saved_after (minds_named setup game.red game.black) setup.seed setup.window (world_of game.world) setup.rounds)
 
 -- the output of `advance`: the save of the game that it is a save of, once the given number of rounds is done in all
 unfoldable pub advance_output : ℕ → SavedValue → List ℕ
@@ -198,24 +202,31 @@ resume_output setup saved = resumed_text saved setup.rounds (chosen_rounds setup
 abbrev pub told_minds : ToldSetup → ReadGame → Minds
 told_minds setup game = record { red = game.red; black = game.black; sheet = told_sheet setup }
 
--- the output of `trace`: the line of the seed, and a line for one ant after each round from `--from` on, up to its death
+-- the output of `trace`: the line of the seed, and a line for one ant after each round from `--from` on, up to its
+-- death
 unfoldable pub trace_output : ℕ → ReportSetup → ReadGame → List ℕ
-trace_output id setup game = trace_text (told_minds setup.told game) setup.told.seed (world_of game.world) setup.told.rounds id setup.from
+trace_output id setup game =
+    trace_text (told_minds setup.told game) setup.told.seed (world_of game.world) setup.told.rounds id setup.from
 
--- the output of `events`: the line of the seed, and for each turn from round `--from` on, in order, a line for each ant that is killed in it, with
--- `--food` one for the particle that its ant takes or drops, and one for the score if it changed
+-- the output of `events`: the line of the seed, and for each turn from round `--from` on, in order, a line for each ant
+-- that is killed in it, with `--food` one for the particle that its ant takes or drops, and one for the score if it
+-- changed
 unfoldable pub events_output : Bool → ReportSetup → ReadGame → List ℕ
-events_output food setup game = report_text (event_lines food) setup.from (told_minds setup.told game) setup.told.seed (world_of game.world) setup.told.rounds
+events_output food setup game =
+    report_text (event_lines food) setup.from (told_minds setup.told game) setup.told.seed
+    (world_of game.world) setup.told.rounds
 
--- the output of `acts`: the line of the seed, and a line for each turn from round `--from` on in which an ant executes an instruction; with `--ant`
--- those of this ant alone
+-- the output of `acts`: the line of the seed, and a line for each turn from round `--from` on in which an ant executes
+-- an instruction; with `--ant` those of this ant alone
 unfoldable pub acts_output : Option ℕ → ReportSetup → ReadGame → List ℕ
-acts_output one setup game = acts_text (told_minds setup.told game) setup.told.seed (world_of game.world) setup.told.rounds one setup.from
+acts_output one setup game =
+    acts_text (told_minds setup.told game) setup.told.seed (world_of game.world) setup.told.rounds one setup.from
 
--- the output of `profile`: the line of the seed, and a line for each state of the red brain and then of the black one, of the turns from round
--- `--from` on
+-- the output of `profile`: the line of the seed, and a line for each state of the red brain and then of the black one,
+-- of the turns from round `--from` on
 unfoldable pub profile_output : ReportSetup → ReadGame → List ℕ
-profile_output setup game = profile_text (told_minds setup.told game) setup.told.seed (world_of game.world) setup.told.rounds setup.from
+profile_output setup game =
+    profile_text (told_minds setup.told game) setup.told.seed (world_of game.world) setup.told.rounds setup.from
 
 -- what the two brains come to
 pub record TellsComparison (pair : ReadPair) (text : List ℕ) : Type 0 where
@@ -230,7 +241,8 @@ pub record TellsWay (pair : ReadPair) (text : List ℕ) : Type 0 where
   pub is : IsWayComparison pair.first pair.second comparison steps
   pub told : text ≡ way_text comparison steps
 
--- the output of `same`: whether the brains are the same, or where they first differ; with `--way` the answers that lead there too
+-- the output of `same`: whether the brains are the same, or where they first differ; with `--way` the answers that lead
+-- there too
 abbrev pub TellsSame : Bool → ReadPair → List ℕ → Type 0
 TellsSame false = TellsComparison
 TellsSame true = TellsWay
@@ -240,7 +252,8 @@ abbrev pub minimise_output : Bool → List Instr → List Instr → List (Option
 minimise_output false old new numbers = minimised_text old new
 minimise_output true old new numbers = states_text numbers
 
--- the output of `minimise`: the canonical text of the minimised brain after a line of counts; with `--states` the new number of each old state
+-- the output of `minimise`: the canonical text of the minimised brain after a line of counts; with `--states` the new
+-- number of each old state
 pub record TellsMinimised (states : Bool) (old : List Instr) (text : List ℕ) : Type 0 where
   pub new : List Instr
   pub numbers : List (Option ℕ)
@@ -249,36 +262,47 @@ pub record TellsMinimised (states : Bool) (old : List Instr) (text : List ℕ) :
 
 -- the output of `view`: the first stop of the game, by the contest's rules, in a round from `--from` on, and its cells
 abbrev pub IsViewOutput : ℕ → ℕ → ℕ → ReadView → List ℕ → Type 0
-IsViewOutput seed rounds from view text = IsViewText (contest_minds view.game.red view.game.black) seed rounds from (world_of view.game.world) view.breaks text
+IsViewOutput seed rounds from view text =
+    IsViewText (contest_minds view.game.red view.game.black) seed rounds from
+    (world_of view.game.world) view.breaks text
 
 -- no cells, for places past the end of a list
 abbrev pub nowhere : Grid
 nowhere = record { width = 0; height = 0; ids = 0; cells = [] }
 
--- the minds of a game by the contest's rules between two players of a list, the red one first; players are counted from 0
+-- the minds of a game by the contest's rules between two players of a list, the red one first; players are counted from
+-- 0
 abbrev pub minds_between : List (List Instr) → ℕ → ℕ → Minds
 minds_between players red black = contest_minds (slice_index_or players red []) (slice_index_or players black [])
 
 -- the score of a game of so many rounds on a world of a list, counted from 0, between two players
 unfoldable pub score_between : List Grid → List (List Instr) → ℕ → ℕ → ℕ → ℕ → ℕ → Score
 score_between worlds players seed rounds world red black =
-    score_of (world_after (minds_between players red black) seed (world_of (slice_index_or worlds world nowhere)) rounds)
+    score_of
+    (world_after (minds_between players red black) seed (world_of (slice_index_or worlds world nowhere)) rounds)
 
 -- the score of a game of a cup, where n is a world with one of the seeds
 abbrev pub score_in_cup : List Grid → List (List Instr) → Seeds → ℕ → ℕ → ℕ → ℕ → Score
-score_in_cup worlds players seeds rounds n red black = score_between worlds players (seed_at seeds n) rounds (world_at seeds n) red black
+score_in_cup worlds players seeds rounds n red black =
+    score_between worlds players (seed_at seeds n) rounds (world_at seeds n) red black
 
--- the output of `cup`: the standing of all games between the players on all worlds with all seeds; with `--games` the line of each game before it
+-- the output of `cup`: the standing of all games between the players on all worlds with all seeds; with `--games` the
+-- line of each game before it
 abbrev pub IsCupOutput : Bool → List (List ℕ) → List (List ℕ) → Format → ℕ → ReadCup → List ℕ → Type 0
 IsCupOutput false worlds names format rounds cup text =
-    IsCupText format.leads format.gauntlet names (length cup.players) (length cup.worlds * format.seeds.count) (score_in_cup cup.worlds cup.players format.seeds rounds) text
-IsCupOutput true worlds names format rounds cup text = IsPrintedCupText format worlds names (score_in_cup cup.worlds cup.players format.seeds rounds) text
+    IsCupText format.leads format.gauntlet names (length cup.players) (length cup.worlds * format.seeds.count)
+    (score_in_cup cup.worlds cup.players format.seeds rounds) text
+IsCupOutput true worlds names format rounds cup text =
+    IsPrintedCupText format worlds names (score_in_cup cup.worlds cup.players format.seeds rounds) text
 
 -- the lines of all games on the first worlds of such a cup, on none or on all
-pub record TellsFirstWorlds (worlds names : List (List ℕ)) (format : Format) (rounds : ℕ) (cup : ReadCup) (text : List ℕ) : Type 0 where
+pub record TellsFirstWorlds (worlds names : List (List ℕ)) (format : Format) (rounds : ℕ) (cup : ReadCup)
+    (text : List ℕ) : Type 0 where
   pub told : ℕ
   pub some : told ≤ length worlds
-  pub is : text ≡ games_text format worlds names (first_played format names told (score_in_cup cup.worlds cup.players format.seeds rounds)) 1
+  pub is : text
+      ≡ games_text format worlds names
+      (first_played format names told (score_in_cup cup.worlds cup.players format.seeds rounds)) 1
 
 -- the shape that the words of `gen` name
 abbrev pub shape_named : GenShape → Shape
@@ -292,14 +316,19 @@ pub record TellsGenerated (seed : ℕ) (shape : Shape) (text : List ℕ) : Type 
 
 -- the shape of a world of the contest: what `gen` makes without options
 abbrev pub contest_shape : Shape
-contest_shape = record { width = default_of Width; height = default_of Height; rocks = default_of Rocks; blobs = default_of Blobs }
+contest_shape = record {
+  width = default_of Width;
+  height = default_of Height;
+  rocks = default_of Rocks;
+  blobs = default_of Blobs;
+}
 
 -- the task's sample brain on both sides, by the contest's rules
 abbrev pub sample_minds : Minds
 sample_minds = contest_minds sample_brain sample_brain
 
--- what a workload tells of its game: how many ants there are, and the food on all cells at the start; how many are alive, the score and what
--- came of the turns after so many rounds, which are played in windows of the default size
+-- what a workload tells of its game: how many ants there are, and the food on all cells at the start; how many are
+-- alive, the score and what came of the turns after so many rounds, which are played in windows of the default size
 unfoldable pub summary_of : ℕ → ℕ → World → Summary
 summary_of seed rounds w = record {
   ants = w.ids;
@@ -320,20 +349,24 @@ summary_lines seed rounds summary =
 
 -- the six lines of a workload; the text of a score begins with the end of the line before it
 unfoldable pub workload_text : ℕ → ℕ → Summary → List ℕ
-workload_text seed rounds summary = summary_lines seed rounds summary +++ score_text summary.score +++ stats_text summary.totals
+workload_text seed rounds summary =
+    summary_lines seed rounds summary +++ score_text summary.score +++ stats_text summary.totals
 
--- the output of `workload`: a summary of a game on the world of this seed and the contest's shape; it doesn't have the number of workers
+-- the output of `workload`: a summary of a game on the world of this seed and the contest's shape; it doesn't have the
+-- number of workers
 pub record TellsWorkload (seed rounds : ℕ) (text : List ℕ) : Type 0 where
   pub world : Grid
   pub generated : IsGenerated seed contest_shape world
   pub told : text ≡ workload_text seed rounds (summary_of seed rounds (world_of world))
 
--- what `asm` prints in place of the brain: the labels where they are asked for, and after them the line of each state where those are
+-- what `asm` prints in place of the brain: the labels where they are asked for, and after them the line of each state
+-- where those are
 abbrev pub source_text : Bool → Bool → ReadSource → List ℕ
 source_text labels lines source =
     (if labels then labels_text source.labels else []) +++ (if lines then state_lines_text source.lines else [])
 
--- the output of `asm`: the canonical text of the brain; with `--labels` the state of each label, and with `--lines` the line of each state
+-- the output of `asm`: the canonical text of the brain; with `--labels` the state of each label, and with `--lines` the
+-- line of each state
 abbrev pub IsAsmOutput : Bool → Bool → List FileContent → List ℕ → Type 0
 IsAsmOutput false false = Tells program_contents (is_text_of (λ program. brain_text program.brain))
 IsAsmOutput labels lines = Tells source_contents (is_text_of (source_text labels lines))

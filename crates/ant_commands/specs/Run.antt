@@ -20,8 +20,8 @@ use Rattle.ant_commands.specs.Status.{status_number}
 use Rattle.ant_commands.specs.FaultLines.{Ending, Reason, ending_status, fault_line, word_line}
 use Rattle.ant_commands.specs.FaultLines.Ending.{Done, RefusedWord, Stopped}
 
--- the words are a command, which is done; where the output can tell, nothing waits to be flushed behind a text, and a text without bytes
--- leaves nothing to wait
+-- the words are a command, which is done; where the output can tell, nothing waits to be flushed behind a text, and a
+-- text without bytes leaves nothing to wait
 pub record IsFinished (words : List (List ℕ)) (before after : Outside) (fetches : List Fetched) : Type 0 where
   pub command : PlainAsked
   pub is_command : IsCommand words command
@@ -30,13 +30,15 @@ pub record IsFinished (words : List (List ℕ)) (before after : Outside) (fetche
   pub kept : NothingWaits before.out.waiting → NothingWaits after.out.waiting
 
 -- the words are a command, which stopped for this reason
-pub record IsStopped (words : List (List ℕ)) (before after : Outside) (fetches : List Fetched) (reason : Reason) : Type 0 where
+pub record IsStopped (words : List (List ℕ)) (before after : Outside) (fetches : List Fetched)
+    (reason : Reason) : Type 0 where
   pub command : PlainAsked
   pub is_command : IsCommand words command
   pub stopped : StopsFor (job_of command) before after fetches reason
 
 -- the words are no command, of which this word is the refused one; nothing was fetched or written
-pub record IsRefusedByWords (words : List (List ℕ)) (before after : Outside) (fetches : List Fetched) (word : ℕ) : Type 0 where
+pub record IsRefusedByWords (words : List (List ℕ)) (before after : Outside) (fetches : List Fetched)
+    (word : ℕ) : Type 0 where
   pub refused : IsRefusedAt words word
   pub unfetched : fetches ≡ []
   pub kept : after.shelf ≡ before.shelf
@@ -76,7 +78,8 @@ pub record IsRunTo (words : List (List ℕ)) (before after : Outside) (number : 
 -- where the words are a command, the fetches of a run are those of its first files, in order and each once
 abbrev pub IsOrderly : List (List ℕ) → Outside → Outside → Type 0
 IsOrderly words before after =
-    (command : PlainAsked) → IsCommand words command → (fetches : List Fetched) → after.shelf.log ≡ before.shelf.log ++ fetches → AreInOrder (files_of (job_of command)) fetches
+    (command : PlainAsked) → IsCommand words command → (fetches : List Fetched)
+    → after.shelf.log ≡ before.shelf.log ++ fetches → AreInOrder (files_of (job_of command)) fetches
 
 -- the words are a command, whose files are judged so by the contents that the shelf tells
 pub record IsJudgedCommand (words : List (List ℕ)) (shelf : ShelfState) (verdict : FilesVerdict) : Type 0 where
@@ -86,12 +89,14 @@ pub record IsJudgedCommand (words : List (List ℕ)) (shelf : ShelfState) (verdi
   pub told : shelf.files ≡ Some at
   pub judged : IsJudged at (files_of (job_of command)) verdict
 
--- where each file is accepted, each element of a world to be generated has room, and neither the shelf nor the output failed, a run is
--- done, or wants memory
+-- where each file is accepted, each element of a world to be generated has room, and neither the shelf nor the output
+-- failed, a run is done, or wants memory
 abbrev pub IsComplete : List (List ℕ) → Outside → Outside → Status → Type 0
 IsComplete words before after ended =
-    (contents : List FileContent) (is : IsJudgedCommand words before.shelf (AllAccepted contents)) → HasRoom (job_of is.command)
-    → ¬ Rose before.shelf.faults after.shelf.faults → ¬ Rose before.out.faults after.out.faults → (ended ≡ status.Done) ⊎ (ended ≡ status.Memory)
+    (contents : List FileContent) (is : IsJudgedCommand words before.shelf (AllAccepted contents))
+    → HasRoom (job_of is.command)
+    → ¬ Rose before.shelf.faults after.shelf.faults → ¬ Rose before.out.faults after.out.faults
+    → (ended ≡ status.Done) ⊎ (ended ≡ status.Memory)
 
 -- where an element of a world to be generated has no room, a run ends as refused input, or wants memory
 abbrev pub IsCrowding : List (List ℕ) → Status → Type 0
@@ -105,16 +110,19 @@ IsRefusing words before after ended =
     (name : List ℕ) (fault : FileFault) → IsJudgedCommand words before.shelf (FirstRefused name fault)
     → ¬ Rose before.shelf.faults after.shelf.faults → (ended ≡ status.Input) ⊎ (ended ≡ status.Memory)
 
--- where the shelf tells its contents and is sure of the files up to the first that is refused, or of all where none is, no run ends at a file
--- that was not read
+-- where the shelf tells its contents and is sure of the files up to the first that is refused, or of all where none is,
+-- no run ends at a file that was not read
 abbrev pub NeverUnread : List (List ℕ) → Outside → Status → Type 0
-NeverUnread words before ended = (verdict : FilesVerdict) (is : IsJudgedCommand words before.shelf verdict) → AreSure before.shelf is.judged.fetches → ended ≢ status.Read
+NeverUnread words before ended =
+    (verdict : FilesVerdict) (is : IsJudgedCommand words before.shelf verdict) → AreSure before.shelf is.judged.fetches
+    → ended ≢ status.Read
 
 -- the words are no command
 abbrev pub IsNoCommand : List (List ℕ) → Type 0
 IsNoCommand words = (command : PlainAsked) → ¬ IsCommand words command
 
--- all that is promised of a call of the program over these words: the first field says all of it, and the others follow from it
+-- all that is promised of a call of the program over these words: the first field says all of it, and the others follow
+-- from it
 pub record EndsAsPromised (given : List (List ℕ)) (before after : Outside) (ended : Status) : Type 0 where
   pub run : IsRun given before after ended
   pub words : (ended ≡ status.Words) ↔ IsNoCommand given

@@ -1,5 +1,5 @@
--- The promise of one `run` without `--stats`: its words, its files, and what each exit status says (this project's own). The law `run_promise` says
--- that each run of the program keeps it; docs/RUN.md shows all that it rests on.
+-- The promise of one `run` without `--stats`: its words, its files, and what each exit status says (this project's
+-- own). The law `run_promise` says that each run of the program keeps it; docs/RUN.md shows all that it rests on.
 use Rattle.std.specs.Prelude.{◌≡◌, ◌≢◌, ◌⊎◌, ℕ, ◌≤◌, nat_eq, Bool, true, false, List, [], ◌∷◌, ◌++◌, length, map, flat_map, ◌==◌, Some, Result, Ok, Err, codes}
 use Rattle.std.specs.List.{AllByRecursion, AllZip, Contains, list_any, slice_split}
 use Rattle.ant_base.specs.Faults.{Rose}
@@ -29,14 +29,17 @@ use Rattle.ant_commands.specs.Run.{IsNoCommand, IsRunTo}
 abbrev pub IsNumber : ℕ → ℕ → ℕ → List ℕ → Type 0
 IsNumber least greatest number word = (decimal_value word ≡ Some number) × (least ≤ number) × (number ≤ greatest)
 
--- a word chooses the rounds that are dumped: `none`, `all`, or the numbers of these rounds, with one comma between them, which is the byte 44
+-- a word chooses the rounds that are dumped: `none`, `all`, or the numbers of these rounds, with one comma between
+-- them, which is the byte 44
 pub data IsDumps : (ℕ → Bool) → List ℕ → Type 0 where
   NoRound : IsDumps (λ round. false) (codes "none")
   EveryRound : IsDumps (λ round. true) (codes "all")
-  TheseRounds : (rounds : List ℕ) (word : List ℕ) → AllZip (IsNumber 0 1000000) rounds (slice_split (λ byte. byte == 44) word)
+  TheseRounds : (rounds : List ℕ) (word : List ℕ)
+      → AllZip (IsNumber 0 1000000) rounds (slice_split (λ byte. byte == 44) word)
       → IsDumps (λ round. list_any (λ number. nat_eq number round) rounds) word
 
--- what a run is asked for: the names of its files, the seed, how many rounds are played, which are dumped, and the numbers of the rules
+-- what a run is asked for: the names of its files, the seed, how many rounds are played, which are dumped, and the
+-- numbers of the rules
 pub record RunAsked : Type 0 where
   pub world : List ℕ
   pub red : List ℕ
@@ -46,30 +49,41 @@ pub record RunAsked : Type 0 where
   pub dumps : ℕ → Bool
   pub sheet : Sheet
 
--- `IsOption others name words asked`: the option of this name, with these words behind it, makes `asked` of `others`: `--seed 7` makes the seed 7. `--workers`,
--- `--window` and `--far` change nothing
+-- `IsOption others name words asked`: the option of this name, with these words behind it, makes `asked` of `others`:
+-- `--seed 7` makes the seed 7. `--workers`, `--window` and `--far` change nothing
 pub data IsOption (others : RunAsked) : List ℕ → List (List ℕ) → RunAsked → Type 0 where
-  Seed : (n : ℕ) (word : List ℕ) → IsNumber 0 4294967295 n word → IsOption others (codes "--seed") (word ∷ []) (record others { seed = n })
-  Rounds : (n : ℕ) (word : List ℕ) → IsNumber 0 1000000 n word → IsOption others (codes "--rounds") (word ∷ []) (record others { rounds = n })
-  Dump : (dumps : ℕ → Bool) (word : List ℕ) → IsDumps dumps word → IsOption others (codes "--dump") (word ∷ []) (record others { dumps = dumps })
+  Seed : (n : ℕ) (word : List ℕ) → IsNumber 0 4294967295 n word
+      → IsOption others (codes "--seed") (word ∷ []) (record others { seed = n })
+  Rounds : (n : ℕ) (word : List ℕ) → IsNumber 0 1000000 n word
+      → IsOption others (codes "--rounds") (word ∷ []) (record others { rounds = n })
+  Dump : (dumps : ℕ → Bool) (word : List ℕ) → IsDumps dumps word
+      → IsOption others (codes "--dump") (word ∷ []) (record others { dumps = dumps })
   Workers : (n : ℕ) (word : List ℕ) → IsNumber 1 16 n word → IsOption others (codes "--workers") (word ∷ []) others
   Window : (n : ℕ) (word : List ℕ) → IsNumber 1 16384 n word → IsOption others (codes "--window") (word ∷ []) others
-  Surround : (n : ℕ) (word : List ℕ) → IsNumber 4 6 n word → IsOption others (codes "--surround") (word ∷ []) (record others { sheet = record others.sheet { surround = n } })
-  Corpse : (n : ℕ) (word : List ℕ) → IsNumber 0 9 n word → IsOption others (codes "--corpse") (word ∷ []) (record others { sheet = record others.sheet { corpse = n } })
-  Rest : (n : ℕ) (word : List ℕ) → IsNumber 0 255 n word → IsOption others (codes "--rest") (word ∷ []) (record others { sheet = record others.sheet { rest = n } })
+  Surround : (n : ℕ) (word : List ℕ) → IsNumber 4 6 n word
+      → IsOption others (codes "--surround") (word ∷ [])
+      (record others { sheet = record others.sheet { surround = n } })
+  Corpse : (n : ℕ) (word : List ℕ) → IsNumber 0 9 n word
+      → IsOption others (codes "--corpse") (word ∷ []) (record others { sheet = record others.sheet { corpse = n } })
+  Rest : (n : ℕ) (word : List ℕ) → IsNumber 0 255 n word
+      → IsOption others (codes "--rest") (word ∷ []) (record others { sheet = record others.sheet { rest = n } })
   Far : IsOption others (codes "--far") [] others
 
--- what options start from, where these are the files: nothing is dumped, and the rules are the contest's; a seed and a number of rounds are always said
+-- what options start from, where these are the files: nothing is dumped, and the rules are the contest's; a seed and a
+-- number of rounds are always said
 abbrev pub bare_run : List ℕ → List ℕ → List ℕ → RunAsked
 bare_run world red black =
     record { world = world; red = red; black = black; seed = 0; rounds = 0; dumps = λ round. false; sheet = record { surround = 5; corpse = 3; rest = 14 } }
 
--- options, each a name and the words behind it, make `asked` of `start`, one by one, the last first; as each stands once at most, their order doesn't matter
+-- options, each a name and the words behind it, make `asked` of `start`, one by one, the last first; as each stands
+-- once at most, their order doesn't matter
 abbrev pub AreOptions : RunAsked → List (List ℕ × List (List ℕ)) → RunAsked → Type 0
 AreOptions start [] asked = asked ≡ start
-AreOptions start (option ∷ options) asked = (others : RunAsked) × IsOption others option.0 option.1 asked × AreOptions start options others
+AreOptions start (option ∷ options) asked =
+    (others : RunAsked) × IsOption others option.0 option.1 asked × AreOptions start options others
 
--- the words are `run`, the names of three files, and options in any order, each at most once, the seed and the rounds among them
+-- the words are `run`, the names of three files, and options in any order, each at most once, the seed and the rounds
+-- among them
 pub record IsRunOf (words : List (List ℕ)) (asked : RunAsked) : Type 0 where
   pub options : List (List ℕ × List (List ℕ))
   pub whole : words ≡ codes "run" ∷ asked.world ∷ asked.red ∷ asked.black ∷ flat_map (λ option. option.0 ∷ option.1) options
@@ -97,18 +111,22 @@ abbrev pub IsText : TextKind → List ℕ → Type 0
 IsText OfWorld bytes = (world : Grid) × OpensAs bytes world
 IsText OfBrain bytes = (brain : List Instr) × IsBrainText bytes brain
 
--- `ComesNext asked kind name earlier`: after the fetches `earlier` the file of this name comes next, and has to be a text of this kind
+-- `ComesNext asked kind name earlier`: after the fetches `earlier` the file of this name comes next, and has to be a
+-- text of this kind
 pub data ComesNext (asked : RunAsked) : TextKind → List ℕ → List Fetched → Type 0 where
   -- the world, after none
   WorldFirst : ComesNext asked OfWorld asked.world []
   -- red's brain, after a world
-  RedNext : (first : List ℕ) → IsText OfWorld first → ComesNext asked OfBrain asked.red (fetch asked.world (Ok first) ∷ [])
+  RedNext : (first : List ℕ)
+      → IsText OfWorld first → ComesNext asked OfBrain asked.red (fetch asked.world (Ok first) ∷ [])
   -- black's brain, after a world and a brain
   BlackLast : (first second : List ℕ) → IsText OfWorld first → IsText OfBrain second
       → ComesNext asked OfBrain asked.black (fetch asked.world (Ok first) ∷ fetch asked.red (Ok second) ∷ [])
 
--- a run stopped at the file of this name, which has to be a text of this kind: it was fetched last, with this answer, and nothing was written
-pub record StopsAtFile (asked : RunAsked) (before after : Outside) (kind : TextKind) (name : List ℕ) (answer : Result (List ℕ) FetchFault) : Type 0 where
+-- a run stopped at the file of this name, which has to be a text of this kind: it was fetched last, with this answer,
+-- and nothing was written
+pub record StopsAtFile (asked : RunAsked) (before after : Outside) (kind : TextKind) (name : List ℕ)
+    (answer : Result (List ℕ) FetchFault) : Type 0 where
   pub earlier : List Fetched
   pub next : ComesNext asked kind name earlier
   pub fetched : DidFetch before after (earlier ++ (fetch name answer ∷ []))
@@ -116,11 +134,13 @@ pub record StopsAtFile (asked : RunAsked) (before after : Outside) (kind : TextK
 
 -- a proper prefix of the text was appended, without a fault
 abbrev pub PushedPart : SinkState → SinkState → List ℕ → Type 0
-PushedPart out new_out text = (front : List ℕ) × (rest : List ℕ) × (text ≡ front ++ rest) × (1 ≤ length rest) × PushedAll out new_out front
+PushedPart out new_out text =
+    (front : List ℕ) × (rest : List ℕ) × (text ≡ front ++ rest) × (1 ≤ length rest) × PushedAll out new_out front
 
--- the three files were fetched, in this order, and no others; they are a world and two brains, and `IsWritten` says what was written of the text of their game:
--- `PushedAll` at 0, `PushedFront` at 4, and `PushedPart` at 6
-pub record Plays (IsWritten : SinkState → SinkState → List ℕ → Type 0) (asked : RunAsked) (before after : Outside) : Type 0 where
+-- the three files were fetched, in this order, and no others; they are a world and two brains, and `IsWritten` says
+-- what was written of the text of their game: `PushedAll` at 0, `PushedFront` at 4, and `PushedPart` at 6
+pub record Plays (IsWritten : SinkState → SinkState → List ℕ → Type 0) (asked : RunAsked)
+    (before after : Outside) : Type 0 where
   pub first : List ℕ
   pub second : List ℕ
   pub third : List ℕ
@@ -155,12 +175,14 @@ pub record IsCutOff (asked : RunAsked) (before after : Outside) : Type 0 where
   pub plays : Plays PushedFront asked before after
   pub line : HasLine before.err after.err (codes "ants: output failed\n")
 
--- bytes came that are no such text, and `says` is anything; or the fetch answered that the file is too long, and `says` is `too long`
+-- bytes came that are no such text, and `says` is anything; or the fetch answered that the file is too long, and `says`
+-- is `too long`
 abbrev pub IsUnfit : TextKind → Result (List ℕ) FetchFault → List ℕ → Type 0
 IsUnfit kind (Ok bytes) _ = ¬ IsText kind bytes
 IsUnfit kind (Err fault) says = (fault ≡ TooLong) × (says ≡ codes "too long")
 
--- 5: a file is no world or no brain, or its fetch answered that it is too long. Which fault of a text the line tells, the law `headline` says
+-- 5: a file is no world or no brain, or its fetch answered that it is too long. Which fault of a text the line tells,
+-- the law `headline` says
 pub record IsNotAccepted (asked : RunAsked) (before after : Outside) : Type 0 where
   pub kind : TextKind
   pub name : List ℕ
@@ -175,9 +197,11 @@ pub data IsNotBegun (asked : RunAsked) (before after : Outside) : Type 0 where
   -- it stopped before the first fetch
   NothingFetched : DidFetch before after [] → after.out ≡ before.out → IsNotBegun asked before after
   -- or after a file whose bytes came, whether they are such a text or not
-  BytesCame : (kind : TextKind) (name bytes : List ℕ) → StopsAtFile asked before after kind name (Ok bytes) → IsNotBegun asked before after
+  BytesCame : (kind : TextKind) (name bytes : List ℕ) → StopsAtFile asked before after kind name (Ok bytes)
+      → IsNotBegun asked before after
   -- or at a fetch that answered out of memory
-  NoBytes : (kind : TextKind) (name : List ℕ) → StopsAtFile asked before after kind name (Err OutOfMemory) → IsNotBegun asked before after
+  NoBytes : (kind : TextKind) (name : List ℕ)
+      → StopsAtFile asked before after kind name (Err OutOfMemory) → IsNotBegun asked before after
 
 -- 6: memory ran out, before the text or within it
 pub record IsOutOfMemory (asked : RunAsked) (before after : Outside) : Type 0 where
@@ -193,27 +217,36 @@ RunEnds asked before after number =
     ⊎ ((number ≡ 5) × IsNotAccepted asked before after)
     ⊎ ((number ≡ 6) × IsOutOfMemory asked before after)
 
--- the promise of a run. `IsRunOf words asked`: these words ask for this run. `IsRunTo words before after number`: the program, called with these words, ended
--- with this number. So a run ended as `RunEnds` says; words ask for one run at most; and where the program, called with `run` and other words, no `--stats`
--- among them, didn't end with 2, `run` and these words ask for a run
+-- the promise of a run. `IsRunOf words asked`: these words ask for this run. `IsRunTo words before after number`: the
+-- program, called with these words, ended with this number. So a run ended as `RunEnds` says; words ask for one run at
+-- most; and where the program, called with `run` and other words, no `--stats` among them, didn't end with 2, `run` and
+-- these words ask for a run
 pub record RunPromise : Type 0 where
   pub kept : (words : List (List ℕ)) (asked : RunAsked) → IsRunOf words asked
       → (before after : Outside) (number : ℕ) → IsRunTo words before after number → RunEnds asked before after number
   pub one : (words : List (List ℕ)) (a b : RunAsked) → IsRunOf words a → IsRunOf words b → a ≡ b
-  pub every : (words : List (List ℕ)) (before after : Outside) (number : ℕ) → IsRunTo (codes "run" ∷ words) before after number → number ≢ 2
+  pub every : (words : List (List ℕ)) (before after : Outside) (number : ℕ)
+      → IsRunTo (codes "run" ∷ words) before after number → number ≢ 2
       → ¬ Contains words (codes "--stats") → (asked : RunAsked) × IsRunOf (codes "run" ∷ words) asked
 
--- what a run does to its shelf besides. `each`: its fetches agree with what the shelf tells, contents and sureness stay, and the count of faults never falls;
--- `unread`: at 3 the shelf wasn't sure of the file at which the run stopped, and its count of faults rose
+-- what a run does to its shelf besides. `each`: its fetches agree with what the shelf tells, contents and sureness
+-- stay, and the count of faults never falls; `unread`: at 3 the shelf wasn't sure of the file at which the run stopped,
+-- and its count of faults rose
 pub record RunShelf : Type 0 where
-  pub each : (words : List (List ℕ)) (asked : RunAsked) → IsRunOf words asked → (before after : Outside) (number : ℕ) → IsRunTo words before after number
+  pub each : (words : List (List ℕ)) (asked : RunAsked) → IsRunOf words asked → (before after : Outside) (number : ℕ)
+      → IsRunTo words before after number
       → (fetches : List Fetched) × FetchesEach before.shelf after.shelf fetches
-  pub unread : (words : List (List ℕ)) (asked : RunAsked) → IsRunOf words asked → (before after : Outside) → IsRunTo words before after 3
-      → (kind : TextKind) × (name : List ℕ) × StopsAtFile asked before after kind name (Err Failed) × (before.shelf.sure name ≡ false) × Rose before.shelf.faults after.shelf.faults
+  pub unread : (words : List (List ℕ)) (asked : RunAsked) → IsRunOf words asked → (before after : Outside)
+      → IsRunTo words before after 3
+      → (kind : TextKind) × (name : List ℕ) × StopsAtFile asked before after kind name (Err Failed)
+      × (before.shelf.sure name ≡ false) × Rose before.shelf.faults after.shelf.faults
 
--- words that are no command end with status 2 at the refused word; and what the table of commands has as a `run` without `--stats` is one
+-- words that are no command end with status 2 at the refused word; and what the table of commands has as a `run`
+-- without `--stats` is one
 pub record RefusedWords : Type 0 where
-  pub refused : (words : List (List ℕ)) (before after : Outside) (number : ℕ) → IsRunTo words before after number → IsNoCommand words
+  pub refused : (words : List (List ℕ)) (before after : Outside) (number : ℕ) → IsRunTo words before after number
+      → IsNoCommand words
       → (number ≡ 2) × NamesTheWord words before after
-  pub accepted : (words : List (List ℕ)) (plain : PlainAsked) → IsCommand words plain → plain.kind ≡ Run → plain.has Stats ≡ false
+  pub accepted : (words : List (List ℕ)) (plain : PlainAsked) → IsCommand words plain → plain.kind ≡ Run
+      → plain.has Stats ≡ false
       → (asked : RunAsked) × IsRunOf words asked

@@ -116,8 +116,8 @@ pub record ShapeWithin (shape : GenShape) : Type 0 where
   pub rocks : IsWithin ElementCount shape.rocks
   pub blobs : IsWithin ElementCount shape.blobs
 
--- the format of a cup: with `--gauntlet` the games of the first brain alone, with `--leads` the leads, the seeds from that of `--seed` on, and
--- these in the lines of games if `--seeds` is given
+-- the format of a cup: with `--gauntlet` the games of the first brain alone, with `--leads` the leads, the seeds from
+-- that of `--seed` on, and these in the lines of games if `--seeds` is given
 abbrev pub format_of : PlainAsked → Format
 format_of asked = record {
   gauntlet = asked.has Gauntlet;
@@ -137,7 +137,8 @@ pub record CupWithin (worlds brains : List (List ℕ)) (format : Format) (rounds
 
 -- a command has the files of a game, its seed, its rounds and the numbers of its rules
 abbrev pub PlaysGame : CommandKind → Type 0
-PlaysGame kind = HasFile kind 0 × HasFile kind 1 × HasFile kind 2 × HasNumberOption kind Seed × HasNumberOption kind Rounds
+PlaysGame kind =
+    HasFile kind 0 × HasFile kind 1 × HasFile kind 2 × HasNumberOption kind Seed × HasNumberOption kind Rounds
     × HasNumberOption kind Surround × HasNumberOption kind Corpse × HasNumberOption kind Rest
 
 -- the words of a game that were read
@@ -167,4 +168,9 @@ plain_setup words = record {
 
 -- the options of `resume` that were read
 abbrev pub plain_resume : ResumeOptions → ResumeSetup
-plain_resume options = record { rounds = options.rounds; dumps = plain_dumps options.dumps; workers = options.workers; stats = options.stats }
+plain_resume options = record {
+  rounds = options.rounds;
+  dumps = plain_dumps options.dumps;
+  workers = options.workers;
+  stats = options.stats;
+}

@@ -60,8 +60,8 @@ use round_book::Crew;
 use std::alloc::Global;
 use tournament::{Pairing, Played};
 
-/// Hands a command line to its command's own function, with a crew, if it plays in windows, and with a function that plays games, if it is a
-/// cup.
+/// Hands a command line to its command's own function, with a crew, if it plays in windows, and with a function that
+/// plays games, if it is a cup.
 pub fn dispatch<
     'w,
     C: Crew,

@@ -132,7 +132,7 @@ pub fn read_file<'w, T: FileText, S: Shelf>(
     T::read(alloc, name, &bytes)
 }
 
-/// Fetches the files of these names, and reads what came of each before it fetches the next.
+/// Fetches the files of these names, and reads each before it fetches the next.
 pub fn read_files<'w, T: FileText + Drop, S: Shelf>(
     alloc: Global,
     shelf: &mut S,

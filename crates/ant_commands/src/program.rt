@@ -39,8 +39,8 @@ use tournament::{Pairing, play_games, play_games_alone};
 //                                                                     > carry_out, for all else
 //     run_alone > read_and_carry_out_alone > carry_out_alone > dispatch
 
-// Carries out a command, whose numbers and names are within their limits. A crew takes no memory before its first window, so that each
-// command may have one.
+// Carries out a command, whose numbers and names are within their limits. A crew takes no memory before its first
+// window, so that each command may have one.
 fn carry_out<'w, R: Threads + Sync, S: Shelf, K: Sink, G: Gate>(
     rt: &R,
     alloc: Global,
@@ -149,29 +149,31 @@ fn read_and_carry_out_far<'w, R: Threads + Wait + Sync, S: Shelf, K: Sink, G: Ga
     }
 }
 
-/// Does all that the program does without standing workers, over a shelf of files, an output and a place for faults. To it `--far` is no
-/// option of `run`, nor any word that a command has.
+/// The whole program without standing workers, over a shelf of files, an output and a place for faults. It knows no
+/// option `--far`.
 ///
-/// `words` doesn't hold the program's name. The words are read first; then each file is fetched and read before the next one, in the order
-/// of its word, and each once; then the text is written. The answer is
-/// - `Done`: all files of the command were fetched and accepted, and the output got the text of what they were read as and nothing else;
-///   the errors got nothing.
-/// - `Words`: exactly where the words are no command; nothing was fetched, and the output got nothing.
-/// - `Read`: the last fetch failed, of a file of which the shelf wasn't sure, and each file before it was accepted; the output got nothing.
-/// - `Write`: all files were fetched and accepted, the output failed, and got a prefix of the text.
-/// - `Input`: the last file that was fetched is too long, not in its grammar or a save beyond the rounds, and each before it was accepted; or
-///   an element of the world to be generated has no room; the output got nothing.
-/// - `Memory`: memory could not be had; no fetch failed or was too long. Either each file but perhaps the last was accepted, and the output
-///   got nothing; or all files of a `run`, a `resume` or a `cup` with `--games`, which write while they play, were accepted, and the output
-///   got a proper prefix of the text: of a cup the lines of all games on its first worlds.
+/// `words` doesn't have the program's name. The words are read first. Then each file is fetched and read before the
+/// next one, in the order of its word, and each once. Then the text is written. The result is
+/// - `Done`: all files of the command were fetched and accepted. The output got the text for what was read from them
+///   and nothing else; the errors got nothing.
+/// - `Words`: exactly if the words are no command; nothing was fetched, and the output got nothing.
+/// - `Read`: the last fetch failed, the shelf wasn't sure of its file, and each file before it was accepted; the output
+///   got nothing.
+/// - `Write`: all files were fetched and accepted, and the output failed and got a prefix of the text.
+/// - `Input`: the last file that was fetched is too long, not in its grammar, or a save beyond the rounds, and each
+///   before it was accepted; or an element of the world to be generated has no room. The output got nothing.
+/// - `Memory`: memory ran out; no fetch failed or was too long. Either each file except perhaps the last was accepted,
+///   and the output got nothing; or all files of a `run`, a `resume` or a `cup` with `--games`, which write while they
+///   play, were accepted, and the output got a proper prefix of the text: of a cup the lines of all games on its first
+///   worlds.
 ///
-/// At each but `Done` the errors got one line, which names the word (from 1) or the file and the place in it; or a prefix of that line,
-/// where they failed. The shelf keeps its contents and all of which it is sure, its log grows by the fetches, and its count of faults rises
-/// only where it isn't sure of each name that was fetched. The runtime serves the workers of a game and of a cup; a game's workers call the
-/// gate before each look.
+/// After each except `Done` the errors got one line, which names the word (from 1), or the file and the place in it; or
+/// a prefix of that line, if the errors failed. The shelf keeps its contents and all of which it is sure, its log grows
+/// by the fetches, and its count of faults rises only if it isn't sure of some name that was fetched. The runtime
+/// serves the workers of a game and of a cup; a game's workers call the gate before each look.
 ///
-/// The clause has a field for each of these promises. The first, `run`, says all of it: the others follow from it, by `promised_run` of
-/// proofs/Verdicts.antt. They stand there for callers, each in words of its own.
+/// The clause has a field for each of these promises. The first, `run`, implies all others, by `promised_run` of
+/// proofs/Verdicts.antt. They are there for callers, each in words of its own.
 pub fn run_here<R: Threads + Sync, S: Shelf, K: Sink, E: Sink, G: Gate>(
     rt: &R,
     alloc: Global,
@@ -188,8 +190,9 @@ pub fn run_here<R: Threads + Sync, S: Shelf, K: Sink, E: Sink, G: Gate>(
     report(ended, err)
 }
 
-/// Does what `run_here` does on the caller's thread alone, without a runtime, and returns how the run ended: with its whole text, at a refused
-/// word, or as its command stopped. Windows and cups that name more workers are played on this thread too, with the same text.
+/// Does what `run_here` does on the caller's thread alone, without a runtime, and returns how the run ended: with its
+/// whole text, at a refused word, or as its command stopped. Windows and cups that name more workers are played on this
+/// thread too, with the same text.
 pub fn run_alone<'w, S: Shelf, K: Sink, E: Sink>(
     alloc: Global,
     words: &'w [String],
@@ -205,9 +208,9 @@ pub fn run_alone<'w, S: Shelf, K: Sink, E: Sink>(
     ended
 }
 
-/// Does all that the program does, over a shelf of files, an output and a place for faults. It calls `run_here`, unless the command is `run` and
-/// some word is `--far`. Such a run's workers stand by for the whole game, and the call may wait for one of them; what it promises holds if it
-/// returns.
+/// Does all that the program does, over a shelf of files, an output and a place for faults. It calls `run_here`, unless
+/// the command is `run` and some word is `--far`. Such a run's workers stand by for the whole game, and the call may
+/// wait for one of them; what it promises holds if it returns.
 ///
 /// The clause is that of `run_here`, of all words, whose doc says which status comes when.
 pub fn run_ants<R: Threads + Wait + Sync, S: Shelf, K: Sink, E: Sink, G: Gate>(
@@ -260,7 +263,8 @@ fn report_stop<E: Sink>(stop: &CommandStop<'_>, err: &mut E) -> Status
     stop.status()
 }
 
-/// Does what `run_ants` does, and gives the number of its status as an exit code: all that `main` does once it has its words and its memory.
+/// Does what `run_ants` does, and gives the number of its status as an exit code: all that `main` does once it has its
+/// words and its memory.
 pub fn run_to_exit<R: Threads + Wait + Sync, S: Shelf, K: Sink, E: Sink, G: Gate>(
     rt: &R,
     alloc: Global,

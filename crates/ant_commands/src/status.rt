@@ -13,15 +13,16 @@ pub enum Status {
     Read,
     /// The output failed.
     Write,
-    /// A file is too long, not in its grammar or a save beyond the rounds; or an element of a world to be generated has no room.
+    /// A file is too long, not in its grammar or a save beyond the rounds; or an element of a world to be generated has
+    /// no room.
     Input,
     /// Memory could not be had.
     Memory,
 }
 
 impl Status {
-    /// The number with which the program exits: 0, 2, 3, 4, 5, 6 in the order of the variants. 1 is that of a program that the system gave
-    /// no words.
+    /// The number with which the program exits: 0, 2, 3, 4, 5, 6 in the order of the variants. 1 is that of a program
+    /// that the system gave no words.
     pub fn number(&self) -> u8
         ensures { result ≡ status_number self.now }
     {

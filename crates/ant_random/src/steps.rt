@@ -4,7 +4,8 @@ ghost use Rattle.std.specs.Prelude.{◌≡◌, ℕ, ◌+◌, ◌<◌};
 use std::marker::Model;
 use std::sync::ledger::{Blank, Book, Ledger, Share};
 
-/// A count of steps that were taken, from 0. It takes no bytes, counting costs nothing when the program runs, and it never falls.
+/// A count of steps that were taken, from 0. It takes no bytes, counting costs nothing when the program runs, and it
+/// never falls.
 #[derive(Drop)]
 pub struct Steps<L: Ledger> {
     book: Book<L>,

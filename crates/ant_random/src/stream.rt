@@ -7,7 +7,8 @@ use crate::steps::Steps;
 use std::marker::{Brand, Model};
 use std::sync::ledger::{Blank, Ledger};
 
-/// The stream of random numbers of one seed, at a place: the count of numbers drawn so far, from 0, below 2^63 (number generation).
+/// The stream of random numbers of one seed, at a place: the count of numbers drawn so far, from 0, below 2^63 (number
+/// generation).
 #[derive(Debug, Drop)]
 pub struct Stream {
     seed: u32,
@@ -37,8 +38,8 @@ impl Stream {
         }
     }
 
-    /// The stream of a seed at a place, from 0 to 2^63 - 1. A step that `steps` counts is the making, the doubling or the use of an affine
-    /// step: at most two for each binary digit of the place, and two more.
+    /// The stream of a seed at a place, from 0 to 2^63 - 1. A step that `steps` counts is the making, the doubling or
+    /// the use of an affine step: at most two for each binary digit of the place, and two more.
     pub fn at_place<L: Ledger>(seed: u32, place: u64, steps: &mut Steps<L>) -> Stream
         requires { place < 2 ^ 63 }
         ensures seed { result.seed ≡ seed }
@@ -77,8 +78,8 @@ impl Stream {
         self.seed
     }
 
-    /// A random number below n, which is at least 1: `x(place) mod n` (number generation). The place rises by one, also where n is 1, and
-    /// the seed stays.
+    /// A random number below n, which is at least 1: `x(place) mod n` (number generation). The place rises by one, also
+    /// where n is 1, and the seed stays.
     #[inline]
     pub fn draw(&mut self, n: u32) -> u32
         requires some { 1 ≤ n }

@@ -128,7 +128,8 @@ stays_kill_nobody : ((execute contest 12345 surrounded 0 middle (red_ant false) 
 unfolding is_surrounded check_at killed_at places_around with_foes put_cell same_pos neighbours_of adjacent_pos directions floor
 stays_kill_nobody = (refl, refl, refl)
 
--- a red ant behind the one that goes has five foes; it is beside the old cell and not beside the new one, so it isn't checked
+-- a red ant behind the one that goes has five foes; it is beside the old cell and not beside the new one, so it isn't
+-- checked
 abbrev behind : Cells
 behind = put_cell (put_cell (with_foes (at 1 3 ∷ at 0 3 ∷ at 0 2 ∷ at 0 1 ∷ at 1 1 ∷ [])) (at 1 2) (hill_cell Red 5)) middle (holding floor (red_ant false))
 
@@ -145,7 +146,8 @@ abbrev state_of : Option Ant → ℕ
 state_of None = 9
 state_of (Some ant) = ant.state
 
--- they take their turns by their ids, each by its side's brain, and share one stream: ant 0 gets 7193, ant 1 2932, and ant 2 10386
+-- they take their turns by their ids, each by its side's brain, and share one stream: ant 0 gets 7193, ant 1 2932, and
+-- ant 2 10386
 turns_by_id : map (λ p. state_of ((after_round (contest_minds (Flip 7193 1 2 ∷ Drop 1 ∷ Drop 2 ∷ []) (Flip 2932 1 2 ∷ Drop 1 ∷ Drop 2 ∷ [])) 12345 (start_of row)).world.cells p).ant) (at 1 1 ∷ at 2 1 ∷ at 3 1 ∷ []) ≡ 1 ∷ 1 ∷ 2 ∷ []
 unfolding after_round after_turn turn place_in cell_in opening floor rock put_cell same_pos drawn random_at state_at
 turns_by_id = refl

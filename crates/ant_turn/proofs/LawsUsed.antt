@@ -84,7 +84,8 @@ pub turns_draw_used : TurnsDraw → (minds : Minds) (seed : ℕ) →
     (5 ≤ (after_turns minds seed (record { world = start; place = 5 }) 0 3).place) × ((after_turns minds seed (record { world = start; place = 5 }) 0 3).place ≤ 8)
 turns_draw_used law minds seed = law minds seed (record { world = start; place = 5 }) 0 3
 
--- by the contest's rules each corpse is three particles more, and six less in weight; by those of heavy corpses the weight stays
+-- by the contest's rules each corpse is three particles more, and six less in weight; by those of heavy corpses the
+-- weight stays
 pub turns_keep_food_used : TurnsKeepFood → (red black : List Instr) (seed : ℕ) →
     food_of (with_cells start (turn (contest_minds red black) seed start 0 2).cells) ≡ food_of start + 3 * length (turn (contest_minds red black) seed start 0 2).killed
 turns_keep_food_used law red black seed = law (contest_minds red black) seed start 0 2 start_valid

@@ -1,5 +1,5 @@
--- What a turn does where ants are in other states and rest for longer or shorter: neither decides anything but what the ant does whose
--- turn it is.
+-- What a turn does where ants are in other states and rest for longer or shorter: neither decides anything but what the
+-- ant does whose turn it is.
 use Rattle.std.proofs.Common.{◌≡◌, ℕ, zero, suc, ◌+◌, ◌-◌, Bool, true, false, cond, if◌then◌else◌, nat_le, List, [], ◌∷◌, ◌++◌, length, filter, Option, Some, None, refl, sym, ap, ap₂, ◌∙◌, ◌&&◌, ◌||◌}
 use Rattle.std.specs.Prelude.{option_map, ◌==◌}
 use Rattle.std.proofs.Math.Path.{fun_ext}
@@ -33,7 +33,8 @@ cond-map : {A B : Type 0} (g : A → B) (b : Bool) (x y : A) → cond b (g x) (g
 cond-map g true x y = refl
 cond-map g false x y = refl
 
--- this ant acts alike: the other minds have, at the number of its state, its instruction with each state that it names mapped
+-- this ant acts alike: the other minds have, at the number of its state, its instruction with each state that it names
+-- mapped
 abbrev pub ActsAlike : (f : Colour → ℕ → ℕ) (minds other : Minds) → Ant → Type 0
 ActsAlike f minds other ant = instruction_at (mind_of other ant.colour) (f ant.colour ant.state) ≡ redirected (f ant.colour) (instruction_at (mind_of minds ant.colour) ant.state)
 

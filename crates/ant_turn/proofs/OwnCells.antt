@@ -24,9 +24,9 @@ pub same_marks : (colour : Colour) (old new : Cell) → new.red ≡ old.red → 
 same_marks Red old new red black = red
 same_marks Black old new red black = black
 
--- the new cell of an ant that stayed in a turn with this instruction: the ground, the hill and the ant are the same, the particles
--- that lay there or were carried do so still, the foe's markers are the same, and the ant's state is its old one or one that the
--- instruction names
+-- the new cell of an ant that stayed in a turn with this instruction: the ground, the hill and the ant are the same,
+-- the particles that lay there or were carried do so still, the foe's markers are the same, and the ant's state is its
+-- old one or one that the instruction names
 pub record Stays (instruction : Instr) (cell : Cell) (ant : Ant) (new : Cell) : Type 0 where
   pub after : Ant
   pub holds : new.ant ≡ Some after

@@ -96,7 +96,8 @@ unmark : (after (ant_of Red false) marked_cell floor (Unmark 3 7) ≡ then_in (a
 unfolding after around put_cell same_pos floor
 unmark = (refl, refl)
 
--- PickUp takes a particle and goes to its first state; where there is none, or the ant carries one, it goes to its second and changes nothing else
+-- PickUp takes a particle and goes to its first state; where there is none, or the ant carries one, it goes to its
+-- second and changes nothing else
 pick_up : (after (ant_of Red false) (record floor { food = 2 }) floor (PickUp 7 8) ≡ then_in (ant_of Red true) 7 (record floor { food = 1 }))
     × (after (ant_of Red false) floor floor (PickUp 7 8) ≡ then_in (ant_of Red false) 8 floor)
     × (after (ant_of Red true) (record floor { food = 2 }) floor (PickUp 7 8) ≡ then_in (ant_of Red true) 8 (record floor { food = 2 }))
@@ -185,7 +186,8 @@ homes : (said Home (record floor { hill = Some Red; food = 3 }) ≡ red_alone) �
 unfolding meets floor
 homes = (refl, refl, refl, refl)
 
--- one red ant in three by three cells that flips in each round: the second round goes on in the stream where the first stopped
+-- one red ant in three by three cells that flips in each round: the second round goes on in the stream where the first
+-- stopped
 flips-go_on : (after_rounds (contest_minds (Flip 4 0 1 ∷ Flip 4 2 1 ∷ Drop 2 ∷ []) (Drop 0 ∷ [])) 12345
     (start_of (world_of (opening 3 3 (Rock ∷ Rock ∷ Rock ∷ Rock ∷ RedHill ∷ Rock ∷ Rock ∷ Rock ∷ Rock ∷ [])))) 2).place ≡ 2
 unfolding after_round after_turn turn place_in cell_in opening floor rock put_cell same_pos drawn random_at state_at

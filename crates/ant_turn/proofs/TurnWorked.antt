@@ -21,7 +21,8 @@ use Rattle.ant_turn.specs.Kills.{check_around_at, check_at, is_surrounded, kille
 use Rattle.ant_turn.specs.Sheet.{contest}
 use Rattle.ant_turn.specs.Turn.{execute, in_state, with_ant}
 
--- the first number of seed 12345 is 7193, which leaves 2 modulo 3: `Flip 3 7 8` goes to 8, uses that number and kills nobody
+-- the first number of seed 12345 is 7193, which leaves 2 modulo 3: `Flip 3 7 8` goes to 8, uses that number and kills
+-- nobody
 flip-12345 : (cells : Cells) (p : Pos) (ant : Ant) → execute contest 12345 cells 0 p ant (Flip 3 7 8) ≡ record { cells = put_cell cells p (with_ant (cells p) (in_state ant 8)); drew = true; killed = [] }
 unfolding drawn random_at state_at
 flip-12345 cells p ant = refl
@@ -63,8 +64,8 @@ crowd =
     ∷ Rock ∷ Clear ∷ BlackHill ∷ BlackHill ∷ Clear ∷ Rock
     ∷ Rock ∷ Rock ∷ Rock ∷ Rock ∷ Rock ∷ Rock ∷ []
 
--- the red ant below the middle is surrounded, but the check to the right of the middle comes first and kills one of its five foes:
--- it lives, and of the killed there is that foe alone
+-- the red ant below the middle is surrounded, but the check to the right of the middle comes first and kills one of its
+-- five foes: it lives, and of the killed there is that foe alone
 first_kill_saves :
     (is_surrounded contest (cell_in (opening 6 6 crowd)) (record { x = 2; y = 3 }) ≡ true)
     × (killed_around contest (cell_in (opening 6 6 crowd)) middle ≡ 3 ∷ [])

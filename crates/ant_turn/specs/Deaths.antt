@@ -44,7 +44,8 @@ dead_by sheet cells p ant (Flip bound met unmet) = []
 
 -- in the turn of an ant that rests for so many more turns
 abbrev pub dead_after : ℕ → Minds → Cells → Pos → Ant → List (Option PlacedAnt)
-dead_after zero minds cells p ant = dead_by minds.sheet cells p ant (instruction_at (mind_of minds ant.colour) ant.state)
+dead_after zero minds cells p ant =
+    dead_by minds.sheet cells p ant (instruction_at (mind_of minds ant.colour) ant.state)
 dead_after (suc left) minds cells p ant = []
 
 -- in the turn of the ant of p, if there is one

@@ -23,12 +23,14 @@ living_of w = alive_of w Red + alive_of w Black
 -- a turn makes no food and loses none, but that each killed ant leaves a corpse
 abbrev pub TurnsKeepFood : Type 0
 TurnsKeepFood = (minds : Minds) (seed : ℕ) (w : World) (place t : ℕ) → Valid w →
-    food_of (world_after_turn minds seed w place t) ≡ food_of w + minds.sheet.corpse * length (killed_in minds seed w place t)
+    food_of (world_after_turn minds seed w place t)
+    ≡ food_of w + minds.sheet.corpse * length (killed_in minds seed w place t)
 
 -- a turn changes the weight by its kills alone: a corpse in place of an ant's nine
 abbrev pub TurnsKeepWeight : Type 0
 TurnsKeepWeight = (minds : Minds) (seed : ℕ) (w : World) (place t : ℕ) → minds.sheet.corpse ≤ 9 → Valid w →
-    weight (world_after_turn minds seed w place t) + (9 - minds.sheet.corpse) * length (killed_in minds seed w place t) ≡ weight w
+    weight (world_after_turn minds seed w place t) + (9 - minds.sheet.corpse) * length (killed_in minds seed w place t)
+    ≡ weight w
 
 -- as many ants fewer are alive after a turn as it killed
 abbrev pub TurnsKeepAnts : Type 0

@@ -25,14 +25,16 @@ abbrev pub hill_cells : List Cell → ℕ
 hill_cells [] = 0
 hill_cells (cell ∷ cells) = hill_cell_in cell + hill_cells cells
 
--- the world `now` has the hills of an earlier one: each cell is of the same hill, or of none as before, and there are as many
+-- the world `now` has the hills of an earlier one: each cell is of the same hill, or of none as before, and there are
+-- as many
 pub record HasHillsOf (earlier now : World) : Type 0 where
   pub each : (p : Pos) → (now.cells p).hill ≡ (earlier.cells p).hill
   pub count : hill_cells_of now ≡ hill_cells_of earlier
 
 -- turns keep the hills of a world that sound brains fit
 abbrev pub TurnsKeepHills : Type 0
-TurnsKeepHills = (minds : Minds) (seed : ℕ) (m : Moment) (from n : ℕ) → AreSound minds → Valid m.world → Fits m.world minds
+TurnsKeepHills =
+    (minds : Minds) (seed : ℕ) (m : Moment) (from n : ℕ) → AreSound minds → Valid m.world → Fits m.world minds
     → HasHillsOf m.world (after_turns minds seed m from n).world
 
 -- so do rounds
@@ -42,12 +44,18 @@ RoundsKeepHills = (minds : Minds) (seed : ℕ) (m : Moment) (r : ℕ) → AreSou
 
 -- the moment after r rounds of a game of the world of these kinds
 abbrev pub game_after : Minds → ℕ → ℕ → ℕ → List Kind → ℕ → Moment
-game_after minds seed width height kinds r = after_rounds minds seed (start_of (world_of (opening width height kinds))) r
+game_after minds seed width height kinds r =
+    after_rounds minds seed (start_of (world_of (opening width height kinds))) r
 
--- a game's world has at every round as many ids as hill cells, which are those of the kinds; and so has the list of its cells
+-- a game's world has at every round as many ids as hill cells, which are those of the kinds; and so has the list of its
+-- cells
 pub record GamesKeepHills : Type 0 where
-  pub ids : (minds : Minds) (seed width height : ℕ) (kinds : List Kind) (r : ℕ) → (game_after minds seed width height kinds r).world.ids ≡ hill_count kinds
-  pub count : (minds : Minds) (seed width height : ℕ) (kinds : List Kind) (r : ℕ) → IsPlan width height kinds → AreSound minds
+  pub ids : (minds : Minds) (seed width height : ℕ) (kinds : List Kind) (r : ℕ)
+      → (game_after minds seed width height kinds r).world.ids ≡ hill_count kinds
+  pub count : (minds : Minds) (seed width height : ℕ) (kinds : List Kind) (r : ℕ) → IsPlan width height kinds
+      → AreSound minds
       → hill_cells_of (game_after minds seed width height kinds r).world ≡ hill_count kinds
-  pub cells : (minds : Minds) (seed width height : ℕ) (kinds : List Kind) (r : ℕ) (g : Grid) → IsPlan width height kinds → AreSound minds
-      → length g.cells ≡ g.width * g.height → world_of g ≡ (game_after minds seed width height kinds r).world → hill_cells g.cells ≡ g.ids
+  pub cells : (minds : Minds) (seed width height : ℕ) (kinds : List Kind) (r : ℕ) (g : Grid) → IsPlan width height kinds
+      → AreSound minds
+      → length g.cells ≡ g.width * g.height → world_of g ≡ (game_after minds seed width height kinds r).world
+      → hill_cells g.cells ≡ g.ids

@@ -11,16 +11,21 @@ pub record KillsAlone (minds : Minds) (seed : ℕ) (w : World) (place t : ℕ) :
   -- the killed were alive
   pub were_alive : (u : ℕ) → Contains (killed_in minds seed w place t) u → IsSome (place_in w u)
   -- they are gone
-  pub are_gone : (u : ℕ) → Contains (killed_in minds seed w place t) u → place_in (world_after_turn minds seed w place t) u ≡ None
+  pub are_gone : (u : ℕ) → Contains (killed_in minds seed w place t) u
+      → place_in (world_after_turn minds seed w place t) u ≡ None
   -- and pairwise different
   pub differ : AllPairs ◌≢◌ (killed_in minds seed w place t)
   -- every other ant stays where it is, or dead, but that t itself may move
-  pub others_stay : (u : ℕ) → u ≢ t → (Contains (killed_in minds seed w place t) u → ⊥) → place_in (world_after_turn minds seed w place t) u ≡ place_in w u
+  pub others_stay : (u : ℕ) → u ≢ t → (Contains (killed_in minds seed w place t) u → ⊥)
+      → place_in (world_after_turn minds seed w place t) u ≡ place_in w u
   -- t itself stays alive where it isn't killed
-  pub own_lives : (Contains (killed_in minds seed w place t) t → ⊥) → IsSome (place_in w t) → IsSome (place_in (world_after_turn minds seed w place t) t)
+  pub own_lives : (Contains (killed_in minds seed w place t) t → ⊥) → IsSome (place_in w t)
+      → IsSome (place_in (world_after_turn minds seed w place t) t)
   -- and dead where it was
   pub dead_stay : place_in w t ≡ None → place_in (world_after_turn minds seed w place t) t ≡ None
 
 -- each turn does so
 abbrev pub TurnsKillAlone : Type 0
-TurnsKillAlone = (minds : Minds) (seed : ℕ) (w : World) (place t : ℕ) → minds.sheet.corpse ≤ 9 → Valid w → KillsAlone minds seed w place t
+TurnsKillAlone =
+    (minds : Minds) (seed : ℕ) (w : World) (place t : ℕ) → minds.sheet.corpse ≤ 9 → Valid w
+    → KillsAlone minds seed w place t

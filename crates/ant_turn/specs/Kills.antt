@@ -17,7 +17,8 @@ ants_among cells colour places = length (filter (λ q. is_ant_of colour (cells q
 -- whether the ant, if there is one, has foes on enough of these cells
 abbrev pub has_foes : Sheet → Cells → List Pos → Option Ant → Bool
 has_foes sheet cells places None = false
-has_foes sheet cells places (Some ant) = nat_le sheet.surround (length (filter (λ q. is_ant_of (foe_of ant.colour) (cells q).ant) places))
+has_foes sheet cells places (Some ant) =
+    nat_le sheet.surround (length (filter (λ q. is_ant_of (foe_of ant.colour) (cells q).ant) places))
 
 -- whether an ant stands at p and enough of its six neighbours hold ants of the other colour
 unfoldable pub is_surrounded : Sheet → Cells → Pos → Bool

@@ -64,19 +64,23 @@ renumbered_moment numbers colour m = record m { world = renumbered numbers colou
 
 -- the same of what a turn did: whether it drew, and whom it killed, stay
 abbrev pub renumbered_outcome : Numbers → Colour → Outcome → Outcome
-renumbered_outcome numbers colour outcome = record outcome { cells = renumbered_cells (side_states numbers colour) outcome.cells }
+renumbered_outcome numbers colour outcome =
+    record outcome { cells = renumbered_cells (side_states numbers colour) outcome.cells }
 
 -- the minds with another brain of this colour
 abbrev pub with_mind : Minds → Colour → List Instr → Minds
 with_mind minds Red brain = record minds { red = brain }
 with_mind minds Black brain = record minds { black = brain }
 
--- the numbers carry a brain over to another: the other has at a state's number the state's instruction with its successors
--- mapped, of the same kind and with the same parameters; and the successors of a state that has a number have numbers
+-- the numbers carry a brain over to another: the other has at a state's number the state's instruction with its
+-- successors mapped, of the same kind and with the same parameters; and the successors of a state that has a number
+-- have numbers
 pub record Carries (numbers : Numbers) (old new : List Instr) : Type 0 where
   pub inside : (state number : ℕ) → numbers state ≡ Some number → (state < length old) × (number < length new)
-  pub acts : (state number : ℕ) → numbers state ≡ Some number → instruction_at new number ≡ redirected (state_number numbers) (instruction_at old state)
-  pub onward : (state number : ℕ) → numbers state ≡ Some number → AllByRecursion (λ next. IsSome (numbers next)) (states_of (instruction_at old state))
+  pub acts : (state number : ℕ) → numbers state ≡ Some number
+      → instruction_at new number ≡ redirected (state_number numbers) (instruction_at old state)
+  pub onward : (state number : ℕ) → numbers state ≡ Some number
+      → AllByRecursion (λ next. IsSome (numbers next)) (states_of (instruction_at old state))
 
 -- the state of each ant of this colour has a number
 pub record AreNumbered (numbers : Numbers) (colour : Colour) (w : World) : Type 0 where

@@ -1,4 +1,5 @@
--- A turn and its rounds play alike under new numbers of a side's states (the task's kinetics; renumbering is this project's own).
+-- A turn and its rounds play alike under new numbers of a side's states (the task's kinetics; renumbering is this
+-- project's own).
 use Rattle.std.specs.Prelude.{◌≡◌, ℕ, List}
 use Rattle.cell_world.specs.declared.ant.Colour.{Colour}
 use Rattle.cell_world.specs.World.{World, with_cells}
@@ -8,21 +9,27 @@ use Rattle.ant_turn.specs.Renumber.{Numbers, Carries, AreNumbered, renumbered, r
 use Rattle.ant_turn.specs.Rounds.{Moment, after_rounds}
 use Rattle.ant_turn.specs.Turn.{turn}
 
--- where numbers carry a colour's brain over to another, and the state of each ant of that colour has a number, a turn commutes
--- with renumbering: it draws and kills as before, and its cells are the old turn's, renumbered; and it keeps that premise
+-- where numbers carry a colour's brain over to another, and the state of each ant of that colour has a number, a turn
+-- commutes with renumbering: it draws and kills as before, and its cells are the old turn's, renumbered; and it keeps
+-- that premise
 pub record TurnsRenumber : Type 0 where
-  pub commutes : (numbers : Numbers) (colour : Colour) (minds : Minds) (brain : List Instr) (seed : ℕ) (w : World) (place t : ℕ)
+  pub commutes : (numbers : Numbers) (colour : Colour) (minds : Minds) (brain : List Instr) (seed : ℕ)
+      (w : World) (place t : ℕ)
       → Carries numbers (mind_of minds colour) brain → AreNumbered numbers colour w →
-      turn (with_mind minds colour brain) seed (renumbered numbers colour w) place t ≡ renumbered_outcome numbers colour (turn minds seed w place t)
-  pub keeps : (numbers : Numbers) (colour : Colour) (minds : Minds) (brain : List Instr) (seed : ℕ) (w : World) (place t : ℕ)
+      turn (with_mind minds colour brain) seed (renumbered numbers colour w) place t
+      ≡ renumbered_outcome numbers colour (turn minds seed w place t)
+  pub keeps : (numbers : Numbers) (colour : Colour) (minds : Minds) (brain : List Instr) (seed : ℕ)
+      (w : World) (place t : ℕ)
       → Carries numbers (mind_of minds colour) brain → AreNumbered numbers colour w →
       AreNumbered numbers colour (with_cells w (turn minds seed w place t).cells)
 
 -- so do any number of rounds: the moment after them is the old game's, renumbered, at the same place of the stream
 pub record RoundsRenumber : Type 0 where
-  pub commutes : (numbers : Numbers) (colour : Colour) (minds : Minds) (brain : List Instr) (seed : ℕ) (m : Moment) (r : ℕ)
+  pub commutes : (numbers : Numbers) (colour : Colour) (minds : Minds) (brain : List Instr) (seed : ℕ)
+      (m : Moment) (r : ℕ)
       → Carries numbers (mind_of minds colour) brain → AreNumbered numbers colour m.world →
-      after_rounds (with_mind minds colour brain) seed (renumbered_moment numbers colour m) r ≡ renumbered_moment numbers colour (after_rounds minds seed m r)
+      after_rounds (with_mind minds colour brain) seed (renumbered_moment numbers colour m) r
+      ≡ renumbered_moment numbers colour (after_rounds minds seed m r)
   pub keeps : (numbers : Numbers) (colour : Colour) (minds : Minds) (brain : List Instr) (seed : ℕ) (m : Moment) (r : ℕ)
       → Carries numbers (mind_of minds colour) brain → AreNumbered numbers colour m.world →
       AreNumbered numbers colour (after_rounds minds seed m r).world

@@ -12,7 +12,10 @@ pub record Moment : Type 0 where
 
 -- the moment that an outcome makes of one
 abbrev pub moment_after : Moment → Outcome → Moment
-moment_after m outcome = record { world = record m.world { cells = outcome.cells }; place = m.place + one_if outcome.drew }
+moment_after m outcome = record {
+  world = record m.world { cells = outcome.cells };
+  place = m.place + one_if outcome.drew;
+}
 
 -- the moment after the turn of id t
 unfoldable pub after_turn : Minds → ℕ → Moment → ℕ → Moment

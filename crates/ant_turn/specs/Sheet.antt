@@ -2,7 +2,8 @@
 use Rattle.std.specs.Prelude.{ℕ}
 use Rattle.ant_turn.specs.declared.sheet.Sheet.{Sheet as GivenSheet}
 
--- how many foes at least surround an ant, how much food a killed ant leaves, and how many turns an ant rests after a Move
+-- how many foes at least surround an ant, how much food a killed ant leaves, and how many turns an ant rests after a
+-- Move
 pub record Sheet : Type 0 where
   pub surround : ℕ
   pub corpse : ℕ

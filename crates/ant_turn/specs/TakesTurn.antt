@@ -8,9 +8,10 @@ use Rattle.ant_turn.specs.declared.turn.Deed.{Deed}
 use Rattle.ant_turn.specs.Minds.{Minds, Fits}
 use Rattle.ant_turn.specs.Turn.{turn}
 
--- the ground's world and the stream are as the turn of t leaves them, and the deed says the rest; at most nine of the ground's room are
--- taken, and it stays a world in which each ant's state is in its colour's brain
-pub record TakesTurn (minds : Minds) (t : ℕ) (before after : World) (had left : ℕ) (s s' : SeedAndPlace) (deed : Deed) : Type 0 where
+-- the ground's world and the stream are as the turn of t leaves them, and the deed says the rest; at most nine of the
+-- ground's room are taken, and it stays a world in which each ant's state is in its colour's brain
+pub record TakesTurn (minds : Minds) (t : ℕ) (before after : World) (had left : ℕ) (s s' : SeedAndPlace)
+    (deed : Deed) : Type 0 where
   pub world : after ≡ with_cells before (turn minds s.seed before s.place t).cells
   pub stream : s' ≡ record s { place = s.place + one_if (turn minds s.seed before s.place t).drew }
   pub drew : deed.drew ≡ (turn minds s.seed before s.place t).drew

@@ -88,7 +88,8 @@ execute sheet seed cells place p ant (Sense sight met unmet condition) =
 execute sheet seed cells place p ant (Mark i next) = cell_becomes cells p (with_ant (marked (cells p) ant.colour i) (in_state ant next))
 -- the own colour's marker i is cleared on its own cell; the state becomes next
 execute sheet seed cells place p ant (Unmark i next) = cell_becomes cells p (with_ant (unmarked (cells p) ant.colour i) (in_state ant next))
--- if the ant carries food or its cell has none, the state becomes unmet; else one particle goes from the cell to the ant and the state becomes met
+-- if the ant carries food or its cell has none, the state becomes unmet; else one particle goes from the cell to the
+-- ant and the state becomes met
 execute sheet seed cells place p ant (PickUp met unmet) =
     cell_becomes cells p (if ant.laden || (cells p).food == 0
     then with_ant (cells p) (in_state ant unmet)
@@ -98,8 +99,8 @@ execute sheet seed cells place p ant (Drop next) =
     cell_becomes cells p (record (cells p) { food = (cells p).food + one_if ant.laden; ant = Some (record ant { laden = false; state = next }) })
 -- the direction turns Left or Right; the state becomes next
 execute sheet seed cells place p ant (Turn side next) = ant_becomes cells p (record ant { facing = turned_by ant.facing side; state = next })
--- if the cell ahead is rocky or holds an ant, the state becomes unmet; else the ant moves there, the state becomes met, it rests,
--- and the new cell and its six neighbours are checked
+-- if the cell ahead is rocky or holds an ant, the state becomes unmet; else the ant moves there, the state becomes met,
+-- it rests, and the new cell and its six neighbours are checked
 execute sheet seed cells place p ant (Move met unmet) =
     let ahead = adjacent_pos p ant.facing in
     if (cells ahead).rocky || is_some (cells ahead).ant
@@ -113,10 +114,11 @@ execute sheet seed cells place p ant (Flip bound met unmet) =
 abbrev pub instruction_at : List Instr → ℕ → Instr
 instruction_at mind state = slice_index_or mind state (Drop 0)
 
--- the turn of the ant of p, by its resting count: where that is above 0, it falls by one and nothing else happens; else the instruction
--- at its state in its colour's brain is executed. Each state of an ant has one, so `Drop 0` never comes
+-- the turn of the ant of p, by its resting count: where that is above 0, it falls by one and nothing else happens; else
+-- the instruction at its state in its colour's brain is executed. Each state of an ant has one, so `Drop 0` never comes
 abbrev pub acts : ℕ → Minds → ℕ → Cells → ℕ → Pos → Ant → Outcome
-acts zero minds seed cells place p ant = execute minds.sheet seed cells place p ant (slice_index_or (mind_of minds ant.colour) ant.state (Drop 0))
+acts zero minds seed cells place p ant =
+    execute minds.sheet seed cells place p ant (slice_index_or (mind_of minds ant.colour) ant.state (Drop 0))
 acts (suc left) minds seed cells place p ant = ant_becomes cells p (record ant { resting = left })
 
 -- the turn at a position that may hold an ant

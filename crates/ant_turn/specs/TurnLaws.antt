@@ -12,7 +12,9 @@ use Rattle.ant_turn.specs.Turn.{turn}
 
 -- all brains fit the world at the start of a game
 abbrev pub OpeningsFit : Type 0
-OpeningsFit = (width height : ℕ) (kinds : List Kind) (minds : Minds) → 1 ≤ length minds.red → 1 ≤ length minds.black → Fits (world_of (opening width height kinds)) minds
+OpeningsFit =
+    (width height : ℕ) (kinds : List Kind) (minds : Minds) → 1 ≤ length minds.red → 1 ≤ length minds.black
+    → Fits (world_of (opening width height kinds)) minds
 
 -- a turn keeps a world that sound brains fit
 abbrev pub TurnsKeep : Type 0

@@ -1,7 +1,7 @@
 // Turns and rounds keep the hills.
 ghost use Rattle.ant_turn.specs.HillLaws.{GamesKeepHills, RoundsKeepHills, TurnsKeepHills};
 
-/// A law: any number of turns keeps which cells are of which hill, and so how many hill cells there are (the task's geography).
+/// A law: any number of turns keeps the hill of each cell, and so the number of hill cells (the task's geography).
 pub fn turns_keep_hills()
     ensures { TurnsKeepHills }
 {}
@@ -11,8 +11,8 @@ pub fn rounds_keep_hills()
     ensures { RoundsKeepHills }
 {}
 
-/// A law: at every round a game's world has as many ids as hill cells, since it had them at the start: each hill cell was born with an ant
-/// (the task's geography and biology).
+/// A law: at every round a game's world has as many ids as hill cells, since it had them at the start: each hill cell
+/// was born with an ant (the task's geography and biology).
 pub fn games_keep_hills()
     ensures { GamesKeepHills }
 {}

@@ -18,7 +18,7 @@ use ant_random::Stream;
 use brain_read::Instr;
 use cell_world::{Ant, Cell};
 
-/// What the turn of an ant that stays where it is makes of its own cell (the task's kinetics; the pair is this project's own).
+/// How the turn of an ant that doesn't move changes its own cell (the task's kinetics; the pair is this project's own).
 #[derive(Clone, Copy)]
 pub struct InPlace {
     /// The cell after the turn, with the ant.
@@ -36,12 +36,14 @@ fn undrawn(cell: Cell) -> InPlace
     InPlace { cell, drew: false }
 }
 
-/// The instruction of an ant that stays where it is, executed on its own cell: of a Move nothing but the state on a cell that is blocked
-/// ahead, and all of any other (the task's kinetics). Whatever the other cells are, and wherever the ant stands, what the instruction does
-/// is that its cell becomes the one that is given; nothing else changes, and nobody is killed.
+/// The instruction of an ant that doesn't move, executed on its own cell (the task's kinetics). Of a Move onto a
+/// blocked cell that is the new state only; of any other instruction it is everything. Whatever the other cells are,
+/// and wherever the ant is, the instruction replaces its cell by the returned one; nothing else changes, and no ant is
+/// killed.
 ///
-/// `own` is the ant's cell, with food as on a cell of a world; `seen` is the cell that the ant senses, if the instruction is a Sense, and
-/// any cell else. The instruction is sound. The stream stands below 2^63 - 1 and goes on by one number exactly where it is a Flip.
+/// `own` is the ant's cell, with food as on a cell of a world. `seen` is the cell that the ant senses, if the
+/// instruction is a Sense; otherwise it may be any cell. The instruction is sound. The stream is below 2^63 - 1; it
+/// advances by one number if the instruction is a Flip, and not otherwise.
 #[inline]
 pub fn turn_in_place(
     own: &Cell,

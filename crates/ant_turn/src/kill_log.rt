@@ -6,7 +6,8 @@ ghost use Rattle.ant_turn.specs.Deaths.{with_noted};
 use arrayvec::ArrayVec;
 use cell_world::PlacedAnt;
 
-/// What notes the ants that are killed in a turn, each where and as it stood when it was killed (the task's martial arts). A turn needs room for 7.
+/// What notes the ants that are killed in a turn, each where and as it stood when it was killed (the task's martial
+/// arts). A turn needs room for 7.
 pub trait KillLog {
     /// Those that it has noted, where it tells them; each is there.
     ghost noted: { Self → Option (List (Option PlacedAnt)) };
@@ -14,7 +15,7 @@ pub trait KillLog {
     /// For how many more it has room.
     ghost room: { Self → ℕ };
 
-    /// Notes one more, behind the others.
+    /// Notes one more, after the others.
     fn note(&mut self, killed: PlacedAnt)
         requires { 1 ≤ room self.old }
         ensures noted { noted self.new ≡ with_noted (Some killed ∷ []) (noted self.old) }

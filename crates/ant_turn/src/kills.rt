@@ -17,9 +17,10 @@ use arrayvec::ArrayVec;
 use cell_world::{Ant, Cell, Ground, PlacedAnt};
 use hex_geometry::{Pos, neighbours};
 
-/// Whether an ant is at `p` and foes of it are on as many of the six neighbours as the sheet asks for, or more (the task's martial arts).
+/// Whether an ant is at `p` and at least as many of the six neighbours have foes of it as the sheet requires (the
+/// task's martial arts).
 ///
-/// The position is inside and not on the rim. The ground's world and room stay.
+/// The position is inside and not on the rim. The ground's world and room stay unchanged.
 pub fn surrounded<G: Ground>(ground: &mut G, sheet: Sheet, p: Pos) -> bool
     requires { IsInner (G.world ground.old).width (G.world ground.old).height p }
     ensures surrounded { result ≡ kill.is_surrounded (sheet_of sheet) (G.world ground.old).cells p }
@@ -34,11 +35,12 @@ pub fn surrounded<G: Ground>(ground: &mut G, sheet: Sheet, p: Pos) -> bool
     has_foes(ground, p, &ant, sheet.surround())
 }
 
-/// Checks `p` and then its six neighbours in the order of directions: an ant that is surrounded when its cell is checked is killed,
-/// and leaves the sheet's corpse of food there, and the particle that it carried (the task's martial arts; the order is this project's own).
+/// Checks `p` and then its six neighbours in the order of directions: an ant that is surrounded when its cell is
+/// checked is killed, and leaves the sheet's corpse of food there, and the particle that it carried (the task's martial
+/// arts; the order is this project's own).
 ///
-/// The position is inside and not on the rim, and the ground has room for 7 cells. Gives the ids of the killed, in the order of the
-/// checks. No other cell changes.
+/// The position is inside and not on the rim, and the ground has room for 7 cells. Gives the ids of the killed, in the
+/// order of the checks. No other cell changes.
 #[inline(always)]
 pub fn check_around<G: Ground>(ground: &mut G, sheet: Sheet, p: Pos) -> ArrayVec<u32, 7>
     requires inner { IsInner (G.world ground.old).width (G.world ground.old).height p }
@@ -77,8 +79,8 @@ pub(crate) fn kill_around<G: Ground, N: KillLog>(
     killed
 }
 
-// The check of one cell: where its ant is surrounded, kills it and adds it to the killed. Most checked cells hold no ant, so it is
-// part of the loop over rounds and ids, and the count of foes alone is a call.
+// The check of one cell: where its ant is surrounded, kills it and adds it to the killed. Most checked cells hold no
+// ant, so it is part of the loop over rounds and ids, and the count of foes alone is a call.
 #[inline(always)]
 fn check<G: Ground, N: KillLog>(
     ground: &mut G,

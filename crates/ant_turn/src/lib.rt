@@ -1,12 +1,13 @@
 //! One turn of the ant world, over any ground.
 //!
-//! The task's phenomenology, martial arts and kinetics: which cells meet a condition, which ants are surrounded and killed, and what
-//! the ant of an id does in its turn. `take_turn` makes any `Ground`'s world what the definition of a turn says; `after_turns` and
-//! `after_rounds` of the definitions are such turns one after another, which a game folds. The laws say in the task's own words what
-//! turns do: food is kept but for corpses, the killed are gone and nobody else, a turn changes only what is near.
-//! Three numbers of the rules are this project's own to set, by a `Sheet` that goes with the brains: how many foes surround, how much food
-//! a killed ant leaves, and how long an ant rests. `Sheet::contest` has the task's; every law holds for every sheet.
-//! No call takes memory or is refused. This crate stands on `brain_read`, `cell_world` and `ant_random`.
+//! The task's phenomenology, martial arts and kinetics: which cells meet a condition, which ants are surrounded and
+//! killed, and what the ant of an id does in its turn. `take_turn` turns any `Ground`'s world into the one that the
+//! definition of a turn gives. `after_turns` and `after_rounds` of the definitions are such turns one after another, as
+//! a game plays them. The laws state in the task's own words what turns do: food is kept except for corpses; the killed
+//! ants are gone, and no others; a turn changes only what is near. Three numbers of the rules can be set, which is this
+//! project's own, by a `Sheet` that goes with the brains: how many foes surround an ant, how much food a killed ant
+//! leaves, and how long an ant rests. `Sheet::contest` has the task's numbers; every law holds for every sheet. No call
+//! takes memory or fails. This crate depends on `brain_read`, `cell_world` and `ant_random`.
 #![tactic(auto)]
 
 mod brains;

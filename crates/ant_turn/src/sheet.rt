@@ -1,9 +1,9 @@
 // The numbers of the rules that a game may set.
 ghost use Rattle.std.specs.Prelude.{◌≤◌};
 
-/// The numbers of the rules that a game may set (this project's own; the task's martial arts and kinetics have 5, 3 and 14): how many foes
-/// surround an ant, from 4 to 6; how many food particles a killed ant leaves besides the one that it carried, at most 9; and for how many
-/// turns an ant rests after a Move that went, from 0 to 255.
+/// The numbers of the rules that a game may set (this project's own; the task's martial arts and kinetics have 5, 3 and
+/// 14): how many foes surround an ant, from 4 to 6; how many food particles a killed ant leaves besides the one that it
+/// carried, at most 9; and for how many turns an ant rests after a Move that went, from 0 to 255.
 #[derive(Clone, Copy)]
 pub struct Sheet {
     surround: u8,
@@ -18,7 +18,7 @@ impl Sheet {
     ghost use Rattle.std.specs.Prelude.{◌≡◌};
     ghost use Rattle.ant_turn.specs.Sheet.{contest, sheet_of};
 
-    /// The sheet of these numbers: `surround` is from 4 to 6, `corpse` is at most 9 and `rest` is any.
+    /// The sheet of these numbers: `surround` is from 4 to 6, `corpse` is at most 9, and `rest` is any number.
     #[inline]
     pub fn new(surround: u8, corpse: u8, rest: u8) -> Sheet
         requires enough { 4 ≤ surround }
@@ -33,8 +33,8 @@ impl Sheet {
         }
     }
 
-    /// The contest's sheet: 5 foes surround an ant, a killed ant leaves 3 particles, and an ant rests for 14 turns (the task's martial arts
-    /// and kinetics).
+    /// The contest's sheet: 5 foes surround an ant, a killed ant leaves 3 particles, and an ant rests for 14 turns (the
+    /// task's martial arts and kinetics).
     #[inline]
     pub fn contest() -> Sheet
         ensures { sheet_of result ≡ contest }
@@ -42,7 +42,8 @@ impl Sheet {
         Sheet::new(5, 3, 14)
     }
 
-    /// How many of the six neighbours of an ant must hold foes so that it is surrounded: from 4 to 6 (the task's martial arts).
+    /// How many of the six neighbours of an ant must hold foes so that it is surrounded: from 4 to 6 (the task's
+    /// martial arts).
     #[inline]
     pub fn surround(&self) -> u8
         ensures { result ≡ (sheet_of self.now).surround }
@@ -50,7 +51,8 @@ impl Sheet {
         self.surround
     }
 
-    /// How many food particles a killed ant leaves, besides the one that it carried: at most 9 (the task's martial arts).
+    /// How many food particles a killed ant leaves, besides the one that it carried: at most 9 (the task's martial
+    /// arts).
     #[inline]
     pub fn corpse(&self) -> u8
         ensures { result ≡ (sheet_of self.now).corpse }

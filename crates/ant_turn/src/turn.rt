@@ -27,8 +27,8 @@ use brain_read::Instr;
 use cell_world::{Ant, Cell, Ground, PlacedAnt};
 use hex_geometry::{Pos, adjacent, sensed};
 
-/// What a turn did besides changing the ground (this project's own; the draw and the kills are the task's number generation and martial
-/// arts).
+/// What a turn did besides changing the ground (this project's own; the draw and the kills are the task's number
+/// generation and martial arts).
 #[derive(Drop)]
 pub struct Deed {
     /// Whether a random number was drawn, as by each Flip and by nothing else.
@@ -208,8 +208,8 @@ fn execute<G: Ground>(
     }
 }
 
-/// Takes the turn of an ant that was found at its place and doesn't rest: executes the instruction of its state (the task's
-/// kinetics). `take_turn` is the same by an id.
+/// Takes the turn of an ant that was found at its place and doesn't rest: executes the instruction of its state (the
+/// task's kinetics). `take_turn` is the same by an id.
 #[inline(always)]
 pub fn act<G: Ground>(
     ground: &mut G,
@@ -230,8 +230,8 @@ pub fn act<G: Ground>(
     execute(ground, brains.sheet, stream, standing, instruction)
 }
 
-/// The same, and notes each killed ant in the order of the checks, where and as it stood when it was killed. The acting ant
-/// has moved to the cell ahead by then (the task's martial arts). `notes` has room for 7.
+/// The same, and notes each killed ant in the order of the checks, where and as it stood when it was killed. The acting
+/// ant has moved to the cell ahead by then (the task's martial arts). `notes` has room for 7.
 #[inline(always)]
 pub fn take_turn_noting_kills<G: Ground, N: KillLog>(
     ground: &mut G,
@@ -258,11 +258,13 @@ pub fn take_turn_noting_kills<G: Ground, N: KillLog>(
     }
 }
 
-/// Takes the turn of the ant of this id: nothing where it is dead; one turn less to rest where it rests; else the instruction at its
-/// state in its colour's brain, by the rules with the numbers of the brains' sheet (the task's kinetics).
+/// Takes the turn of the ant of this id (the task's kinetics). A dead ant does nothing. A resting ant rests one turn
+/// less. Any other ant executes the instruction at its state in its colour's brain, by the rules with the numbers of
+/// the brains' sheet.
 ///
-/// The id is below the number of ids, each ant's state is below the length of its colour's brain, and stays so. The stream stands below
-/// 2^63 - 1 and goes on by one number exactly where a Flip was executed. The ground has room for 9 cells. Gives what was done besides.
+/// The id is below the number of ids. Each ant's state is below the length of its colour's brain, and stays so. The
+/// stream is below 2^63 - 1; it advances by one number if a Flip was executed, and not otherwise. The ground has room
+/// for 9 cells. It returns what was done besides.
 #[inline(always)]
 pub fn take_turn<G: Ground>(
     ground: &mut G,

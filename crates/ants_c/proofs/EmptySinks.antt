@@ -1,4 +1,5 @@
--- A run over two sinks that held something is a run over two empty ones, and leaves in each what it held with the run's text behind.
+-- A run over two sinks that held something is a run over two empty ones, and leaves in each what it held with the run's
+-- text behind.
 use Rattle.std.proofs.Common.{◌≡◌, ◌∙◌, ap, sym, refl, append-nil, ℕ, List, [], ◌∷◌, ◌++◌, drop, length, arith, Some, inl, inr}
 use Rattle.std.specs.Prelude.{Ok, Err}
 use Rattle.ant_base.specs.Fetched.{Fetched}

@@ -49,7 +49,8 @@ long_text = refl
 long_line : call_status [] (1 ∷ 2 ∷ []) (lent [] 0 (0 ∷ []) 0 no_fault) (RefusedWord 1) ≡ 4
 long_line = refl
 
--- the fault that a caller lends stays where a line is too long, and where a run is done, and is written where a word is refused
+-- the fault that a caller lends stays where a line is too long, and where a run is done, and is written where a word is
+-- refused
 fault_stays : call_fault [] [] [] (1 ∷ 2 ∷ []) (lent [] 0 (0 ∷ []) 0 some_fault) (RefusedWord 1) ≡ some_fault
 fault_stays = refl
 
@@ -73,7 +74,8 @@ file_as_command = refl
 last_word : word_naming (codes "b") (codes "run" ∷ codes "run" ∷ codes "a" ∷ codes "b" ∷ []) ≡ 4
 last_word = refl
 
--- the world `w` of `run w a b`, the last of four files, has an open rim in column 4 of row 2: `rim open at (4, 2)` has 18 bytes
+-- the world `w` of `run w a b`, the last of four files, has an open rim in column 4 of row 2: `rim open at (4, 2)` has
+-- 18 bytes
 world_refused : ending_fault (codes "run" ∷ codes "w" ∷ codes "a" ∷ codes "b" ∷ []) (codes "a" ∷ codes "b" ∷ codes "c" ∷ codes "w" ∷ []) (Stopped (AtInput (codes "w") (Text (World (OpenRim 4 2)))))
     ≡ Some (record { text = 4; kind = 17; line = 2; column = 4; number = 0; words = 18 })
 unfolding digits

@@ -40,11 +40,13 @@ shelf_with files = shelf_of (record { files = files; failing = []; calls = 0; fa
 abbrev pub holding : List ℕ → SinkState
 holding bytes = record { held = Some bytes; waiting = Some []; faults = 0 }
 
--- the program ran with these words over these files and ended so; it wrote this text, and reported this line, which is the whole line of its
--- ending
-pub record Runs (words : List (List ℕ)) (files : List (List ℕ × List ℕ)) (text line : List ℕ) (ending : Ending) : Type 0 where
+-- the program ran with these words over these files and ended so; it wrote this text, and reported this line, which is
+-- the whole line of its ending
+pub record Runs (words : List (List ℕ)) (files : List (List ℕ × List ℕ)) (text line : List ℕ)
+    (ending : Ending) : Type 0 where
   pub shelf : ShelfState
-  pub run : IsRun (words_without_far words) (outside_of (shelf_with files) (holding []) (holding [])) (outside_of shelf (holding text) (holding line)) (ending_status ending)
+  pub run : IsRun (words_without_far words) (outside_of (shelf_with files) (holding []) (holding []))
+      (outside_of shelf (holding text) (holding line)) (ending_status ending)
   pub is_ending : run.ending ≡ ending
   pub is_line : line ≡ ending_line ending
 
@@ -68,13 +70,15 @@ have_room text line lent = nat_le (length text) (length lent.out) && nat_le (len
 abbrev pub call_status : List ℕ → List ℕ → Lent → Ending → ℕ
 call_status text line lent ending = if have_room text line lent then status_number (ending_status ending) else 4
 
--- the fault after a call: how the run ended, in numbers, where the text and the line have room and the ending has numbers; otherwise as before
+-- the fault after a call: how the run ended, in numbers, where the text and the line have room and the ending has
+-- numbers; otherwise as before
 abbrev pub call_fault : List (List ℕ) → List (List ℕ) → List ℕ → List ℕ → Lent → Ending → AntsFault
 call_fault words names text line lent ending = if have_room text line lent then unwrap_or (ending_fault words names ending) lent.fault else lent.fault
 
--- the program ran so over files of these names: its text and its line lie over the rooms, their bytes were counted, and the status and the
--- fault say how it ended; it never ends at its output, whose number is 4
-pub record IsCalled (words names : List (List ℕ)) (files : List (List ℕ × List ℕ)) (before after : Lent) (status : ℕ) : Type 0 where
+-- the program ran so over files of these names: its text and its line lie over the rooms, their bytes were counted, and
+-- the status and the fault say how it ended; it never ends at its output, whose number is 4
+pub record IsCalled (words names : List (List ℕ)) (files : List (List ℕ × List ℕ)) (before after : Lent)
+    (status : ℕ) : Type 0 where
   pub text : List ℕ
   pub line : List ℕ
   pub ending : Ending

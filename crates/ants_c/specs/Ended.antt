@@ -31,13 +31,15 @@ word_naming name words = number_of 2 name (drop 1 words)
 abbrev pub at_word : ℕ → AntsFault
 at_word number = record { text = 0; kind = 0; line = 0; column = 0; number = number; words = 0 }
 
--- how a run with these words over files of these names ended, in numbers: the refused word, the word that names a file that isn't there, the
--- file that is refused and its fault, or the element that has no room; an ending of any other kind has none
+-- how a run with these words over files of these names ended, in numbers: the refused word, the word that names a file
+-- that isn't there, the file that is refused and its fault, or the element that has no room; an ending of any other
+-- kind has none
 abbrev pub ending_fault : List (List ℕ) → List (List ℕ) → Ending → Option AntsFault
 ending_fault words names Done = None
 ending_fault words names (RefusedWord word) = Some (at_word word)
 ending_fault words names (Stopped (AtFile name)) = Some (at_word (word_naming name words))
 ending_fault words names (Stopped AtOutput) = None
-ending_fault words names (Stopped (AtInput name fault)) = Some (told_fault (record { text = file_named name names; fault = File fault }))
+ending_fault words names (Stopped (AtInput name fault)) =
+    Some (told_fault (record { text = file_named name names; fault = File fault }))
 ending_fault words names (Stopped (AtRoom element)) = Some (told_fault (record { text = 0; fault = NoRoom element }))
 ending_fault words names (Stopped AtMemory) = None

@@ -55,7 +55,8 @@ AreRising least (round ∷ rounds) = (least ≤ round) × (round ≤ most_rounds
 
 -- the ants after each of these rounds, one round behind the other
 abbrev pub ants_after : (world : Grid) (red black : List Instr) (seed : ℕ) → List ℕ → List AntsAnt
-ants_after world red black seed rounds = flat_map (λ round. seen_ants (world_after (contest_minds red black) seed (world_of world) round)) rounds
+ants_after world red black seed rounds =
+    flat_map (λ round. seen_ants (world_after (contest_minds red black) seed (world_of world) round)) rounds
 
 -- three texts are a game's, of which so many ids were made
 pub record HasIds (world_text red_text black_text : List ℕ) (ids : ℕ) : Type 0 where
@@ -66,9 +67,11 @@ pub record HasIds (world_text red_text black_text : List ℕ) (ids : ℕ) : Type
   pub made : ids ≡ world.ids
 
 -- and after each of these rounds its score and its ants stand in front of the caller's rooms; what is behind them stays
-pub record AreLooked (world_text red_text black_text : List ℕ) (seed : ℕ) (rounds : List ℕ) (scores new_scores : List AntsScore) (ants new_ants : List AntsAnt) (ids : ℕ) : Type 0 where
+pub record AreLooked (world_text red_text black_text : List ℕ) (seed : ℕ) (rounds : List ℕ)
+    (scores new_scores : List AntsScore) (ants new_ants : List AntsAnt) (ids : ℕ) : Type 0 where
   pub game : HasIds world_text red_text black_text ids
-  pub scored : new_scores ≡ map (λ round. game_score game.world game.red game.black round seed) rounds ++ drop (length rounds) scores
+  pub scored : new_scores
+      ≡ map (λ round. game_score game.world game.red game.black round seed) rounds ++ drop (length rounds) scores
   pub seen : new_ants ≡ ants_after game.world game.red game.black seed rounds ++ drop (length rounds * ids) ants
 
 -- the caller's rooms are too small for the scores or the ants of so many rounds

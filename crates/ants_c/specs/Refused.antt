@@ -10,7 +10,8 @@ use Rattle.ants_c.specs.declared.refusal.CallFault.TheVariants.{File}
 use Rattle.ants_c.specs.declared.refusal.Refusal.{Refusal}
 
 -- the text of this number is refused, since it is too long or since this is wrong with it
-pub record IsRefusedText (number : ℕ) (Wrong : List ℕ → TextFault → Type 0) (text : List ℕ) (refusal : Refusal) : Type 0 where
+pub record IsRefusedText (number : ℕ) (Wrong : List ℕ → TextFault → Type 0) (text : List ℕ)
+    (refusal : Refusal) : Type 0 where
   pub fault : TextFault
   pub why : IsRefusal Wrong text fault
   pub is : refusal ≡ record { text = number; fault = File (Text fault) }

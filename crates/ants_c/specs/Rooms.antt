@@ -1,7 +1,8 @@
 -- The caller's room, and what is laid over it (this project's own).
 use Rattle.std.specs.Prelude.{◌≡◌, ◌⊎◌, ◌≤◌, ℕ, min, List, [], ◌∷◌, length, take, drop, nat_le, if◌then◌else◌}
 
--- a room with a text laid over it, byte by byte from its front on: what the text doesn't reach stays, and what the room doesn't hold is left out
+-- a room with a text laid over it, byte by byte from its front on: what the text doesn't reach stays, and what the room
+-- doesn't hold is left out
 abbrev pub overlaid : List ℕ → List ℕ → List ℕ
 overlaid [] text = []
 overlaid (byte ∷ room) [] = byte ∷ room
@@ -29,7 +30,8 @@ Writes status = (status ≡ 0) ⊎ (status ≡ 4)
 abbrev pub behind : List ℕ → List ℕ → List ℕ
 behind room log = drop (length room) log
 
--- what was pushed lies over what the room held at first, and its bytes are counted; the log has both, one behind the other
+-- what was pushed lies over what the room held at first, and its bytes are counted; the log has both, one behind the
+-- other
 pub record IsLaid (room : List ℕ) (pushed : ℕ) (log : List ℕ) : Type 0 where
   pub long : length room ≤ length log
   pub laid : room ≡ overlaid (take (length room) log) (drop (length room) log)

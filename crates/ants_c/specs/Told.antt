@@ -44,4 +44,5 @@ numbered number (Err (text.Refused fault)) = Err (Refused (record { text = numbe
 -- what a stopped call answers, and what it does to the fault and to the room for words that the caller lent
 abbrev pub IsStopped : Stop → ℕ → AntsFault → AntsFault → List ℕ → List ℕ → Type 0
 IsStopped OutOfMemory status fault told before after = (status ≡ 6) × (told ≡ fault) × (after ≡ before)
-IsStopped (Refused refusal) status fault told before after = (status ≡ 5) × (told ≡ told_fault refusal) × (after ≡ overlaid before (fault_words refusal.fault))
+IsStopped (Refused refusal) status fault told before after =
+    (status ≡ 5) × (told ≡ told_fault refusal) × (after ≡ overlaid before (fault_words refusal.fault))

@@ -1,4 +1,5 @@
--- The version of the library (this project's own). It is the program's, and that of each package and module: .ci/documents holds them all equal.
+-- The version of the library (this project's own). It is the program's, and that of each package and module:
+-- .ci/documents holds them all equal.
 use Rattle.std.specs.Prelude.{ℕ, List, codes}
 
 -- what `ants_version` writes, and the program's `--version` behind `ants `

@@ -51,7 +51,8 @@ fn run_in_rooms<'w>(
     run_alone(alloc, words, &mut shelf, output, errors)
 }
 
-/// How the program ran: how it ended, how many bytes it wrote and reported, and what the two rooms held with these behind.
+/// How the program ran: how it ended, how many bytes it wrote and reported, and what the two rooms held with these
+/// behind.
 #[derive(Drop)]
 pub struct Ran<'w> {
     pub ended: Ended<'w>,

@@ -74,7 +74,8 @@ fn ending_fault(words: &[u8], names: &[u8], ended: Ended<'_>) -> Option<AntsFaul
     }
 }
 
-/// Says how a run with these words over files of these names ended, in numbers, where it was refused or a file wasn't there.
+/// Says how a run with these words over files of these names ended, in numbers, where it was refused or a file wasn't
+/// there.
 pub fn tell_ending(words: &[u8], names: &[u8], ended: Ended<'_>, fault: &mut AntsFault)
     ensures { fault.new ≡ unwrap_or (ending_fault (lines_of words.now) (lines_of names.now) (plain_ending ended.entry)) fault.old }
 {

@@ -70,8 +70,9 @@ fn copied(alloc: Global, content: &[u8]) -> Result<Vec<u8>, FetchFault>
     Ok(content.to_vec(alloc)?)
 }
 
-/// A shelf of the caller's files (this project's own). It reads them where they lie, and copies a file when it is fetched. It is sure of each
-/// name that it has, and a fetch of any other name fails. The count of faults stops at the last value of a u64.
+/// A shelf of the caller's files (this project's own). It reads them where they lie, and copies a file when it is
+/// fetched. It is sure of each name that it has, and a fetch of any other name fails. The count of faults stops at the
+/// last value of a u64.
 #[derive(Drop)]
 pub struct LentShelf<'f> {
     names: &'f [u8],

@@ -1,10 +1,11 @@
 //! The simulator for programs in C, Python, Rust and other languages: a static library, whose exports have contracts.
 //!
-//! Each export takes texts as bytes and writes its answer into room that the caller lends. None keeps anything, and none has a precondition:
-//! whatever a caller passes wrongly is a status. The statuses are the program's: 0 done, 2 a number beyond its limits, 4 the room is too small,
-//! 5 a text is refused, 6 out of memory. `ants_call`, which runs every command of the program, also returns 1 if its arguments can't be read,
-//! 2 if the words are not a command, and 3 if a file isn't there. What names no section of the contest's task is this project's own. This
-//! crate builds on the readers, on `match_run` and on `ant_commands`.
+//! Each export takes texts as bytes and writes its answer into room that the caller lends. None keeps anything, and
+//! none has a precondition: whatever a caller passes wrongly is a status. The statuses are the program's: 0 done, 2 a
+//! number beyond its limits, 4 the room is too small, 5 a text is refused, 6 out of memory. `ants_call`, which runs
+//! every command of the program, also returns 1 if its arguments can't be read, 2 if the words are not a command, and 3
+//! if a file isn't there. What names no section of the contest's task is this project's own. This crate builds on the
+//! readers, on `match_run` and on `ant_commands`.
 #![tactic(auto)]
 
 ghost use Rattle.std.specs.Prelude.{◌≡◌, ◌⊎◌, ◌↔◌, ◌<◌, ◌≤◌, length};
@@ -71,9 +72,11 @@ pub extern "C" fn ants_version(out: &mut [u8], used: &mut usize) -> u32
 }
 
 /// Plays a game by the contest's rules, turn after turn, and gives its score (the task's game play). The status is
-/// - 0: the texts are those of a world and of two brains, and the score is that of their game after so many rounds with this seed;
+/// - 0: the texts are those of a world and of two brains, and the score is that of their game after so many rounds with
+///   this seed;
 /// - 2: there are more than 1,000,000 rounds;
-/// - 5: a text is refused, the first one that is; the fault says which and why, and its words are laid over `words`, as far as they go;
+/// - 5: a text is refused, the first one that is; the fault says which and why, and its words are laid over `words`, as
+///   far as they go;
 /// - 6: memory could not be had.
 ///
 /// The score is written at 0 alone, the fault and the words at 5 alone.
@@ -116,12 +119,12 @@ pub extern "C" fn ants_score(
     }
 }
 
-/// Plays a game as `ants_score` does for each of these seeds, and reads the texts once (the task's game play). The status is that of
-/// `ants_score`, or
+/// Plays a game as `ants_score` does for each of these seeds, and reads the texts once (the task's game play). The
+/// status is that of `ants_score`, or
 /// - 4: there is room for fewer scores than there are seeds.
 ///
-/// The scores are written at 0 alone, in the order of the seeds, and those behind them stay; the fault and the words at 5 alone. It takes
-/// memory for as many scores, and for a copy of the world.
+/// The scores are written at 0 alone, in the order of the seeds, and those behind them stay; the fault and the words at
+/// 5 alone. It takes memory for as many scores, and for a copy of the world.
 #[unsafe(no_mangle)]
 #[tactic(auto, using(crate::proofs::Stops::stopped_tells))]
 pub extern "C" fn ants_scores(
@@ -163,13 +166,14 @@ pub extern "C" fn ants_scores(
     }
 }
 
-/// Plays a game as `ants_score` does, and looks at it after each of these rounds: its score, and the ants of all ids that were made, in order, those
-/// of one round behind those of the round before (the task's game play and biology). The status is that of `ants_score`, or
+/// Plays a game as `ants_score` does, and looks at it after each of these rounds: its score, and the ants of all ids
+/// that were made, in order, those of one round behind those of the round before (the task's game play and biology).
+/// The status is that of `ants_score`, or
 /// - 2: a round is not above the one before it, or above 1,000,000;
 /// - 4: there is room for fewer scores than there are rounds, or for fewer ants than the rounds have together.
 ///
-/// `ids` is how many ants a round has, at 0 and at 4. The scores and the ants are written at 0 alone, and those behind them stay; the fault and the
-/// words at 5 alone.
+/// `ids` is how many ants a round has, at 0 and at 4. The scores and the ants are written at 0 alone, and those behind
+/// them stay; the fault and the words at 5 alone.
 #[unsafe(no_mangle)]
 #[tactic(auto, using(crate::proofs::Stops::stopped_tells))]
 pub extern "C" fn ants_look(

@@ -1,4 +1,5 @@
--- Two instructions are one, or not: an instruction is made again from its numbers, and two lists of numbers are one or not.
+-- Two instructions are one, or not: an instruction is made again from its numbers, and two lists of numbers are one or
+-- not.
 use Rattle.std.proofs.Common.{◌≡◌, ◌⊎◌, inl, inr, ℕ, List, [], ◌∷◌, slice_index, refl, sym, ◌∙◌, ap, ap₂}
 use Rattle.std.proofs.lemmas.Bool.{both_ways, cases_Bool}
 use Rattle.std.proofs.lemmas.Slice.Eq.{bytes_eq-Decides}

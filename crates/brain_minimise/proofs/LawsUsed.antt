@@ -1,4 +1,5 @@
--- Each law of minimised brains, used on the brain of ten states and its eight: a law that says less, or that asks for more, doesn't give these.
+-- Each law of minimised brains, used on the brain of ten states and its eight: a law that says less, or that asks for
+-- more, doesn't give these.
 use Rattle.std.proofs.Common.{◌≡◌, ℕ, ◌<◌, ◌≤◌, List, Option, Some, length, map, arith}
 use Rattle.ant_turn.specs.Minds.{Minds, contest_minds}
 use Rattle.ant_turn.specs.Renumber.{redirected, renumbered_moment, state_number, with_mind}
@@ -39,7 +40,8 @@ different_stay_used law new others is differ =
 abbrev tens : Minds
 tens = contest_minds ten ten
 
--- by the eight in red's place the game is the same, with the same score and the same dumps, but for the states of red's ants
+-- by the eight in red's place the game is the same, with the same score and the same dumps, but for the states of red's
+-- ants
 plays_alike_used : PlaysAlike → (kinds : List Kind) → game (with_mind tens Red eight) 12345 7 6 kinds 5 ≡ renumbered_moment (new_number numbers) Red (game tens 12345 7 6 kinds 5)
 plays_alike_used law kinds = law tens Red eight numbers 12345 7 6 kinds 5 ten_minimised
 

@@ -20,12 +20,13 @@ AreRelated related [] (b ∷ others) = ⊥
 AreRelated related (a ∷ states) [] = ⊥
 AreRelated related (a ∷ states) (b ∷ others) = (related a b ≡ true) × AreRelated related states others
 
--- related states are a state of the first brain and one of the second, have the same kind and the same sight, condition, marker, side or
--- bound, and their successors are related place by place
+-- related states are a state of the first brain and one of the second, have the same kind and the same sight,
+-- condition, marker, side or bound, and their successors are related place by place
 pub record IsBisimulation (first second : List Instr) (related : Relation) : Type 0 where
   pub inside : (a b : ℕ) → related a b ≡ true → (a < length first) × (b < length second)
   pub shape : (a b : ℕ) → related a b ≡ true → shape_of (instruction_at first a) ≡ shape_of (instruction_at second b)
-  pub onward : (a b : ℕ) → related a b ≡ true → AreRelated related (states_of (instruction_at first a)) (states_of (instruction_at second b))
+  pub onward : (a b : ℕ) → related a b ≡ true
+      → AreRelated related (states_of (instruction_at first a)) (states_of (instruction_at second b))
 
 -- two states of a brain are equivalent: some bisimulation of it and itself relates them
 pub record AreEquivalent (brain : List Instr) (a b : ℕ) : Type 0 where

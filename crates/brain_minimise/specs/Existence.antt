@@ -6,4 +6,6 @@ use Rattle.brain_minimise.specs.Minimised.{IsMinimised}
 
 -- each brain has a minimised one
 abbrev pub HasMinimised : Type 0
-HasMinimised = (brain : List Instr) → IsBrain brain → (new : List Instr) × (numbers : List (Option ℕ)) × IsMinimised brain new numbers
+HasMinimised =
+    (brain : List Instr) → IsBrain brain
+    → (new : List Instr) × (numbers : List (Option ℕ)) × IsMinimised brain new numbers

@@ -8,23 +8,31 @@ use Rattle.brain_minimise.specs.Reach.{IsReachable}
 
 -- a brain is minimised to one brain, by one map
 abbrev pub OneMinimised : Type 0
-OneMinimised = (old new other : List Instr) (numbers others : List (Option ℕ)) → IsMinimised old new numbers → IsMinimised old other others
+OneMinimised =
+    (old new other : List Instr) (numbers others : List (Option ℕ)) → IsMinimised old new numbers
+    → IsMinimised old other others
     → (new ≡ other) × (numbers ≡ others)
 
 -- minimising a minimised brain changes nothing: the same brain comes out, and each state keeps its number
 abbrev pub TwiceIsOnce : Type 0
-TwiceIsOnce = (old new again : List Instr) (numbers others : List (Option ℕ)) → IsMinimised old new numbers → IsMinimised new again others →
+TwiceIsOnce =
+    (old new again : List Instr) (numbers others : List (Option ℕ)) → IsMinimised old new numbers
+    → IsMinimised new again others →
     (again ≡ new) × ((state : ℕ) → state < length new → new_number others state ≡ Some state)
 
--- a brain follows another by merging equivalent reachable states alone: each reachable state has become one of its states, and states that
--- became one are equivalent
+-- a brain follows another by merging equivalent reachable states alone: each reachable state has become one of its
+-- states, and states that became one are equivalent
 pub record Merges (old other : List Instr) (numbers : List (Option ℕ)) : Type 0 where
-  pub kept : (state : ℕ) → IsReachable old state → (number : ℕ) × (number < length other) × (new_number numbers state ≡ Some number)
-  pub merged : (a b number : ℕ) → new_number numbers a ≡ Some number → new_number numbers b ≡ Some number → AreEquivalent old a b
+  pub kept : (state : ℕ) → IsReachable old state
+      → (number : ℕ) × (number < length other) × (new_number numbers state ≡ Some number)
+  pub merged : (a b number : ℕ) → new_number numbers a ≡ Some number → new_number numbers b ≡ Some number
+      → AreEquivalent old a b
 
 -- no brain that follows so has fewer states than the minimised one
 abbrev pub FewestStates : Type 0
-FewestStates = (old new other : List Instr) (numbers others : List (Option ℕ)) → IsMinimised old new numbers → Merges old other others → length new ≤ length other
+FewestStates =
+    (old new other : List Instr) (numbers others : List (Option ℕ)) → IsMinimised old new numbers
+    → Merges old other others → length new ≤ length other
 
 -- no two states that can be reached are equivalent
 abbrev pub AreDifferent : List Instr → Type 0
@@ -44,12 +52,15 @@ left_of (o ∷ numbers) [] = []
 left_of (None ∷ numbers) (instruction ∷ brain) = left_of numbers brain
 left_of (Some number ∷ numbers) (instruction ∷ brain) = instruction ∷ left_of numbers brain
 
--- a brain of which no two reachable states are equivalent keeps its instructions, in their order, but for the unreachable states: the
--- number of each state is how many reachable ones stand before it, and where all can be reached nothing changes
+-- a brain of which no two reachable states are equivalent keeps its instructions, in their order, but for the
+-- unreachable states: the number of each state is how many reachable ones stand before it, and where all can be reached
+-- nothing changes
 pub record KeepsText (old new : List Instr) (numbers : List (Option ℕ)) : Type 0 where
   pub order : (state number : ℕ) → new_number numbers state ≡ Some number → number ≡ kept_before numbers state
   pub text : new ≡ map (redirected (state_number (new_number numbers))) (left_of numbers old)
   pub whole : ((state : ℕ) → state < length old → IsReachable old state) → new ≡ old
 
 abbrev pub DifferentStay : Type 0
-DifferentStay = (old new : List Instr) (numbers : List (Option ℕ)) → IsMinimised old new numbers → AreDifferent old → KeepsText old new numbers
+DifferentStay =
+    (old new : List Instr) (numbers : List (Option ℕ)) → IsMinimised old new numbers → AreDifferent old
+    → KeepsText old new numbers

@@ -12,18 +12,25 @@ use Rattle.ant_turn.specs.Minds.{Minds, mind_of}
 use Rattle.ant_turn.specs.Renumber.{renumbered_moment, with_mind}
 use Rattle.brain_minimise.specs.Minimised.{IsMinimised, new_number}
 
--- whatever the opening world, the other brain, the numbers of the rules, the seed, the side and the number of rounds: the game with
--- the minimised brain on that side is the game with the brain, but for the numbers of that side's states, at an equal place of the stream
+-- whatever the opening world, the other brain, the numbers of the rules, the seed, the side and the number of rounds:
+-- the game with the minimised brain on that side is the game with the brain, but for the numbers of that side's states,
+-- at an equal place of the stream
 abbrev pub PlaysAlike : Type 0
-PlaysAlike = (minds : Minds) (side : Colour) (brain : List Instr) (numbers : List (Option ℕ)) (seed width height : ℕ) (kinds : List Kind) (r : ℕ)
+PlaysAlike =
+    (minds : Minds) (side : Colour) (brain : List Instr) (numbers : List (Option ℕ)) (seed width height : ℕ)
+    (kinds : List Kind) (r : ℕ)
     → IsMinimised (mind_of minds side) brain numbers →
-    game (with_mind minds side brain) seed width height kinds r ≡ renumbered_moment (new_number numbers) side (game minds seed width height kinds r)
+    game (with_mind minds side brain) seed width height kinds r
+    ≡ renumbered_moment (new_number numbers) side (game minds seed width height kinds r)
 
 -- so the scores are equal
 abbrev pub ScoresAlike : Type 0
-ScoresAlike = (minds : Minds) (side : Colour) (brain : List Instr) (numbers : List (Option ℕ)) (seed width height : ℕ) (kinds : List Kind) (r : ℕ)
+ScoresAlike =
+    (minds : Minds) (side : Colour) (brain : List Instr) (numbers : List (Option ℕ)) (seed width height : ℕ)
+    (kinds : List Kind) (r : ℕ)
     → IsMinimised (mind_of minds side) brain numbers →
-    score_of (game (with_mind minds side brain) seed width height kinds r).world ≡ score_of (game minds seed width height kinds r).world
+    score_of (game (with_mind minds side brain) seed width height kinds r).world
+    ≡ score_of (game minds seed width height kinds r).world
 
 -- one ant as the other, but for its state where it is of this side
 abbrev pub IsMatchingAnt : Colour → Option Ant → Option Ant → Type 0
@@ -32,8 +39,8 @@ IsMatchingAnt side None (Some b) = ⊥
 IsMatchingAnt side (Some a) None = ⊥
 IsMatchingAnt side (Some a) (Some b) = (b ≡ record a { state = b.state }) × (a.colour ≢ side → b.state ≡ a.state)
 
--- one world as the other, but for the states of this side's ants: the sizes and the number of ids are equal, and each cell is the same but
--- for such a state
+-- one world as the other, but for the states of this side's ants: the sizes and the number of ids are equal, and each
+-- cell is the same but for such a state
 pub record DiffersInStates (side : Colour) (old new : World) : Type 0 where
   pub width : new.width ≡ old.width
   pub height : new.height ≡ old.height
@@ -43,6 +50,9 @@ pub record DiffersInStates (side : Colour) (old new : World) : Type 0 where
 
 -- so what a dump shows after any round differs in that side's states alone
 abbrev pub DumpsAlike : Type 0
-DumpsAlike = (minds : Minds) (side : Colour) (brain : List Instr) (numbers : List (Option ℕ)) (seed width height : ℕ) (kinds : List Kind) (r : ℕ)
+DumpsAlike =
+    (minds : Minds) (side : Colour) (brain : List Instr) (numbers : List (Option ℕ)) (seed width height : ℕ)
+    (kinds : List Kind) (r : ℕ)
     → IsMinimised (mind_of minds side) brain numbers →
-    DiffersInStates side (game minds seed width height kinds r).world (game (with_mind minds side brain) seed width height kinds r).world
+    DiffersInStates side (game minds seed width height kinds r).world
+    (game (with_mind minds side brain) seed width height kinds r).world

@@ -23,9 +23,11 @@ pub record IsMinimised (old new : List Instr) (numbers : List (Option ℕ)) : Ty
   pub kept : (state : ℕ) → IsReachable old state → IsSome (new_number numbers state)
   pub dropped : (state number : ℕ) → new_number numbers state ≡ Some number → IsReachable old state
   -- states of which one can't be told from the other have one number
-  pub alike : (a b : ℕ) → IsReachable old a → IsReachable old b → AreEquivalent old a b → new_number numbers a ≡ new_number numbers b
+  pub alike : (a b : ℕ) → IsReachable old a → IsReachable old b
+      → AreEquivalent old a b → new_number numbers a ≡ new_number numbers b
   -- and no others do
-  pub merged : (a b number : ℕ) → new_number numbers a ≡ Some number → new_number numbers b ≡ Some number → AreEquivalent old a b
+  pub merged : (a b number : ℕ) → new_number numbers a ≡ Some number → new_number numbers b ≡ Some number
+      → AreEquivalent old a b
   -- the instruction at a number is that of each of its states, with its successors renumbered
   pub acts : (state number : ℕ) → new_number numbers state ≡ Some number
       → slice_get new number ≡ Some (redirected (state_number (new_number numbers)) (instruction_at old state))

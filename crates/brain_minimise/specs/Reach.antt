@@ -8,4 +8,5 @@ use Rattle.ant_turn.specs.Turn.{instruction_at}
 -- state 0 can be reached, and from a state that can be each state that its instruction names
 pub data IsReachable (brain : List Instr) : ℕ → Type 0 where
   Start : IsReachable brain 0
-  Next : (state next : ℕ) → IsReachable brain state → Contains (states_of (instruction_at brain state)) next → IsReachable brain next
+  Next : (state next : ℕ) → IsReachable brain state → Contains (states_of (instruction_at brain state)) next
+      → IsReachable brain next

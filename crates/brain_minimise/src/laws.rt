@@ -7,26 +7,27 @@ pub fn one_minimised()
     ensures { OneMinimised }
 {}
 
-/// A law: minimising twice is minimising once: a minimised brain comes out as it is, and each of its states keeps its number.
+/// A law: minimising twice is minimising once. A minimised brain is unchanged, and each of its states keeps its number.
 pub fn twice_is_once()
     ensures { TwiceIsOnce }
 {}
 
-/// A law: no brain of fewer states than the minimised one follows from a brain by merging equivalent reachable states alone.
+/// A law: no brain of fewer states than the minimised one follows from a brain by merging equivalent reachable states
+/// alone.
 #[tactic(auto, using(crate::proofs::Ranks::fewest))]
 pub fn fewest_states()
     ensures { FewestStates }
 {}
 
-/// A law: a brain of which no two reachable states are equivalent keeps its instructions, in their order, but for the unreachable states;
-/// where all states can be reached nothing changes.
+/// A law: if no two reachable states of a brain are equivalent, it keeps its instructions in their order, except the
+/// unreachable states. If all states can be reached as well, nothing changes.
 pub fn different_stay()
     ensures { DifferentStay }
 {}
 
-/// A law: by any opening world, other brain, numbers of the rules, seed, side and number of rounds, the game with the minimised brain is
-/// the game with the brain, but for the numbers of that side's states, and it stands at an equal place of the stream (the task's kinetics
-/// and number generation).
+/// A law: for any opening world, other brain, numbers of the rules, seed, side and number of rounds, the game with the
+/// minimised brain is the game with the brain, except for the numbers of that side's states, and it is at an equal
+/// place of the stream (the task's kinetics and number generation).
 #[tactic(auto, using(crate::proofs::MinimisedGames::game_minimised))]
 pub fn plays_alike()
     ensures { PlaysAlike }
@@ -38,8 +39,9 @@ pub fn scores_alike()
     ensures { ScoresAlike }
 {}
 
-/// A law: so dumps of the two games differ in that side's state numbers alone: each cell has the same ground, hill, food and markers, and
-/// an ant of the same id, colour, direction, load and rest, of the same state too where it is of the other side (the task's game play).
+/// A law: so dumps of the two games differ in that side's state numbers alone. Each cell has the same ground, hill,
+/// food and markers, and an ant with the same id, colour, direction, load and rest. An ant of the other side has the
+/// same state too (the task's game play).
 #[tactic(auto, using(crate::proofs::MinimisedGames::dump_minimised))]
 pub fn dumps_alike()
     ensures { DumpsAlike }

@@ -19,19 +19,20 @@ pub struct Minimised {
     pub map: StateMap,
 }
 
-/// Merges the equivalent states of a brain among those that state 0 leads to, and drops all others (over the task's neurology).
+/// Merges the equivalent states of a brain among those that state 0 leads to, and drops all others (over the task's
+/// neurology).
 ///
-/// Two states are equivalent by the greatest relation in which related states have equal kinds and parameters and related successors. The
-/// kept states are numbered from 0 in rising order of their least reachable member; each has its members' instruction with the
-/// successors renumbered; no two of them are equivalent. The map is `None` exactly at the states that state 0 doesn't lead to. It is
-/// refused only when out of memory.
+/// Two states are equivalent by the greatest relation in which related states have equal kinds and parameters and
+/// related successors. The kept states are numbered from 0 in rising order of their least reachable member; each has
+/// its members' instruction with the successors renumbered; no two of them are equivalent. The map is `None` exactly at
+/// the states that state 0 doesn't lead to. It is refused only when out of memory.
 ///
-/// Each round parts every class into the states that do as its least member and the others, in one pass; there are at most as many
-/// rounds as classes come out. So the worst case is quadratic: 10,000 states in a chain, or of 10,000 kinds, take 10,000 rounds of
-/// 10,000 short steps.
+/// Each round parts every class into the states that do as its least member and the others, in one pass; there are at
+/// most as many rounds as classes come out. So the worst case is quadratic: 10,000 states in a chain, or of 10,000
+/// kinds, take 10,000 rounds of 10,000 short steps.
 ///
-/// Given the brain `Turn Left 1`, `Turn Left 0`, `Drop 2` it answers the brain `Turn Left 0`, and a map that says 0, 0 and `None`: states 0
-/// and 1 lead to each other and do the same, and nothing leads to state 2.
+/// Given the brain `Turn Left 1`, `Turn Left 0`, `Drop 2` it answers the brain `Turn Left 0`, and a map that says 0, 0
+/// and `None`: states 0 and 1 lead to each other and do the same, and nothing leads to state 2.
 pub fn minimise(alloc: Global, brain: &Brain) -> Result<Minimised, OutOfMemory>
     ensures { IfOk result (λ minimised. IsMinimised brain.now minimised.brain minimised.map) }
 {

@@ -3,8 +3,8 @@ ghost use Rattle.std.specs.Prelude.{◌≡◌, ◌<◌, length, slice_get, Some}
 
 use std::marker::Model;
 
-/// What became of each state of a minimised brain, by its old number from 0: the new number, or `None` where state 0 doesn't lead to it.
-/// Contracts see the list of the entries.
+/// What became of each state of a minimised brain, by its old number from 0: the new number, or `None` where state 0
+/// doesn't lead to it. Contracts see the list of the entries.
 #[derive(Drop)]
 pub struct StateMap {
     entries: Vec<Option<u16>>,
@@ -34,8 +34,8 @@ impl StateMap {
         self.entries.len()
     }
 
-    /// The new number of the old state `i`, counted from 0 and below the length, and `None` exactly where state 0 doesn't lead to it. It
-    /// takes no memory.
+    /// The new number of the old state `i`, counted from 0 and below the length; `None` if state 0 doesn't lead to it.
+    /// It takes no memory.
     #[inline]
     pub fn item(&self, i: usize) -> Option<u16>
         requires { i < length self.now }

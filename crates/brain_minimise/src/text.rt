@@ -8,8 +8,8 @@ use crate::state_map::StateMap;
 use ant_base::{Each, Failed, Layout, NumberedTexts, Sink, layout};
 use brain_read::{Brain, write_brain};
 
-/// Pushes how many states there were and how many were kept, in a line of comment, and then the canonical text of the minimised brain. At
-/// `Failed` a prefix of it was appended, and the sink's count of faults rose. It takes no memory.
+/// Pushes how many states there were and how many were kept, in a line of comment, and then the canonical text of the
+/// minimised brain. At `Failed` a prefix of it was appended, and the sink's count of faults rose. It takes no memory.
 pub fn push_minimised<K: Sink>(
     brain: &Brain,
     minimised: &Minimised,
@@ -23,9 +23,9 @@ pub fn push_minimised<K: Sink>(
     write_brain(&minimised.brain, sink)
 }
 
-/// A line for each old state, in order: its number and the new one, as `7 3`, or `9 dropped` where state 0 doesn't lead to it (this
-/// project's own). New state `3` stands in line 5 of what [`push_minimised`] pushes. At `Failed` a prefix of the lines was appended, and
-/// the sink's count of faults rose. It takes no memory.
+/// A line for each old state, in order: its number and the new one, as `7 3`, or `9 dropped` if state 0 doesn't lead to
+/// it (this project's own). New state `3` is in line 5 of the text that [`push_minimised`] pushes. If it returns
+/// `Failed`, a prefix of the lines was appended, and the sink's count of faults rose. It takes no memory.
 impl Layout for StateMap {
     ghost text = { states_text };
 

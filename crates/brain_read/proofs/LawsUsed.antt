@@ -27,7 +27,8 @@ flipping_text = record {
   states = ((omega arith, (omega arith, tt)), tt);
 }
 
--- any text has one of the two; that text has this brain alone; and a text that names marker 6 has one fault and no brain
+-- any text has one of the two; that text has this brain alone; and a text that names marker 6 has one fault and no
+-- brain
 pub one_brain_or_one_fault_used : OneBrainOrOneFault →
     ((text : List ℕ) → ((brain : List Instr) × IsBrainText text brain) ⊎ ((fault : BrainFault) × IsBrainFault text fault))
     × ((brain : List Instr) → IsBrainText (codes "flip 4294967295 0 0 ; for ever") brain → brain ≡ Flip 4294967295 0 0 ∷ [])

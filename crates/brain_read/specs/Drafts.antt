@@ -1,5 +1,5 @@
--- Instructions as they were read, before their states are held against the number of instructions; the clauses of `Draft` and `read_instruction`
--- rest on it (this project's own).
+-- Instructions as they were read, before their states are held against the number of instructions; the clauses of
+-- `Draft` and `read_instruction` rest on it (this project's own).
 use Rattle.std.specs.Prelude.{ℕ, Option, Some, None, Result, Ok, Err}
 use Rattle.brain_read.specs.Faulty.{first_not_below}
 use Rattle.brain_read.specs.Grammar.{states_of}

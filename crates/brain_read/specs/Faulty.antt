@@ -14,13 +14,15 @@ use Rattle.brain_read.specs.Grammar.{AreLines, states_of, StatesBelow}
 
 -- the fault of a line before which so many instructions stand
 abbrev pub line_fault : ℕ → TokenLine → Option BrainFault
-line_fault before line = option_or (too_many most_states TooMany before line.number) (first_fault line.number line.tokens (FormToken ∷ []))
+line_fault before line =
+    option_or (too_many most_states TooMany before line.number) (first_fault line.number line.tokens (FormToken ∷ []))
 
 -- the first state that isn't below n
 abbrev pub first_not_below : ℕ → List ℕ → Option ℕ
 first_not_below n states = find (λ state. not (nat_lt state n)) states
 
--- no line is at fault, and one names a state that isn't below the number of instructions, the first such; no line before it does
+-- no line is at fault, and one names a state that isn't below the number of instructions, the first such; no line
+-- before it does
 pub record HasNoSuchState (text : List ℕ) (fault : BrainFault) : Type 0 where
   pub before : List TokenLine
   pub line : TokenLine

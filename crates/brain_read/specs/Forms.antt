@@ -65,8 +65,11 @@ sides = Left ∷ Right ∷ []
 
 -- the words that begin a condition, in the order of their table
 abbrev pub conditions : List ConditionWord
-conditions = ConditionWord.Friend ∷ ConditionWord.Foe ∷ ConditionWord.FriendWithFood ∷ ConditionWord.FoeWithFood ∷ ConditionWord.Food
-    ∷ ConditionWord.Rock ∷ ConditionWord.Marker ∷ ConditionWord.FoeMarker ∷ ConditionWord.Home ∷ ConditionWord.FoeHome ∷ []
+conditions =
+    ConditionWord.Friend ∷ ConditionWord.Foe ∷ ConditionWord.FriendWithFood ∷ ConditionWord.FoeWithFood
+    ∷ ConditionWord.Food
+    ∷ ConditionWord.Rock ∷ ConditionWord.Marker ∷ ConditionWord.FoeMarker ∷ ConditionWord.Home ∷ ConditionWord.FoeHome
+    ∷ []
 
 -- the table of the words of forms
 unfoldable pub form_words : List (List ℕ)
@@ -99,7 +102,8 @@ fields_of_condition FoeHome = Word (codes "FoeHome") ∷ []
 
 -- how an instruction is spelled: the table of forms
 abbrev pub fields_of : Instr → List LineField
-fields_of (Sense sight met unmet condition) = Word (codes "Sense") ∷ Word (word_of_sight sight) ∷ Number met ∷ Number unmet ∷ fields_of_condition condition
+fields_of (Sense sight met unmet condition) =
+    Word (codes "Sense") ∷ Word (word_of_sight sight) ∷ Number met ∷ Number unmet ∷ fields_of_condition condition
 fields_of (Mark i next) = Word (codes "Mark") ∷ Number i ∷ Number next ∷ []
 fields_of (Unmark i next) = Word (codes "Unmark") ∷ Number i ∷ Number next ∷ []
 fields_of (PickUp met unmet) = Word (codes "PickUp") ∷ Number met ∷ Number unmet ∷ []

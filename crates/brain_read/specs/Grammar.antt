@@ -27,9 +27,11 @@ states_of (Flip bound met unmet) = met ∷ unmet ∷ []
 abbrev pub StatesBelow : ℕ → List Instr → Type 0
 StatesBelow n list = AllByRecursion (λ instruction. AllByRecursion (λ state. state < n) (states_of instruction)) list
 
--- the text is that of the brain: its lines that have a token are one instruction each, in order; there are 1 to 10,000 instructions; and each state that one names is below their number
+-- the text is that of the brain: its lines that have a token are one instruction each, in order; there are 1 to 10,000
+-- instructions; and each state that one names is below their number
 pub record IsBrainText (text : List ℕ) (brain : List Instr) : Type 0 where
   pub lines : AllZip InstrLine (filter has_any (map tokens_of (lines_of text))) brain
   pub some : 1 ≤ length brain
   pub few : length brain ≤ 10000
-  pub states : AllByRecursion (λ instruction. AllByRecursion (λ state. state < length brain) (states_of instruction)) brain
+  pub states :
+      AllByRecursion (λ instruction. AllByRecursion (λ state. state < length brain) (states_of instruction)) brain

@@ -1,4 +1,5 @@
--- Which position of a line is at fault; the clauses of `read_brain` rest on it (this project's own: the rule of faults).
+-- Which position of a line is at fault; the clauses of `read_brain` rest on it (this project's own: the rule of
+-- faults).
 use Rattle.std.specs.Prelude.{ℕ, List, [], ◌∷◌, ◌++◌, Option, Some, None, option_map, if◌then◌else◌}
 use Rattle.ant_base.specs.Number.{decimal_value, number_within}
 use Rattle.line_tokens.specs.Judgement.{nothing_more, judged}
@@ -50,12 +51,14 @@ fault_of MarkerToken line = BadNumber line
 fault_of StateToken line = BadNumber line
 fault_of BoundToken line = BadNumber line
 
--- The fault of the first position at fault, if there is one. The positions are judged from the left: one without a token is MissingToken, a token
--- with a bad byte is BadByte, one that its position doesn't accept has that position's fault, and one beyond the last position is ExtraToken.
+-- The fault of the first position at fault, if there is one. The positions are judged from the left: one without a
+-- token is MissingToken, a token with a bad byte is BadByte, one that its position doesn't accept has that position's
+-- fault, and one beyond the last position is ExtraToken.
 abbrev pub first_fault : ℕ → List (List ℕ) → List Position → Option BrainFault
 first_fault line [] [] = None
 first_fault line [] (position ∷ positions) = Some (MissingToken line)
 first_fault line (token ∷ tokens) [] = Some (if has_bad_byte token then BadByte line else ExtraToken line)
 first_fault line (token ∷ tokens) (position ∷ positions) =
     if has_bad_byte token then Some (BadByte line)
-    else judged (accepted position token) (fault_of position line) (λ brings. first_fault line tokens (brings ++ positions))
+    else judged (accepted position token) (fault_of position line)
+    (λ brings. first_fault line tokens (brings ++ positions))

@@ -1,5 +1,5 @@
--- What stands at each place of the tables of words. The clauses of `positions` and `form_at` rest on it; those of `read_brain` and `write_brain` don't
--- (this project's own).
+-- What stands at each place of the tables of words. The clauses of `positions` and `form_at` rest on it; those of
+-- `read_brain` and `write_brain` don't (this project's own).
 use Rattle.std.specs.Prelude.{ℕ, if◌then◌else◌, ◌==◌}
 use Rattle.hex_geometry.specs.declared.direction.Side.{Side}
 use Rattle.hex_geometry.specs.declared.direction.Side.TheVariants.{Left, Right}

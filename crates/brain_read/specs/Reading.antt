@@ -1,5 +1,5 @@
--- What is read of the tokens of a line, form by form. The clause `step` of `read_instruction` rests on it; its other clauses and those of
--- `read_brain` don't (this project's own).
+-- What is read of the tokens of a line, form by form. The clause `step` of `read_instruction` rests on it; its other
+-- clauses and those of `read_brain` don't (this project's own).
 use Rattle.std.specs.Prelude.{ℕ, List, Ok}
 use Rattle.brain_read.specs.declared.instr.Instr.{Instr}
 use Rattle.brain_read.specs.declared.instr.Instr.TheVariants.{Sense, Mark, Unmark, PickUp, Drop, Turn, Move, Flip}

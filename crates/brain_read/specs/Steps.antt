@@ -1,5 +1,5 @@
--- One token after another: what is read of the tokens of a line, or why the first position at fault refuses. The clauses of `Tokens` and
--- `positions` rest on it; those of `read_brain` don't (this project's own).
+-- One token after another: what is read of the tokens of a line, or why the first position at fault refuses. The
+-- clauses of `Tokens` and `positions` rest on it; those of `read_brain` don't (this project's own).
 use Rattle.std.specs.Prelude.{ℕ, ◌+◌, List, length, Ok, Err}
 use Rattle.hex_geometry.specs.declared.direction.Side.{Side}
 use Rattle.hex_geometry.specs.declared.neighbourhood.Sight.{Sight}

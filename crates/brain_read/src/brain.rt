@@ -12,8 +12,8 @@ use std::slice;
 /// The largest number of instructions of a brain, and so of its states (the task's neurology).
 pub const MOST_STATES: usize = 10_000;
 
-/// A brain: 1 to 10,000 instructions, by state from 0. Every state that they name is below their number, every marker is below 6 and
-/// every bound is at least 1 (the task's neurology). Contracts see the list of the instructions.
+/// A brain: 1 to 10,000 instructions, by state from 0. Every state that they name is below their number, every marker
+/// is below 6 and every bound is at least 1 (the task's neurology). Contracts see the list of the instructions.
 #[derive(Drop)]
 pub struct Brain {
     list: Vec<Instr>,
@@ -32,8 +32,8 @@ impl Model for Brain {
 }
 
 impl Brain {
-    /// The brain of this list, whose instruction at place i, from 0, is that of state i. It takes no memory and is never refused: the caller
-    /// knows that the list is a brain's (the task's neurology).
+    /// The brain of this list, whose instruction at place i, from 0, is that of state i. It takes no memory and is
+    /// never refused: the caller knows that the list is a brain's (the task's neurology).
     pub fn from_list(list: Vec<Instr>) -> Brain
         requires { IsBrain list.items }
         ensures { result ≡ list.items }
@@ -68,7 +68,7 @@ impl Brain {
         self.list[state as usize]
     }
 
-    /// The same instruction, lent, so that no more of it is read than is asked (the task's neurology).
+    /// The same instruction as a reference, so that a caller reads no more of it than it needs (the task's neurology).
     #[inline]
     pub fn instruction(&self, state: u16) -> &Instr
         requires { state < length self.now }

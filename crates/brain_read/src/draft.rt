@@ -4,8 +4,8 @@ ghost use Rattle.std.specs.Prelude.{◌≡◌, ◌≤◌, nat_lt, if◌then◌el
 use crate::instr::{Cond, Instr};
 use hex_geometry::{Side, Sight};
 
-/// An instruction as it was read, before its states are held against the number of instructions: they are numbers of any size, markers are
-/// from 0 to 5 and bounds at least 1 where it was read (the task's neurology).
+/// An instruction before its states are checked against the number of instructions. States are numbers of any size. If
+/// it was read from a text, markers are from 0 to 5 and bounds are at least 1 (the task's neurology).
 #[derive(Clone, Copy, Debug, PartialEq, Eq)]
 pub enum Draft {
     /// As [`Instr::Sense`].
@@ -55,7 +55,7 @@ pub enum Draft {
 impl Draft {
     ghost use Rattle.brain_read.specs.Drafts.{drafted, draft_settled};
 
-    /// An instruction as it is read from its own line (the task's neurology).
+    /// An instruction as its own line gives it (the task's neurology).
     pub fn of(instruction: Instr) -> Draft
         ensures { drafted result ≡ instruction }
     {
@@ -102,8 +102,8 @@ impl Draft {
         }
     }
 
-    /// The instruction of a brain of so many states, at most 65,536; or, in place of it, the first state that it names, in the order of its
-    /// line, which isn't below their number (the task's neurology).
+    /// The instruction of a brain with this number of states, at most 65,536. If it names a state that isn't below that
+    /// number, the first one in the order of its line is returned instead (the task's neurology).
     pub fn settle(self, states: u64) -> Result<Instr, u64>
         requires { states ≤ 65536 }
         ensures { result ≡ draft_settled states (drafted self) }

@@ -5,8 +5,8 @@ use std::alloc::{AllocError, AllocFailed};
 use std::error::Error;
 use std::fmt;
 
-/// The fault of a text that is no brain's: the first line at fault, with its first position at fault; where no line is at fault, `Empty` or
-/// `NoSuchState`. Lines are counted from 1, lines without a token included.
+/// The fault of a text that is no brain's: the first line at fault, with its first position at fault; where no line is
+/// at fault, `Empty` or `NoSuchState`. Lines are counted from 1, lines without a token included.
 #[derive(Clone, Copy, Debug, PartialEq, Eq)]
 pub enum BrainFault {
     /// A token has a byte that is none of tab, LF, CR and 32 to 126.
@@ -23,7 +23,8 @@ pub enum BrainFault {
     TooMany { line: u32 },
     /// No line has a token, so there is no instruction.
     Empty,
-    /// No line is at fault, and a state is not below the number of instructions: the first such line, and its first such state, from 0.
+    /// No line is at fault, and a state is not below the number of instructions: the first such line, and its first
+    /// such state, from 0.
     NoSuchState { line: u32, state: u64 },
     /// Memory could not be had; it says nothing of the text.
     OutOfMemory,
@@ -93,8 +94,8 @@ impl BrainFault {
     ghost use Rattle.std.specs.Prelude.{◌≡◌};
     ghost use Rattle.brain_read.specs.Refusals.{refusal_at};
 
-    /// The fault of the line of this number, from 1, that was refused so: `BadByte` where the token has a bad byte, else the fault of the
-    /// position.
+    /// The fault of the line of this number, from 1, that was refused so: `BadByte` where the token has a bad byte,
+    /// else the fault of the position.
     pub fn of_line(line: u32, refusal: Refusal) -> BrainFault
         ensures { result ≡ refusal_at line refusal }
     {

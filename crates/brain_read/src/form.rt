@@ -33,7 +33,8 @@ pub enum ConditionWord {
     FoeHome,
 }
 
-/// The words that begin an instruction, in the order of [`Form`], spelled as the canonical text has them (the task's neurology).
+/// The words that begin an instruction, in the order of [`Form`], spelled as the canonical text has them (the task's
+/// neurology).
 #[tactic(auto, unfolding(crate::specs::Forms::form_words))]
 pub fn form_table() -> WordTable<8>
     ensures { result ≡ form_words }
@@ -43,7 +44,8 @@ pub fn form_table() -> WordTable<8>
     ])
 }
 
-/// The form whose word stands at this place of [`form_table`], from 0 to 7; any place beyond them is that of `Flip` too (the task's neurology).
+/// The form whose word is at this place of [`form_table`], from 0 to 7; any higher place is `Flip` too (the task's
+/// neurology).
 pub fn form_at(place: usize) -> Form
     ensures { result ≡ places.form_at place }
 {
@@ -54,7 +56,8 @@ pub fn form_at(place: usize) -> Form
     )
 }
 
-/// The words of the sights, in the order of [`Sight`](hex_geometry::Sight), spelled as the canonical text has them (the task's geometry).
+/// The words of the sights, in the order of [`Sight`](hex_geometry::Sight), spelled as the canonical text has them (the
+/// task's geometry).
 #[tactic(auto, unfolding(crate::specs::Forms::sight_words))]
 pub fn sight_table() -> WordTable<4>
     ensures { result ≡ sight_words }
@@ -62,7 +65,8 @@ pub fn sight_table() -> WordTable<4>
     WordTable::new(["Here", "Ahead", "LeftAhead", "RightAhead"])
 }
 
-/// The words of the sides, in the order of [`Side`](hex_geometry::Side), spelled as the canonical text has them (the task's geometry).
+/// The words of the sides, in the order of [`Side`](hex_geometry::Side), spelled as the canonical text has them (the
+/// task's geometry).
 #[tactic(auto, unfolding(crate::specs::Forms::side_words))]
 pub fn side_table() -> WordTable<2>
     ensures { result ≡ side_words }
@@ -70,7 +74,8 @@ pub fn side_table() -> WordTable<2>
     WordTable::new(["Left", "Right"])
 }
 
-/// The words that begin a condition, in the order of [`ConditionWord`], spelled as the canonical text has them (the task's phenomenology).
+/// The words that begin a condition, in the order of [`ConditionWord`], spelled as the canonical text has them (the
+/// task's phenomenology).
 #[tactic(auto, unfolding(crate::specs::Forms::condition_words))]
 pub fn condition_table() -> WordTable<10>
     ensures { result ≡ condition_words }

@@ -26,7 +26,8 @@ pub enum Cond {
     FoeHome,
 }
 
-/// One instruction of a brain (the task's neurology). States are from 0 to 9,999, markers from 0 to 5, the bound of a Flip is at least 1.
+/// One instruction of a brain (the task's neurology). States are from 0 to 9,999, markers from 0 to 5, the bound of a
+/// Flip is at least 1.
 #[derive(Clone, Copy, Debug, PartialEq, Eq)]
 pub enum Instr {
     /// Goes to `yes` where the sensed cell meets the condition, else to `no`.
@@ -65,7 +66,7 @@ pub enum Instr {
         yes: u16,
         no: u16,
     },
-    /// Draws a number below the bound, and goes to `yes` where it is 0, else to `no`.
+    /// Draws a number below the bound, and goes to `yes` if it is 0, otherwise to `no`.
     Flip {
         bound: u32,
         yes: u16,

@@ -1,11 +1,12 @@
 //! Brains: their instructions, and their text read and written.
 //!
-//! The task's neurology. A [`Brain`] is a list of 1 to 10,000 instructions in which every named state is below the length, every marker
-//! is below 6 and every bound is at least 1. Above, it promises that [`read_brain`] answers exactly the brain of a text or exactly its
-//! fault, and that [`write_brain`] pushes the one canonical text, which is read as that brain again. What other texts of instructions
-//! share stands public here: one instruction [read](read_instruction) and printed as a [`Draft`], the [`positions`] of its line and the
-//! tables of words. It stands on the sinks, lines and numbers of `ant_base`, the tokens of `line_tokens`, the tables of `word_table` and the
-//! sides and sights of `hex_geometry`.
+//! The task's neurology. A [`Brain`] is a list of 1 to 10,000 instructions in which every named state is below the
+//! length, every marker is below 6 and every bound is at least 1. It promises that [`read_brain`] returns exactly the
+//! brain of a text or exactly its fault, and that [`write_brain`] pushes the one canonical text, which is read as the
+//! same brain again. The parts that other texts of instructions share are public here: one instruction
+//! [read](read_instruction) and printed as a [`Draft`], the [`positions`] of its line, and the tables of words. The
+//! crate depends on the sinks, lines and numbers of `ant_base`, the tokens of `line_tokens`, the tables of
+//! `word_table`, and the sides and sights of `hex_geometry`.
 //!
 //! What names no section of the contest's task is this project's own.
 #![tactic(auto)]

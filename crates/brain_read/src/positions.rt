@@ -1,6 +1,6 @@
-//! The positions of an instruction's line (the task's neurology). Each call takes the next token and gives what it stands for, or refuses:
-//! `MissingToken` where no token is left, `UnknownWord` and `BadNumber` where the token is none of the position. A token that is refused is passed, and
-//! those behind it are left.
+//! The positions of an instruction's line (the task's neurology). Each call takes the next token and returns its
+//! meaning or a refusal: `MissingToken` if no token is left, `UnknownWord` or `BadNumber` if the token doesn't fit the
+//! position. A refused token is consumed; those after it remain.
 ghost use Rattle.std.specs.Prelude.{◌≡◌, drop, length};
 ghost use Rattle.brain_read.specs.Judgement.{positions_of_condition};
 ghost use Rattle.line_tokens.specs.Steps.{with_rest};
@@ -46,7 +46,8 @@ fn side_at(place: usize) -> Side
     word_arms!(place; Side::Left, Side::Right)
 }
 
-/// The next token, which should be a state: any number of 1 to 10 digits, from 0 to 9,999,999,999 (the task's neurology).
+/// The next token, which should be a state: any number of 1 to 10 digits, from 0 to 9,999,999,999 (the task's
+/// neurology).
 #[tactic(auto, unfolding(crate::specs::Steps::take_state))]
 pub fn state(tokens: &mut Tokens) -> Result<u64, Refusal>
     ensures step { steps.take_state tokens.old ≡ with_rest tokens.new result }
@@ -65,7 +66,8 @@ pub fn marker(tokens: &mut Tokens) -> Result<u8, Refusal>
     Ok(number as u8)
 }
 
-/// The next token, which should be a bound, from 1 to 4,294,967,295 (the task's neurology; the largest bound is this project's own).
+/// The next token, which should be a bound, from 1 to 4,294,967,295 (the task's neurology; the largest bound is this
+/// project's own).
 #[tactic(auto, unfolding(crate::specs::Steps::take_bound))]
 pub fn bound(tokens: &mut Tokens) -> Result<u32, Refusal>
     ensures step { steps.take_bound tokens.old ≡ with_rest tokens.new result }
@@ -75,8 +77,8 @@ pub fn bound(tokens: &mut Tokens) -> Result<u32, Refusal>
     Ok(number as u32)
 }
 
-/// The next token, which should be the word of a condition, in any ASCII case; after `Marker` also the token behind it, which should be
-/// the marker, from 0 to 5 (the task's phenomenology).
+/// The next token, which should be the word of a condition, in any ASCII case. After `Marker` it also takes the next
+/// one, which should be the marker, from 0 to 5 (the task's phenomenology).
 #[tactic(auto, unfolding(crate::specs::Steps::take_condition))]
 pub fn condition(tokens: &mut Tokens) -> Result<Cond, Refusal>
     ensures step { steps.take_condition tokens.old ≡ with_rest tokens.new result }

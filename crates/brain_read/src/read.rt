@@ -29,12 +29,12 @@ pub struct DraftLine {
     pub draft: Draft,
 }
 
-/// The brain of a text of at most 4,194,304 bytes, or the text's fault (the task's neurology; the faults and their order are
-/// this project's own). `OutOfMemory` may be answered at any text; every other answer follows from the text alone, since every text
-/// has one brain or one fault.
+/// The brain of a text of at most 4,194,304 bytes, or the text's fault (the task's neurology; the faults and their
+/// order are this project's own). `OutOfMemory` may be answered at any text; every other answer follows from the text
+/// alone, since every text has one brain or one fault.
 ///
-/// Given `Move 0 1\nTurn Left 0\n` it answers the brain in which state 0 moves and state 1 turns. Given `Move 0 1\n` it answers
-/// `NoSuchState { line: 1, state: 1 }`, and given nothing `Empty`.
+/// Given `Move 0 1\nTurn Left 0\n` it answers the brain in which state 0 moves and state 1 turns. Given `Move 0 1\n` it
+/// answers `NoSuchState { line: 1, state: 1 }`, and given nothing `Empty`.
 pub fn read_brain(alloc: Global, text: &[u8]) -> Result<Brain, BrainFault>
     requires { length text.now ≤ longest }
     ensures brain { IfOk result (λ brain. IsBrainText text.now brain) }

@@ -18,9 +18,9 @@ use crate::instr::{Cond, Instr};
 use ant_base::{Failed, Layout, Sink, layout};
 use hex_geometry::{Side, Sight};
 
-/// Pushes the canonical text of a brain: one line for each instruction, its words as the tables spell them and its numbers without leading
-/// zeros, one space between tokens, LF at the end. At `Failed` a prefix of it was appended, and the sink's count of faults rose. It takes no
-/// memory.
+/// Pushes the canonical text of a brain: one line for each instruction, its words as the tables spell them and its
+/// numbers without leading zeros, one space between tokens, LF at the end. At `Failed` a prefix of it was appended, and
+/// the sink's count of faults rose. It takes no memory.
 pub fn write_brain<K: Sink>(brain: &Brain, sink: &mut K) -> Result<(), Failed>
     ensures pushed { Pushed (K.state sink.old) (K.state sink.new) (brain_text brain.now) result }
     ensures again { OnOk result (IsBrainText (brain_text brain.now) brain.now) }
@@ -47,7 +47,8 @@ fn push_line<K: Sink>(instruction: Instr, sink: &mut K) -> Result<(), Failed>
     instruction.push_to(sink)
 }
 
-/// Its canonical line: its words as the tables spell them and its numbers without leading zeros, one space between tokens, LF at the end.
+/// Its canonical line: its words as the tables spell them and its numbers without leading zeros, one space between
+/// tokens, LF at the end.
 impl Layout for Instr {
     ghost text = { instruction_text };
 
@@ -66,8 +67,8 @@ impl Layout for Draft {
     }
 }
 
-/// The words of an instruction with states of any size: its canonical line without the LF at its end, as `Turn Left 5`. So another text can
-/// have them within a line.
+/// The words of an instruction with states of any size: its canonical line without the LF at its end, as `Turn Left 5`.
+/// So another text can have them within a line.
 #[derive(Clone, Copy, Debug, PartialEq, Eq)]
 pub struct InstructionWords(pub Draft);
 

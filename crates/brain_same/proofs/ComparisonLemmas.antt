@@ -1,4 +1,5 @@
--- What the search comes to: the first pair whose instructions differ is where the brains first differ, and where none is left they are the same.
+-- What the search comes to: the first pair whose instructions differ is where the brains first differ, and where none
+-- is left they are the same.
 use Rattle.std.proofs.Common.{◌≡◌, inl, inr, ℕ, zero, suc, ◌+◌, ◌<◌, ◌≤◌, Bool, List, [], ◌∷◌, ◌++◌, length, map, slice_index, Some, unwrap_or, refl, sym, ap, ap₂, ◌∙◌, subst, arith}
 use Rattle.std.specs.List.{Contains}
 use Rattle.std.proofs.lemmas.Bool.{cases_lt}

@@ -1,4 +1,5 @@
--- Each law of brains that are the same, used on small brains: a law that says less, or that asks for more, doesn't give these.
+-- Each law of brains that are the same, used on small brains: a law that says less, or that asks for more, doesn't give
+-- these.
 use Rattle.std.proofs.Common.{◌≡◌, ℕ, true, List, [], ◌∷◌, Some, length, refl}
 use Rattle.hex_geometry.specs.declared.direction.Side.TheVariants.{Left}
 use Rattle.ant_turn.specs.Minds.{Minds, contest_minds}
@@ -66,7 +67,8 @@ one_way_used law comparison steps is = law straight crossed comparison different
 has_way_used : HasWay → IsBrain two_ring → IsBrain three_ring → (comparison : Comparison) × (steps : List Step) × IsWayComparison two_ring three_ring comparison steps
 has_way_used law one other = law two_ring three_ring one other
 
--- the one step is from the states 0, and leads to 1 and 2; and where brains first differ after five answers, the way has five steps
+-- the one step is from the states 0, and leads to 1 and 2; and where brains first differ after five answers, the way
+-- has five steps
 one_step : LeadsOn straight crossed (step 0 (Move 1 2) 0 (Move 2 1) true ∷ []) 0 0 1 2 →
     (next : ℕ) × (other : ℕ) × (next_by (Move 1 2) true ≡ Some next) × (next_by (Move 2 1) true ≡ Some other) × (next ≡ 1) × (other ≡ 2)
 one_step (next, other, is, there) = (next, other, is.leads, is.leads_too, there.0, there.1)

@@ -1,4 +1,5 @@
--- The brain of pairs: its states are pairs of a state of one brain and a state of the other that is related to it, and it carries over to both.
+-- The brain of pairs: its states are pairs of a state of one brain and a state of the other that is related to it, and
+-- it carries over to both.
 use Rattle.std.proofs.Common.{◌≡◌, inl, inr, ℕ, zero, suc, ◌<◌, Bool, true, false, List, [], ◌∷◌, ◌++◌, map, length, slice_get, Option, Some, None, IsSome, unwrap_or, refl, sym, ap, ap₂, ◌∙◌, subst, arith}
 use Rattle.std.specs.Prelude.{◌&&◌, ◌==◌, if◌then◌else◌, option_and_then, option_map}
 use Rattle.std.specs.List.{AllByRecursion, Contains}

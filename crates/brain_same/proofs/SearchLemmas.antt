@@ -106,8 +106,8 @@ module _ (first second : List Instr) where
   abbrev pub SameAt : (ℕ → List Instr) → List Bool → Type 0
   SameAt label w = label (one_after w) ≡ label (length first + other_after w)
 
-  -- why no pair that follows this one has to be looked at: the two states are joined by pairs that were looked at earlier, or the pairs
-  -- that follow it were looked at or wait
+  -- why no pair that follows this one has to be looked at: the two states are joined by pairs that were looked at
+  -- earlier, or the pairs that follow it were looked at or wait
   pub data IsExplained (done waiting : List (List Bool)) (w : List Bool) : Type 0 where
     ByEarlier : ((label : ℕ → List Instr) → ((u : List Bool) → Contains done u → number u < number w → SameAt label u) → SameAt label w) → IsExplained done waiting w
     ByLater : ((met : Bool) (a b : ℕ) → next_by (instruction_at first (one_after w)) met ≡ Some a → next_by (instruction_at second (other_after w)) met ≡ Some b
@@ -123,7 +123,8 @@ module _ (first second : List Instr) where
     pub before : (u w : List Bool) → Contains done u → Contains waiting w → number u < number w
     pub rising : Rising waiting
     pub near : (v w : List Bool) → Contains waiting v → Contains waiting w → number v ≤ 2 * number w
-    -- the instructions to which they led are the same but for the states that they name, and the states are of one class
+    -- the instructions to which they led are the same but for the states that they name, and the states are of one
+    -- class
     pub alike : (w : List Bool) → Contains done w → shape_of (instruction_at first (one_after w)) ≡ shape_of (instruction_at second (other_after w))
     pub joined : (w : List Bool) → Contains done w → slice_index classes (one_after w) ≡ slice_index classes (length first + other_after w)
     pub explained : (w : List Bool) → Contains done w → IsExplained done waiting w

@@ -43,8 +43,9 @@ none_goes comparison steps (ByWay many a b difference) = go difference.answers (
   go (met ∷ answers) (IsShorter less) = absurd (omega arith)
   go (met ∷ answers) (IsAsLong long first) = absurd (omega arith)
 
--- two brains that first differ after five answers: unmet by the Moves, met by a Flip of bound 1 whose branches are equal, unmet by the PickUps,
--- met by the Drops, which have no other answer, and met by a Sense whose branches are equal
+-- two brains that first differ after five answers: unmet by the Moves, met by a Flip of bound 1 whose branches are
+-- equal, unmet by the PickUps, met by the Drops, which have no other answer, and met by a Sense whose branches are
+-- equal
 abbrev pub far_left : List Instr
 far_left = Move 1 2 ∷ Mark 0 0 ∷ Flip 1 3 3 ∷ PickUp 0 4 ∷ Drop 5 ∷ Sense Here 6 6 Home ∷ Turn Left 0 ∷ []
 

@@ -5,16 +5,18 @@ use Rattle.brain_read.specs.declared.instr.Instr.{Instr}
 use Rattle.brain_read.specs.Grammar.{states_of}
 use Rattle.ant_turn.specs.Turn.{instruction_at}
 
--- the state to which an answer leads: met to the first that the instruction names, unmet to the second; an instruction that names one
--- state has one answer, met
+-- the state to which an answer leads: met to the first that the instruction names, unmet to the second; an instruction
+-- that names one state has one answer, met
 abbrev pub next_by : Instr → Bool → Option ℕ
 next_by instruction true = slice_get (states_of instruction) 0
 next_by instruction false = slice_get (states_of instruction) 1
 
--- the state to which these answers lead from a state, one after another; where an instruction on the way lacks the answer there is none
+-- the state to which these answers lead from a state, one after another; where an instruction on the way lacks the
+-- answer there is none
 abbrev pub led_to : List Instr → List Bool → ℕ → Option ℕ
 led_to brain [] = λ state. Some state
-led_to brain (met ∷ answers) = λ state. option_and_then (led_to brain answers) (next_by (instruction_at brain state) met)
+led_to brain (met ∷ answers) =
+    λ state. option_and_then (led_to brain answers) (next_by (instruction_at brain state) met)
 
 -- where two lists first part, the first has met and the second unmet
 abbrev pub IsMetFirst : List Bool → List Bool → Type 0

@@ -14,13 +14,15 @@ pub record AreSame (first second : List Instr) : Type 0 where
   pub bisimulation : IsBisimulation first second related
   pub holds : related 0 0 ≡ true
 
--- the same answers lead from the states 0 to these two, whose instructions differ in more than the states that they name
+-- the same answers lead from the states 0 to these two, whose instructions differ in more than the states that they
+-- name
 pub record TellsApart (first second : List Instr) (answers : List Bool) (a b : ℕ) : Type 0 where
   pub one : led_to first answers 0 ≡ Some a
   pub other : led_to second answers 0 ≡ Some b
   pub differ : shape_of (instruction_at first a) ≢ shape_of (instruction_at second b)
 
--- these two are where the brains first differ: no list of answers that tells them apart comes before one of so many answers that leads there
+-- these two are where the brains first differ: no list of answers that tells them apart comes before one of so many
+-- answers that leads there
 pub record IsFirstDifference (first second : List Instr) (many a b : ℕ) : Type 0 where
   pub answers : List Bool
   pub count : length answers ≡ many

@@ -15,7 +15,8 @@ found_text found = decimal found.state +++ codes ": " +++ instruction_text found
 unfoldable pub comparison_text : Comparison → List ℕ
 comparison_text Same = codes "same\n"
 comparison_text (Different answers first second) =
-    codes "different after " +++ decimal answers +++ codes " answers\nfirst " +++ found_text first +++ codes "second " +++ found_text second
+    codes "different after " +++ decimal answers +++ codes " answers\nfirst " +++ found_text first +++ codes "second "
+    +++ found_text second
 
 -- a state, a colon and the words of its instruction
 unfoldable pub found_words : Found → List ℕ
@@ -34,4 +35,5 @@ step_text step = codes "first " +++ found_words step.first +++ codes ", second "
 unfoldable pub way_text : Comparison → List Step → List ℕ
 way_text Same steps = codes "same\n"
 way_text (Different answers first second) steps =
-    codes "different after " +++ decimal answers +++ codes " answers\n" +++ flat_map step_text steps +++ codes "first " +++ found_text first +++ codes "second " +++ found_text second
+    codes "different after " +++ decimal answers +++ codes " answers\n"
+    +++ flat_map step_text steps +++ codes "first " +++ found_text first +++ codes "second " +++ found_text second

@@ -21,11 +21,13 @@ abbrev pub way_by : List Instr → List Instr → List Bool → ℕ → ℕ → 
 way_by first second [] = λ a b. []
 way_by first second (met ∷ answers) = λ a b. step_of first second a b met ∷ way_by first second answers (state_after first a met) (state_after second b met)
 
--- what two brains come to, and the way there: none where they are the same, and else that by the answers after which they first differ
+-- what two brains come to, and the way there: none where they are the same, and else that by the answers after which
+-- they first differ
 pub data IsWayComparison (first second : List Instr) : Comparison → List Step → Type 0 where
   NoWay : AreSame first second → IsWayComparison first second Same []
   ByWay : (many a b : ℕ) (difference : IsFirstDifference first second many a b)
-      → IsWayComparison first second (Different many (found_of first a) (found_of second b)) (way_by first second difference.answers 0 0)
+      → IsWayComparison first second (Different many (found_of first a) (found_of second b))
+      (way_by first second difference.answers 0 0)
 
 -- a step from these states, whose answer both instructions have: it leads to those
 pub record IsStep (first second : List Instr) (step : Step) (a b next other : ℕ) : Type 0 where
@@ -37,4 +39,6 @@ pub record IsStep (first second : List Instr) (step : Step) (a b next other : �
 -- from two states: each step follows from the one before by its answer in both brains, and the last leads to these two
 abbrev pub LeadsOn : List Instr → List Instr → List Step → ℕ → ℕ → ℕ → ℕ → Type 0
 LeadsOn first second [] = λ a b c d. (a ≡ c) × (b ≡ d)
-LeadsOn first second (step ∷ steps) = λ a b c d. (next : ℕ) × (other : ℕ) × IsStep first second step a b next other × LeadsOn first second steps next other c d
+LeadsOn first second (step ∷ steps) =
+    λ a b c d. (next : ℕ) × (other : ℕ) × IsStep first second step a b next other
+    × LeadsOn first second steps next other c d

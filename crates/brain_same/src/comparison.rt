@@ -15,13 +15,13 @@ pub struct Found {
     pub instruction: Instr,
 }
 
-/// Whether two brains are the same but for the numbers of their states, and if not, where they first differ.
+/// Whether two brains are the same except for the numbers of their states, and if not, where they first differ.
 #[derive(Clone, Copy)]
 pub enum Comparison {
     /// They are the same.
     Same,
-    /// After so many answers, and no fewer, the first brain is in a state and the second in one whose instructions differ in more than the
-    /// states that they name.
+    /// After this number of answers, and no fewer, the two brains are in states whose instructions differ in more than
+    /// the states that they name.
     Different {
         answers: u32,
         first: Found,
@@ -29,8 +29,8 @@ pub enum Comparison {
     },
 }
 
-/// `same`; or three lines: after how many answers they differ, and of each brain the state that it is in then and its instruction. Each
-/// line ends in LF.
+/// `same`; or three lines: after how many answers they differ, and of each brain the state that it is in then and its
+/// instruction. Each line ends in LF.
 impl Layout for Comparison {
     ghost text = { comparison_text };
 

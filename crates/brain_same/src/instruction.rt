@@ -31,7 +31,8 @@ pub(crate) fn shape(instruction: Instr) -> Instr
     }
 }
 
-// The state to which an answer leads: met the first state that the instruction names, and unmet the second, where it names two.
+// The state to which an answer leads: met the first state that the instruction names, and unmet the second, where it
+// names two.
 #[inline]
 pub(crate) fn next(instruction: Instr, met: bool) -> Option<u16>
     ensures { result ≡ next_by instruction met }

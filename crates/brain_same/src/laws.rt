@@ -2,8 +2,8 @@
 ghost use Rattle.brain_same.specs.Games.{BothPlaySame, PlaysSame};
 ghost use Rattle.brain_same.specs.Laws.{HasComparison, HasWay, MinimisedIsSame, OneComparison, OneWay, SameIsEquivalence, SameIsNotApart, WayIsComparison, WayLeads};
 
-/// A law: to be the same is an equivalence: each brain is the same as itself, and what is the same as another is so the other way round
-/// and through a third.
+/// A law: to be the same is an equivalence: each brain is the same as itself, and what is the same as another is so the
+/// other way round and through a third.
 #[tactic(auto, using(crate::proofs::SameLaws::same_is_equivalence))]
 pub fn same_is_equivalence()
     ensures { SameIsEquivalence }
@@ -50,21 +50,22 @@ pub fn has_way()
     ensures { HasWay }
 {}
 
-/// A law: the way to a difference has a step for each answer. The first is at the states 0, each follows from the one before by its answer in
-/// both brains, and the last leads to the two states that are told.
+/// A law: the way to a difference has a step for each answer. The first is at the states 0, each follows from the
+/// previous one by its answer in both brains, and the last leads to the two states that are reported.
 pub fn way_leads()
     ensures { WayLeads }
 {}
 
-/// A law: by any opening world, other brain, numbers of the rules, seed, side and number of rounds, the game with a brain that is the same
-/// is the same but for the states of that side's ants: the same cells, ants, food and markers, as many random numbers used, and an equal
-/// score (the task's kinetics, number generation and game play).
+/// A law: for any opening world, other brain, numbers of the rules, seed, side and number of rounds, the game with a
+/// brain that is the same differs only in the states of that side's ants. It has the same cells, ants, food and
+/// markers, used as many random numbers, and has an equal score (the task's kinetics, number generation and game play).
 #[tactic(auto, using(crate::proofs::SameGames::plays_same))]
 pub fn plays_same()
     ensures { PlaysSame }
 {}
 
-/// A law: so is the game with other brains on both sides, each the same as the one before, but for the states of all ants.
+/// A law: so does the game with other brains on both sides, each the same as the one that it replaces, except for the
+/// states of all ants.
 #[tactic(auto, using(crate::proofs::SameGames::both_play_same))]
 pub fn both_play_same()
     ensures { BothPlaySame }

@@ -23,14 +23,14 @@ pub(crate) struct Pair {
     pub answers: u32,
 }
 
-/// Compares two brains: `Same` exactly where some bisimulation relates their states 0, and else the least number of answers after which
-/// their instructions differ in more than the states that they name, with the states that they are in then; of several lists of so many
-/// answers it is the first, met before unmet from the first answer on (over the task's neurology). States that state 0 doesn't lead to
-/// count for nothing. It is refused only when out of memory.
+/// Compares two brains (over the task's neurology). It returns `Same` if some bisimulation relates their states 0.
+/// Otherwise it returns the least number of answers after which their instructions differ in more than the states that
+/// they name, with the states at that point. Among several lists of that length it takes the first, met before unmet
+/// from the first answer on. States that state 0 doesn't lead to are ignored. It fails only if memory runs out.
 ///
-/// Pairs of states are looked at in the order of the answers that lead to them. Both states of a pair become of one class, and a pair of
-/// one class is passed over: it could show a difference only after one that an earlier pair shows. So there are fewer joins than states,
-/// at most 19,999, and each goes over the classes once.
+/// It looks at pairs of states in the order of the answers that lead to them. Both states of a pair are put into one
+/// class, and a pair of one class is skipped: a difference that it could show is longer than one that an earlier pair
+/// shows. So there are fewer joins than states, at most 19,999, and each goes over the classes once.
 pub fn compare(alloc: Global, first: &Brain, second: &Brain) -> Result<Comparison, OutOfMemory>
     ensures { IfOk result (λ comparison. IsComparison first.now second.now comparison) }
 {

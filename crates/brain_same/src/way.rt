@@ -29,9 +29,9 @@ pub struct Way {
     pub steps: Vec<Step>,
 }
 
-/// `same`; or after how many answers the brains differ, a line for each of these answers, and of each brain the state that it is in then with
-/// its instruction. The line of an answer is as `first 0: Move 1 2, second 3: Move 4 5: unmet`, with the states before it. Each line ends in
-/// LF.
+/// `same`; or the number of answers after which the brains differ, a line for each of these answers, and for each brain
+/// its state then, with its instruction. The line of an answer is as `first 0: Move 1 2, second 3: Move 4 5: unmet`,
+/// with the states before it. Each line ends in LF.
 impl Layout for Way {
     ghost text = { λ way. way_text way.comparison way.steps.items };
 
@@ -90,7 +90,8 @@ impl NumberedTexts for StepLines<'_> {
     }
 }
 
-/// The states before the answer with their instructions, and the answer, as `first 0: Move 1 2, second 3: Move 4 5: unmet`, with LF at the end.
+/// The states before the answer with their instructions, and the answer, as `first 0: Move 1 2, second 3: Move 4 5:
+/// unmet`, with LF at the end.
 impl Layout for Step {
     ghost text = { step_text };
 

@@ -14,7 +14,8 @@ use brain_read::Brain;
 use hex_geometry::OutOfMemory;
 use std::alloc::Global;
 
-// A pair that the search came to: from which one, by its place among them, and by which answer. The first came from none.
+// A pair that the search came to: from which one, by its place among them, and by which answer. The first came from
+// none.
 #[derive(Clone, Copy)]
 pub(crate) struct Reached {
     pub pair: Pair,
@@ -22,12 +23,12 @@ pub(crate) struct Reached {
     pub met: bool,
 }
 
-/// As [`compare`](crate::compare), and with the way to the difference: a step for each answer, from the states 0 on. Each step has the states
-/// before its answer, which leads both brains to those of the next step, and from the last step to the states that are told. Of the ways of
-/// the least length it is the first, met before unmet from the first answer on (over the task's neurology). It is refused only when out of
-/// memory.
+/// As [`compare`](crate::compare), with the way to the difference: a step for each answer, from the states 0 on. Each
+/// step has the states before its answer, which leads both brains to those of the next step, and from the last step to
+/// the states that are reported. Among the ways of the least length it is the first, met before unmet from the first
+/// answer on (over the task's neurology). It fails only if memory runs out.
 ///
-/// It looks at the same pairs as `compare`, and keeps all that it found, at most 39,999 in 16 bytes each.
+/// It looks at the same pairs as `compare`, and keeps all that it found: at most 39,999, in 16 bytes each.
 pub fn compare_way(alloc: Global, first: &Brain, second: &Brain) -> Result<Way, OutOfMemory>
     ensures { IfOk result (λ way. IsWayComparison first.now second.now way.comparison way.steps.items) }
 {
@@ -42,8 +43,8 @@ pub fn compare_way(alloc: Global, first: &Brain, second: &Brain) -> Result<Way, 
     }
 }
 
-// The place of the first pair whose instructions differ, if there is one, among the pairs that are found. No pair was found yet, and each state
-// of both brains is a class of its own, those of the second after those of the first.
+// The place of the first pair whose instructions differ, if there is one, among the pairs that are found. No pair was
+// found yet, and each state of both brains is a class of its own, those of the second after those of the first.
 fn first_apart(
     first: &Brain,
     second: &Brain,

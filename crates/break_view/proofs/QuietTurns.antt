@@ -131,6 +131,7 @@ module _ (w v : World) (r t u : ℕ) (looks : LooksSame w v) (red black : List B
       ap (λ (b : Bool). cond b (Some number) (first_met (number + 1) items v r u)) (item_unmet item named.0 unmet) ∙ list_unmet items (number + 1) named.1 rest)
       none
 
--- where no break held after the turn before, and none but those of states can have changed, none holds unless one of a state
+-- where no break held after the turn before, and none but those of states can have changed, none holds unless one of a
+-- state
 pub still_quiet : (items : List Break) (w v : World) (r t u : ℕ) → LooksSame w v → first_met 1 items w r t ≡ None → IsQuietButStates items v r u
 still_quiet items w v r t u looks none = λ red black named away. list_unmet w v r t u looks red black away items 1 named none

@@ -35,7 +35,8 @@ turns_at : (turns_in 1 (world_at counting 7 pair 2 0) ≡ 2) × (turns_in 2 (wor
 unfolding world_after world_in_round after_round after_turn turn place_in cell_in opening floor rock put_cell same_pos
 turns_at = (refl, refl, refl, refl)
 
--- a stop leaves the world after that very turn: in round 2 the ant of id 0 had its second turn, and the other one hadn't
+-- a stop leaves the world after that very turn: in round 2 the ant of id 0 had its second turn, and the other one
+-- hadn't
 left_at_stop : (end : World) → EndsAt counting 7 5 0 pair (Round 2 ∷ []) (Some (record { round = 2; id = 0; which = 1 })) end → (turns_in 1 end ≡ 2) × (turns_in 2 end ≡ 1)
 left_at_stop end ends = (ap (turns_in 1) ends.1 ∙ turns_at.0, ap (turns_in 2) ends.1 ∙ turns_at.1)
 

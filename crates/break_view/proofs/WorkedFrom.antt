@@ -1,4 +1,5 @@
--- The first stop in the rounds from a given one on, worked out: of each kind of break before, at and after the round in which it comes to hold.
+-- The first stop in the rounds from a given one on, worked out: of each kind of break before, at and after the round in
+-- which it comes to hold.
 use Rattle.std.proofs.Common.{◌≡◌, ℕ, true, [], ◌∷◌, Option, Some, None, inl, inr, codes, refl, arith}
 use Rattle.std.specs.Fmt.{digits}
 use Rattle.hex_geometry.specs.Direction.{directions}
@@ -35,7 +36,8 @@ abbrev pub stocked : World
 stocked = put (world_of (opening 4 3 (Rock ∷ Rock ∷ Rock ∷ Rock ∷ Rock ∷ RedHill ∷ BlackHill ∷ Rock ∷ Rock ∷ Rock ∷ Rock ∷ Rock ∷ []))) (record { x = 2; y = 1 })
     (record floor { hill = Some Black; food = 2; ant = Some (record (new_ant Black 1) { laden = true }) })
 
--- the black ant drops its particle in round 2, and picks one up in round 4; it is in states 1, 2, 3 and 3 after its turns
+-- the black ant drops its particle in round 2, and picks one up in round 4; it is in states 1, 2, 3 and 3 after its
+-- turns
 abbrev pub handling : Minds
 handling = contest_minds (Drop 0 ∷ []) (Unmark 0 1 ∷ Drop 2 ∷ Unmark 0 3 ∷ PickUp 3 3 ∷ [])
 

@@ -24,7 +24,8 @@ use Rattle.break_view.specs.Texts.{IsViewText, view_text}
 abbrev lone : World
 lone = world_of (opening 3 3 (Rock ∷ Rock ∷ Rock ∷ Rock ∷ RedHill ∷ Rock ∷ Rock ∷ Rock ∷ Rock ∷ []))
 
--- it goes to state 3 where its first number leaves 0 modulo 7193 and the second leaves 0 modulo 2932, and to state 2 where one of them doesn't
+-- it goes to state 3 where its first number leaves 0 modulo 7193 and the second leaves 0 modulo 2932, and to state 2
+-- where one of them doesn't
 abbrev drawing : Minds
 drawing = contest_minds (Flip 7193 1 2 ∷ Flip 2932 3 2 ∷ Drop 2 ∷ Drop 3 ∷ []) (Drop 0 ∷ [])
 
@@ -43,7 +44,8 @@ state_of (Some ant) = ant.state
 abbrev state_in : World → ℕ
 state_in w = state_of (w.cells (record { x = 1; y = 1 })).ant
 
--- 7193 brings it to state 1, in which no break holds, and then 2932 to state 3, of break 1; other numbers would bring it to state 2, of break 2
+-- 7193 brings it to state 1, in which no break holds, and then 2932 to state 3, of break 1; other numbers would bring
+-- it to state 2, of break 2
 seed_decides : (met_at drawing 12345 lone breaks 1 0 ≡ None) × (met_at drawing 12345 lone breaks 2 0 ≡ Some 1)
     × (state_in (world_at drawing 12345 lone 2 0) ≡ 3) × (state_in (world_after drawing 12345 lone 2) ≡ 3)
 unfolding world_after world_in_round after_round after_turn turn place_in cell_in opening floor rock put_cell same_pos drawn random_at state_at

@@ -31,7 +31,8 @@ pub one_break : IsBreakText (codes "Killed 2") (Killed 2 ∷ [])
 unfolding decimal_value
 one_break = record { lines = (record { spelled = (refl, (refl, tt)); in_range = (tt, (omega arith, tt)) }, tt); few = omega arith }
 
--- words are read in any ASCII case, numbers with leading zeros and up to the largest, and a comment is no part of a line
+-- words are read in any ASCII case, numbers with leading zeros and up to the largest, and a comment is no part of a
+-- line
 two_breaks : IsBreakText (codes "sCORE red 03 ; food at home\n\nStand BLACK 2 4294967295") (Score Red 3 ∷ Stand Black 2 4294967295 ∷ [])
 unfolding decimal_value
 two_breaks = record {

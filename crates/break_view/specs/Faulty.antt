@@ -12,8 +12,10 @@ use Rattle.break_view.specs.Grammar.{most_breaks}
 
 -- the fault of a line before which so many breaks stand
 abbrev pub line_fault : ℕ → TokenLine → Option BreakFault
-line_fault before line = option_or (too_many most_breaks TooMany before line.number) (first_fault line.number line.tokens (BreakToken ∷ []))
+line_fault before line =
+    option_or (too_many most_breaks TooMany before line.number) (first_fault line.number line.tokens (BreakToken ∷ []))
 
--- the fault of a text: a line has it, and none before it is at fault: those are the lines of breaks, and no more than a text may have
+-- the fault of a text: a line has it, and none before it is at fault: those are the lines of breaks, and no more than a
+-- text may have
 abbrev pub IsBreakFault : List ℕ → BreakFault → Type 0
 IsBreakFault text fault = HasLineFault BreakLine line_fault most_breaks text fault

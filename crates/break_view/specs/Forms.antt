@@ -25,7 +25,8 @@ word_of_colour Black = codes "Black"
 
 -- the words that begin a break, in the order of their table
 abbrev pub break_kinds : List BreakWord
-break_kinds = BreakWord.Round ∷ BreakWord.State ∷ BreakWord.Stand ∷ BreakWord.Food ∷ BreakWord.Killed ∷ BreakWord.Score ∷ []
+break_kinds =
+    BreakWord.Round ∷ BreakWord.State ∷ BreakWord.Stand ∷ BreakWord.Food ∷ BreakWord.Killed ∷ BreakWord.Score ∷ []
 
 -- the colours, in the order of their table
 abbrev pub colours : List Colour

@@ -33,8 +33,9 @@ fault_of BreakToken line = UnknownWord line
 fault_of ColourToken line = UnknownWord line
 fault_of NumberToken line = BadNumber line
 
--- The fault of the first position at fault, if there is one. The positions are judged from the left: one without a token is MissingToken, a token
--- that its position doesn't accept has that position's fault, and one beyond the last position is ExtraToken.
+-- The fault of the first position at fault, if there is one. The positions are judged from the left: one without a
+-- token is MissingToken, a token that its position doesn't accept has that position's fault, and one beyond the last
+-- position is ExtraToken.
 abbrev pub first_fault : ℕ → List (List ℕ) → List Position → Option BreakFault
 first_fault line [] [] = None
 first_fault line [] (position ∷ positions) = Some (MissingToken line)

@@ -10,7 +10,9 @@ use Rattle.break_view.specs.Stops.{EndsAt, end_of, first_stop}
 
 -- the line of a stop
 unfoldable pub stop_line : Stop → List ℕ
-stop_line stop = codes "stop: round " +++ decimal stop.round +++ codes ", ant " +++ decimal stop.id +++ codes ", break " +++ decimal stop.which +++ codes "\n"
+stop_line stop =
+    codes "stop: round " +++ decimal stop.round +++ codes ", ant " +++ decimal stop.id +++ codes ", break "
+    +++ decimal stop.which +++ codes "\n"
 
 -- the line of a game without a stop
 unfoldable pub no_stop_line : ℕ → List ℕ
@@ -26,7 +28,8 @@ unfoldable pub view_text : World → ℕ → ℕ → Option Stop → List ℕ
 view_text w seed rounds stop = seed_text seed +++ end_text w rounds stop
 
 -- the text is the view of the game that begins in w: of its first stop in a round from `from` on, or that it has none
-pub record IsViewText (minds : Minds) (seed rounds from : ℕ) (w : World) (items : List Break) (text : List ℕ) : Type 0 where
+pub record IsViewText (minds : Minds) (seed rounds from : ℕ) (w : World) (items : List Break)
+    (text : List ℕ) : Type 0 where
   pub stop : Option Stop
   pub end : World
   pub ends : EndsAt minds seed rounds from w items stop end

@@ -12,9 +12,9 @@ pub enum Break {
     Round(u32),
     /// Holds after the turn of an ant that is alive then, of this colour and in this state.
     State { colour: Colour, state: u32 },
-    /// Holds where an ant of this colour stands on the cell in column `x` of row `y`, both counted from 0.
+    /// Holds if an ant of this colour is on the cell in column `x` of row `y`, both counted from 0.
     Stand { colour: Colour, x: u32, y: u32 },
-    /// Holds where the cell in column `x` of row `y` is clear and has at least so many food particles.
+    /// Holds if the cell in column `x` of row `y` is clear and has at least this number of food particles.
     Food { x: u32, y: u32, least: u32 },
     /// Holds where the ant of this id, counted from 0, was made and is dead.
     Killed { id: u32 },
@@ -56,7 +56,8 @@ impl Breaks {
         self.list.len()
     }
 
-    /// The break at place `i`, counted from 0 and below the length; it is the break of number `i + 1`. It takes no memory.
+    /// The break at place `i`, counted from 0 and below the length; it is the break of number `i + 1`. It takes no
+    /// memory.
     pub fn item(&self, i: usize) -> Break
         requires { i < length self.now }
         ensures { slice_get self.now i ≡ Some result }

@@ -8,8 +8,8 @@ use std::alloc::{AllocError, AllocFailed};
 use std::error::Error;
 use std::fmt;
 
-/// The fault of a text that is no list of breaks: the first line at fault, with its first position at fault. Lines are counted from 1,
-/// lines without a token included.
+/// The fault of a text that is no list of breaks: the first line at fault, with its first position at fault. Lines are
+/// counted from 1, lines without a token included.
 #[derive(Clone, Copy, Debug, PartialEq, Eq)]
 pub enum BreakFault {
     /// A token that should be a word is none of its position.

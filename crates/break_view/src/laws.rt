@@ -18,8 +18,9 @@ pub fn fewer_stop_later()
     ensures { FewerStopLater }
 {}
 
-/// A law: a break counts only after a turn: a stop is in round 1 or later and not before the round from which on breaks are looked for,
-/// and there is none without rounds, without ants or without breaks, or if that round is after the last one.
+/// A law: a break counts only after a turn: a stop is in round 1 or later and not before the round from which on breaks
+/// are looked for, and there is none without rounds, without ants or without breaks, or if that round is after the last
+/// one.
 #[tactic(auto, using(crate::proofs::ViewLaws::stops_follow_turns))]
 pub fn stops_follow_turns()
     ensures { StopsFollowTurns }
@@ -31,15 +32,15 @@ pub fn later_rounds_add_nothing()
     ensures { LaterRoundsAddNothing }
 {}
 
-/// A law: every game has an end, which searching its turns in order finds; so the text of its view is a function of the world, the brains,
-/// the seed, the rounds and the breaks.
+/// A law: every game has an end, which searching its turns in order finds; so the text of its view is a function of the
+/// world, the brains, the seed, the rounds and the breaks.
 #[tactic(auto, using(crate::proofs::FirstStops::ends_are_found))]
 pub fn ends_are_found()
     ensures { EndsAreFound }
 {}
 
-/// A law: rounds in which no turn would stop the game can be passed over: its view from a round on is that from any later round, if no turn
-/// between them would stop it. So a view from round 0 on is that from round 1 on.
+/// A law: rounds in which no turn would stop the game can be passed over: its view from a round on is that from any
+/// later round, if no turn between them would stop it. So a view from round 0 on is that from round 1 on.
 #[tactic(auto, using(crate::proofs::QuietRounds::quiet_rounds_are_passed))]
 pub fn quiet_rounds_are_passed()
     ensures { QuietRoundsArePassed }

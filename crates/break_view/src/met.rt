@@ -38,8 +38,8 @@ pub(crate) fn first_met(
     None
 }
 
-// The same after a turn of which it is known whether breaks other than those of states can hold otherwise than before it. In the first
-// turn of a round each is asked, since then it is another round.
+// The same after a turn of which it is known whether breaks other than those of states can hold otherwise than before
+// it. In the first turn of a round each is asked, since then it is another round.
 pub(crate) fn met_now(
     watch: Watch<'_>,
     world: &World,
@@ -82,7 +82,8 @@ fn ant_of(world: &World, id: u32) -> Option<Ant>
     world.cell(place).ant
 }
 
-// Whether a break holds in a world of this score after the turn of an id in a round, where this ant has the id, or it is dead.
+// Whether a break holds in a world of this score after the turn of an id in a round, where this ant has the id, or it
+// is dead.
 fn meets(item: Break, world: &World, score: Score, ant: Option<Ant>, round: u32) -> bool
     requires { score ≡ score_of (world_of world.now) }
     ensures { (t : ℕ) → ant ≡ met.ant_at (world_of world.now) (place_in (world_of world.now) t)

@@ -20,8 +20,9 @@ use std::alloc::Global;
 
 const MOST_BREAKS: usize = 256;
 
-/// The breaks of a text of at most 4,194,304 bytes, or the text's fault, with its line from 1. `OutOfMemory` may be answered at any text;
-/// every other answer follows from the text alone, since every text has one list of breaks or one fault.
+/// The breaks of a text of at most 4,194,304 bytes, or the text's fault, with its line from 1. `OutOfMemory` may be
+/// answered at any text; every other answer follows from the text alone, since every text has one list of breaks or one
+/// fault.
 pub fn read_breaks(alloc: Global, text: &[u8]) -> Result<Breaks, BreakFault>
     requires { length text.now ≤ longest }
     ensures breaks { IfOk result (λ list. IsBreakText text.now list) }

@@ -16,7 +16,8 @@ pub(crate) struct Watch<'a> {
     pub(crate) black: &'a [bool],
 }
 
-// Names the states for which these breaks ask, in the table of each colour. A table names every state beyond its length.
+// Names the states for which these breaks ask, in the table of each colour. A table names every state beyond its
+// length.
 pub(crate) fn name_states(items: &[Break], red: &mut [bool], black: &mut [bool])
     ensures { All (changes.IsNamed red.new black.new) items.now }
 {

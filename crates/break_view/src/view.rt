@@ -10,9 +10,10 @@ use ant_base::{Failed, Layout, Sink, layout};
 use cell_world::World;
 use dump_print::{push_cells, push_seed};
 
-/// Pushes the text of a view: the line of the seed; then, at a stop, its line, as `stop: round 1, ant 1, break 1`, and the lines of the
-/// cells of the world; where there is none, the line `no stop in 5 rounds`, with the number of rounds that were to be played. Where the
-/// sink failed, a prefix of the text was pushed, and its count of faults rose. It takes no memory.
+/// Pushes the text of a view: the line of the seed; then, at a stop, its line, as `stop: round 1, ant 1, break 1`, and
+/// the lines of the cells of the world; where there is none, the line `no stop in 5 rounds`, with the number of rounds
+/// that were to be played. Where the sink failed, a prefix of the text was pushed, and its count of faults rose. It
+/// takes no memory.
 pub fn push_view<K: Sink>(
     world: &World,
     seed: u32,

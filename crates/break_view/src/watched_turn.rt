@@ -17,9 +17,9 @@ use ant_turn::{Brains, take_turn};
 use cell_world::{Cell, Score, World};
 use hex_geometry::Pos;
 
-// Takes the turn of an id, and keeps the score: where nobody was killed, the food changed on the ant's own cell alone, if at all. Gives
-// whether no break can hold otherwise than before, but those of states: nobody was killed, and the ant is left where it stood, on as much
-// food, or it was dead.
+// Takes the turn of an id, and keeps the score: where nobody was killed, the food changed on the ant's own cell alone,
+// if at all. Gives whether no break can hold otherwise than before, but those of states: nobody was killed, and the ant
+// is left where it stood, on as much food, or it was dead.
 pub(crate) fn take_watched(
     world: &mut World,
     brains: Brains<'_>,

@@ -151,7 +151,8 @@ can_be_fed = record {
   light_enough = omega (arith, fed_weight);
 }
 
--- fed, the world is valid and the ant is there; without its ant, the ant has no place; and an ant of neither cell stays where it is
+-- fed, the world is valid and the ant is there; without its ant, the ant has no place; and an ant of neither cell stays
+-- where it is
 pub set_keeps_used : PutKeeps →
     Valid (put hill (at 1 1) fed_hill)
     × (place_in (put hill (at 1 1) fed_hill) 0 ≡ Some (at 1 1))
@@ -222,7 +223,8 @@ pub cells_are_parts_used : CellsAreParts → (cell : Cell) → ((k : Part) → A
 unfolding floor
 cells_are_parts_used law cell alike clear red = sym (law visited cell alike (sym clear) (sym red))
 
--- an ant before and after it thought and picked up food, and what is patched: its state and the food that lies there, but not its load
+-- an ant before and after it thought and picked up food, and what is patched: its state and the food that lies there,
+-- but not its load
 abbrev before : Cell
 before = record floor { hill = Some Red; food = 5; ant = Some (new_ant Red 0) }
 

@@ -23,7 +23,8 @@ use Rattle.cell_world.proofs.Rims.{clear_inner}
 use Rattle.cell_world.proofs.Weights.{cell_weight-rock}
 
 module _ (width height : ℕ) (kinds : List Kind) where
-  -- a cell of an opening world is that of the kind at its position, and an ant's id is the number of hill cells before it
+  -- a cell of an opening world is that of the kind at its position, and an ant's id is the number of hill cells before
+  -- it
   pub cell_in-opening : (p : Pos) → p.x < width → cell_in (opening width height kinds) p ≡ opening_cell (hills_before width kinds p) (kind_at width kinds p)
   unfolding opening
   cell_in-opening p column =

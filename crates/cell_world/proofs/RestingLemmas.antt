@@ -1,4 +1,5 @@
--- Ants with other resting counts: what a world keeps, and where they stand; and how bodies are told apart one after another.
+-- Ants with other resting counts: what a world keeps, and where they stand; and how bodies are told apart one after
+-- another.
 use Rattle.std.proofs.Common.{◌≡◌, ◌≢◌, ◌⊎◌, inl, inr, ℕ, zero, suc, ◌+◌, ◌-◌, ◌<◌, ◌≤◌, Bool, true, false, cond, List, [], ◌∷◌, ◌++◌, length, map, take, set, get_or, Option, Some, None, refl, sym, ap, ap₂, ◌∙◌, subst, arith, add-zero}
 use Rattle.std.specs.Prelude.{option_map, nat_eq, nat_lt}
 use Rattle.std.proofs.Math.Path.{fun_ext}

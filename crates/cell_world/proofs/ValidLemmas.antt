@@ -60,7 +60,8 @@ Valid-put w room p cell valid can = record {
 pub HasMarksOfSix-same : (cell new : Cell) → new.red ≡ cell.red → new.black ≡ cell.black → HasMarksOfSix cell → HasMarksOfSix new
 HasMarksOfSix-same cell new red black six = record { red = subst IsOfSix (sym red) six.red; black = subst IsOfSix (sym black) six.black }
 
--- a cell that replaces the one at p, with the same ant or none and no heavier, may be set where its markers are of the six
+-- a cell that replaces the one at p, with the same ant or none and no heavier, may be set where its markers are of the
+-- six
 pub CanSet-replaces : (w : World) (room : ℕ) (p : Pos) (cell : Cell) → Valid w → 1 ≤ room → (w.cells p).rocky ≡ false → Replaces (w.cells p) cell → HasMarksOfSix cell → CanSet w room p cell
 CanSet-replaces w room p cell valid left clear replaces six = record {
   room_left = left;

@@ -11,11 +11,14 @@ use Rattle.cell_world.specs.Score.{alive_in, alive_of, food_of, hill_food_in, hi
 use Rattle.cell_world.specs.Valid.{Valid}
 use Rattle.cell_world.specs.World.{World, place_in, put}
 
--- after a change, the new cell counts in place of the old one: in all food, in the food on each hill, and in the ants of each colour
+-- after a change, the new cell counts in place of the old one: in all food, in the food on each hill, and in the ants
+-- of each colour
 pub record PutCounts : Type 0 where
-  pub food : (w : World) (p : Pos) (cell : Cell) → IsInside w.width w.height p → food_of (put w p cell) + food_in (w.cells p) ≡ food_of w + food_in cell
+  pub food : (w : World) (p : Pos) (cell : Cell) → IsInside w.width w.height p
+      → food_of (put w p cell) + food_in (w.cells p) ≡ food_of w + food_in cell
   pub hill : (w : World) (colour : Colour) (p : Pos) (cell : Cell) → IsInside w.width w.height p
-      → hill_food_of (put w p cell) colour + hill_food_in colour (w.cells p) ≡ hill_food_of w colour + hill_food_in colour cell
+      → hill_food_of (put w p cell) colour + hill_food_in colour (w.cells p)
+      ≡ hill_food_of w colour + hill_food_in colour cell
   pub alive : (w : World) (colour : Colour) (p : Pos) (cell : Cell) → IsInside w.width w.height p
       → alive_of (put w p cell) colour + alive_in colour (w.cells p) ≡ alive_of w colour + alive_in colour cell
 

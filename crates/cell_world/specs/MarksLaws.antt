@@ -19,6 +19,7 @@ pub record MarksAreSets : Type 0 where
   pub with_six : (marks : Marks) (i : ℕ) → i < 6 → IsOfSix marks → IsOfSix (with_mark marks i)
   pub without_six : (marks : Marks) (i : ℕ) → i < 6 → IsOfSix marks → IsOfSix (without_mark marks i)
   -- two sets of the six that have the same markers are one
-  pub one : (marks other : Marks) → IsOfSix marks → IsOfSix other → ((i : ℕ) → i < 6 → has_mark marks i ≡ has_mark other i) → marks ≡ other
+  pub one : (marks other : Marks) → IsOfSix marks → IsOfSix other
+      → ((i : ℕ) → i < 6 → has_mark marks i ≡ has_mark other i) → marks ≡ other
   -- it has any where it has one of them
   pub any : (marks : Marks) → (has_any_mark marks ≡ true) ↔ ((i : ℕ) × (has_mark marks i ≡ true))

@@ -51,9 +51,15 @@ abbrev pub opening_cells : ℕ → List Kind → List Cell
 opening_cells t [] = []
 opening_cells t (kind ∷ kinds) = opening_cell t kind ∷ opening_cells (t + one_if (is_hill kind)) kinds
 
--- the world of these kinds at the start: each hill cell holds an ant of its colour, whose id is the number of hill cells before it
+-- the world of these kinds at the start: each hill cell holds an ant of its colour, whose id is the number of hill
+-- cells before it
 unfoldable pub opening : ℕ → ℕ → List Kind → Grid
-opening width height kinds = record { width = width; height = height; ids = hill_count kinds; cells = opening_cells 0 kinds }
+opening width height kinds = record {
+  width = width;
+  height = height;
+  ids = hill_count kinds;
+  cells = opening_cells 0 kinds;
+}
 
 -- whether it is rock
 abbrev pub is_rock : Kind → Bool
@@ -73,13 +79,15 @@ kind_at width kinds p = slice_index_or kinds (index_of width p) Rock
 abbrev pub hills_before : ℕ → List Kind → Pos → ℕ
 hills_before width kinds p = hill_count (take (index_of width p) kinds)
 
--- the kinds of a world, in row order: the sizes are in range, there is one for each cell, the rim is rock, food is in range, and there are not too many hill cells
+-- the kinds of a world, in row order: the sizes are in range, there is one for each cell, the rim is rock, food is in
+-- range, and there are not too many hill cells
 pub record IsPlan (width height : ℕ) (kinds : List Kind) : Type 0 where
   pub wide : 3 ≤ width
   pub narrow : width ≤ 512
   pub tall : 3 ≤ height
   pub low : height ≤ 512
   pub full : length kinds ≡ width * height
-  pub rim : (p : Pos) → p.x < width → p.y < height → is_on_rim width height p ≡ true → slice_index_or kinds (p.y * width + p.x) Rock ≡ Rock
+  pub rim : (p : Pos) → p.x < width → p.y < height → is_on_rim width height p ≡ true
+      → slice_index_or kinds (p.y * width + p.x) Rock ≡ Rock
   pub fed : All IsFed kinds
   pub few : hill_count kinds ≤ 16384

@@ -19,19 +19,24 @@ pub record HillsAreManned : Type 0 where
   pub cell : (width height : ℕ) (kinds : List Kind) (p : Pos) → p.x < width →
       cell_in (opening width height kinds) p ≡ opening_cell (hills_before width kinds p) (kind_at width kinds p)
   -- right of the rows there is rock; below them it is the kind of the cells that are missing
-  pub beyond : (width height : ℕ) (kinds : List Kind) (p : Pos) → width ≤ p.x → cell_in (opening width height kinds) p ≡ rock
+  pub beyond : (width height : ℕ) (kinds : List Kind) (p : Pos) → width ≤ p.x
+      → cell_in (opening width height kinds) p ≡ rock
   -- on each hill cell an ant of its colour, and on no other cell one
   pub manned : (width height : ℕ) (kinds : List Kind) (p : Pos) →
-      (cell_in (opening width height kinds) p).hill ≡ option_map (λ (ant : Ant). ant.colour) (cell_in (opening width height kinds) p).ant
+      (cell_in (opening width height kinds) p).hill
+      ≡ option_map (λ (ant : Ant). ant.colour) (cell_in (opening width height kinds) p).ant
   -- each ant is new, and its id is the number of hill cells before its own
-  pub new : (width height : ℕ) (kinds : List Kind) (p : Pos) (ant : Ant) → (cell_in (opening width height kinds) p).ant ≡ Some ant →
+  pub new : (width height : ℕ) (kinds : List Kind) (p : Pos) (ant : Ant)
+      → (cell_in (opening width height kinds) p).ant ≡ Some ant →
       ant ≡ new_ant ant.colour (hills_before width kinds p)
   -- the place of the ant with that id is that cell
   pub place : (width height : ℕ) (kinds : List Kind) → IsPlan width height kinds → (p : Pos) → p.x < width →
-      is_hill (kind_at width kinds p) ≡ true → place_in (world_of (opening width height kinds)) (hills_before width kinds p) ≡ Some p
+      is_hill (kind_at width kinds p) ≡ true
+      → place_in (world_of (opening width height kinds)) (hills_before width kinds p) ≡ Some p
   -- every ant is alive
   pub alive : (width height : ℕ) (kinds : List Kind) → IsPlan width height kinds → (t : ℕ) → t < hill_count kinds →
       IsSome (place_in (world_of (opening width height kinds)) t)
   -- no cell is marked
   pub unmarked : (width height : ℕ) (kinds : List Kind) (p : Pos) →
-      ((cell_in (opening width height kinds) p).red ≡ no_marks) × ((cell_in (opening width height kinds) p).black ≡ no_marks)
+      ((cell_in (opening width height kinds) p).red ≡ no_marks)
+      × ((cell_in (opening width height kinds) p).black ≡ no_marks)

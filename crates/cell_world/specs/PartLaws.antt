@@ -21,11 +21,15 @@ pub record HasParts (cell source : Cell) (parts : Parts) (new : Cell) : Type 0 w
 
 -- each patched cell is so
 abbrev pub PatchesTakeParts : Type 0
-PatchesTakeParts = (cell source : Cell) (parts : Parts) → CanPatch cell source parts → HasParts cell source parts (patched cell source parts)
+PatchesTakeParts =
+    (cell source : Cell) (parts : Parts) → CanPatch cell source parts
+    → HasParts cell source parts (patched cell source parts)
 
 -- to patch what a cell already has changes nothing
 abbrev pub PatchesChangeNothing : Type 0
-PatchesChangeNothing = (cell source : Cell) (parts : Parts) → CanPatch cell source parts → Agree parts cell source → patched cell source parts ≡ cell
+PatchesChangeNothing =
+    (cell source : Cell) (parts : Parts) → CanPatch cell source parts → Agree parts cell source
+    → patched cell source parts ≡ cell
 
 -- two sets have no part in common
 abbrev pub AreDisjoint : Parts → Parts → Type 0

@@ -35,8 +35,9 @@ Content Food = ℕ
 Content RedMarks = Marks
 Content BlackMarks = Marks
 
--- the six parts of a cell: the id and colour of its ant, if there is one; that ant's state, resting count and direction; whether that ant
--- carries food; the food that lies there; and the two sets of markers. Rock and hill are in none: no turn changes them
+-- the six parts of a cell: the id and colour of its ant, if there is one; that ant's state, resting count and
+-- direction; whether that ant carries food; the food that lies there; and the two sets of markers. Rock and hill are in
+-- none: no turn changes them
 abbrev pub part : (k : Part) → Cell → Content k
 part Who cell = option_map identity_of cell.ant
 part Mind cell = option_map posture_of cell.ant
@@ -138,8 +139,8 @@ IsSameAnt (Some ant) (Some other) = identity_of ant ≡ identity_of other
 IsSameAnt (Some ant) None = ⊥
 IsSameAnt None source = ⊥
 
--- the parts of a cell can be patched by those of the source: who stands there goes with its posture and its load; and where one of
--- these is named alone, both cells hold the same ant
+-- the parts of a cell can be patched by those of the source: who stands there goes with its posture and its load; and
+-- where one of these is named alone, both cells hold the same ant
 pub record CanPatch (cell source : Cell) (parts : Parts) : Type 0 where
   pub mind : parts.who ≡ true → parts.mind ≡ true
   pub load : parts.who ≡ true → parts.load ≡ true

@@ -34,9 +34,10 @@ abbrev pub ids_where : (ℕ → Bool) → ℕ → ℕ → List ℕ
 ids_where test from zero = []
 ids_where test from (suc n) = cond (test from) (from ∷ ids_where test (from + 1) n) (ids_where test (from + 1) n)
 
--- of n ids from `from` on those are listed, in rising order, whose ants act: of the ants that are alive those that don't rest, and of the
--- dead any
+-- of n ids from `from` on those are listed, in rising order, whose ants act: of the ants that are alive those that
+-- don't rest, and of the dead any
 pub record ActsListed (w : World) (from n : ℕ) (listed : List ℕ) : Type 0 where
   pub acts : ℕ → Bool
   pub are : listed ≡ ids_where acts from n
-  pub each : (p : Pos) (ant : Ant) → (w.cells p).ant ≡ Some ant → from ≤ ant.id → ant.id < from + n → acts ant.id ≡ nat_eq ant.resting 0
+  pub each : (p : Pos) (ant : Ant) → (w.cells p).ant ≡ Some ant → from ≤ ant.id → ant.id < from + n
+      → acts ant.id ≡ nat_eq ant.resting 0

@@ -13,7 +13,8 @@ hill_food_in colour cell = if is_hill_of colour cell.hill then cell.food else 0
 
 -- the food on the cells of this colour's hill
 unfoldable pub hill_food_of : World → Colour → ℕ
-hill_food_of w colour = sum_over w.width (λ p. if is_hill_of colour (w.cells p).hill then (w.cells p).food else 0) (w.width * w.height)
+hill_food_of w colour =
+    sum_over w.width (λ p. if is_hill_of colour (w.cells p).hill then (w.cells p).food else 0) (w.width * w.height)
 
 -- all food of a world, lying and carried
 unfoldable pub food_of : World → ℕ

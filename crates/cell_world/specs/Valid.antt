@@ -30,8 +30,8 @@ pub record Valid (w : World) : Type 0 where
   pub six : (p : Pos) → HasMarksOfSix (w.cells p)
   pub light : weight w ≤ most_weight
 
--- a cell may be set at p: it is clear as the old one was, of the same hill, its markers are of the six, its ant is a known one that
--- stands nowhere else, and the world stays light enough
+-- a cell may be set at p: it is clear as the old one was, of the same hill, its markers are of the six, its ant is a
+-- known one that stands nowhere else, and the world stays light enough
 pub record CanSet (w : World) (room : ℕ) (p : Pos) (cell : Cell) : Type 0 where
   pub room_left : 1 ≤ room
   pub inside : IsInside w.width w.height p
@@ -43,7 +43,8 @@ pub record CanSet (w : World) (room : ℕ) (p : Pos) (cell : Cell) : Type 0 wher
   pub ant_nowhere_else : (ant : Ant) → cell.ant ≡ Some ant → (q : Pos) → q ≢ p → holds_id ant.id (w.cells q) ≡ false
   pub light_enough : weight (put w p cell) ≤ most_weight
 
--- two ants of one body: their id, their colour and their load are the same, whatever their state, their rest and their direction
+-- two ants of one body: their id, their colour and their load are the same, whatever their state, their rest and their
+-- direction
 pub record SameBody (one other : Ant) : Type 0 where
   pub same_id : one.id ≡ other.id
   pub same_colour : one.colour ≡ other.colour

@@ -35,10 +35,12 @@ abbrev pub sum_over : ℕ → (Pos → ℕ) → ℕ → ℕ
 sum_over width f zero = 0
 sum_over width f (suc n) = sum_over width f n + f (pos_at width n)
 
--- of the first n positions in row order the first at which the test holds, if there is one: of n + 1 that of the first n, and else the last
+-- of the first n positions in row order the first at which the test holds, if there is one: of n + 1 that of the first
+-- n, and else the last
 abbrev pub first_of : ℕ → (Pos → Bool) → ℕ → Option Pos
 first_of width test zero = None
-first_of width test (suc n) = option_or (first_of width test n) (if test (pos_at width n) then Some (pos_at width n) else None)
+first_of width test (suc n) =
+    option_or (first_of width test n) (if test (pos_at width n) then Some (pos_at width n) else None)
 
 -- how many positions there are
 abbrev pub area : World → ℕ

@@ -29,13 +29,16 @@ impl Colour {
 /// An ant (the task's biology).
 #[derive(Clone, Copy, Debug, PartialEq, Eq)]
 pub struct Ant {
-    /// Its number: from 0, in the row order of the hill cells on which the ants begin. It stays the same for a whole game.
+    /// Its number: from 0, in the row order of the hill cells on which the ants begin. It stays the same for a whole
+    /// game.
     pub id: u32,
     /// Its colour, which is that of its hill.
     pub colour: Colour,
-    /// The state of its brain, from 0 to 9,999; in a game it is below the length of its colour's brain (the task's neurology).
+    /// The state of its brain, from 0 to 9,999; in a game it is below the length of its colour's brain (the task's
+    /// neurology).
     pub state: u16,
-    /// For how many more turns it rests, 0 where it acts; after a Move the number `rest` of the rules, 14 in the contest (the task's kinetics).
+    /// For how many more turns it rests, 0 where it acts; after a Move the number `rest` of the rules, 14 in the
+    /// contest (the task's kinetics).
     pub resting: u8,
     /// The direction in which it faces (the task's geometry).
     pub facing: Dir,

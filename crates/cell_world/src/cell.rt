@@ -5,8 +5,8 @@ ghost use Rattle.cell_world.specs.Cell.{is_ant_of, is_hill_of, marks_of};
 use crate::ant::{Ant, Colour};
 use crate::marks::Marks;
 
-/// A cell of the world, rocky or clear (the task's geography, chemistry and biology). In a world, a rocky cell has no food, marks,
-/// ant or hill, and an ant that stands on a cell stands on no other.
+/// A cell of the world, rocky or clear (the task's geography, chemistry and biology). In a world, a rocky cell has no
+/// food, markers, ant or hill, and an ant is on one cell only.
 #[derive(Clone, Copy, Debug, Default, PartialEq, Eq)]
 pub struct Cell {
     /// Whether it is rock, which no ant enters.
@@ -19,12 +19,12 @@ pub struct Cell {
     pub red: Marks,
     /// The markers of the black ants on it.
     pub black: Marks,
-    /// The ant that stands on it, if there is one.
+    /// The ant on it, if any.
     pub ant: Option<Ant>,
 }
 
 impl Cell {
-    /// Whether an ant of this colour stands on it (the task's biology).
+    /// Whether an ant of this colour is on it (the task's biology).
     #[inline]
     pub fn has_ant_of(&self, colour: Colour) -> bool
         ensures { result ≡ is_ant_of colour self.now.ant }

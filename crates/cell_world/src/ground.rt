@@ -10,11 +10,12 @@ use hex_geometry::Pos;
 
 /// A world that can be read and changed cell by cell. The rules of a turn are written once, over any ground.
 ///
-/// Its meanings are a world, which keeps what every world keeps, and its room, the number of calls of `set` that it can still take. No call
-/// is refused, and reading changes neither of the two; it borrows the ground mutably, so that a ground may note what was read. A ground has
-/// to give `cell_at`, `place_of` and `set`: the other two calls follow from these, and a ground may have shorter ways for them.
+/// Its meanings are a world, which keeps what every world keeps, and its room, the number of calls of `set` that it can
+/// still take. No call is refused, and reading changes neither of the two; it borrows the ground mutably, so that a
+/// ground may note what was read. A ground has to give `cell_at`, `place_of` and `set`: the other two calls follow from
+/// these, and a ground may have shorter ways for them.
 pub trait Ground {
-    /// The world that it stands for.
+    /// The world that it represents.
     ghost world: { Self → World };
 
     /// How many more cells it can take.
@@ -28,23 +29,24 @@ pub trait Ground {
         ensures room { room self.new ≡ room self.old }
         ensures valid { Valid (world self.new) };
 
-    /// The position whose cell holds the ant of this id, counted from 0, and `None` exactly where no cell holds it: it is dead, or was
-    /// never made (the task's biology).
+    /// The position of the cell with the ant of this id, counted from 0; `None` if no cell has it: it is dead, or never
+    /// existed (the task's biology).
     fn place_of(&mut self, id: u32) -> Option<Pos>
         ensures place { result ≡ place_in (world self.old) id }
         ensures world { world self.new ≡ world self.old }
         ensures room { room self.new ≡ room self.old }
         ensures valid { Valid (world self.new) };
 
-    /// Puts this cell at `p`, and leaves every other as it is. The old cell and the new one are clear and of the same hill, the
-    /// markers of the new one are of the six, an ant on it is known and stands on no other cell, and the world stays light enough. It takes one of the ground's room.
+    /// Puts this cell at `p`, and leaves every other unchanged. The old cell and the new one are clear and of the same
+    /// hill, the markers of the new one are of the six, an ant on it is known and on no other cell, and the world stays
+    /// light enough. It uses one of the ground's room.
     fn set(&mut self, p: Pos, cell: Cell)
         requires { CanSet (world self.old) (room self.old) p cell }
         ensures set { world self.new ≡ put (world self.old) p cell }
         ensures room { room self.old ≤ room self.new + 1 }
         ensures valid { Valid (world self.new) };
 
-    /// The ant of this id, which was made, and where it stands; `None` exactly where no cell holds it (the task's biology).
+    /// The ant of this id, which existed, and its position; `None` if no cell has it (the task's biology).
     fn ant_of(&mut self, id: u32) -> Option<PlacedAnt>
         requires { id < (world self.old).ids }
         ensures place { option_map (λ it. it.place) result ≡ place_in (world self.old) id }
@@ -58,8 +60,9 @@ pub trait Ground {
         Some(PlacedAnt { place, ant })
     }
 
-    /// Puts the state, the rest and the direction of this ant in place of those of the ant at `p`, and leaves all else as it is. The two
-    /// are of one id, one colour and one load. It takes one of the ground's room (the task's neurology and kinetics).
+    /// Replaces the state, the rest and the direction of the ant at `p` by those of this ant, and leaves all else
+    /// unchanged. Both have the same id, colour and load. It uses one of the ground's room (the task's neurology and
+    /// kinetics).
     fn set_mind(&mut self, p: Pos, ant: Ant)
         requires { CanThink (world self.old) (room self.old) p ant }
         ensures set { world self.new ≡ put (world self.old) p (record ((world self.old).cells p) { ant = Some ant }) }

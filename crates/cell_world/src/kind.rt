@@ -13,7 +13,7 @@ pub enum Kind {
     RedHill,
     /// A clear cell of the black hill, on which a black ant begins: `-`.
     BlackHill,
-    /// A clear cell of no hill with so many food particles, from 1 to 9: the digit.
+    /// A clear cell of no hill with this number of food particles, from 1 to 9: the digit.
     Food(u8),
 }
 

@@ -1,9 +1,10 @@
 //! Cells, ants and the world.
 //!
-//! The task's geography, chemistry and biology: what stands on each cell, which ants there are, and what every world keeps.
-//! Contracts see a [`World`] as its sizes, the number of ids ever made and its cells in row order; `world_of` reads such a grid
-//! as a function from positions to cells, rock outside. The rules of a turn are generic over [`Ground`], a world that can be
-//! read and changed cell by cell. This crate stands on `hex_geometry`.
+//! The task's geography, chemistry and biology: what is on each cell, which ants there are, and what holds in every
+//! world. Contracts see a [`World`] as its sizes, the number of ids that were ever assigned, and its cells in row
+//! order. `world_of` turns such a grid into a function from positions to cells, with rock outside. The rules of a turn
+//! are generic over [`Ground`], a world that can be read and changed cell by cell. This crate depends on
+//! `hex_geometry`.
 //!
 //! What names no section of the contest's task is this project's own.
 #![tactic(auto)]

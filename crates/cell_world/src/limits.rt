@@ -9,8 +9,8 @@ pub const MOST_SIZE: u16 = 512;
 /// The most ids of ants that a world has.
 pub const MOST_ANTS: u32 = 16_384;
 
-/// The most that a world weighs, counting one for each particle of food, also where an ant carries it, and nine for each ant: nine times
-/// the cells inside the largest rim.
+/// The most that a world weighs, counting one for each particle of food, also where an ant carries it, and nine for
+/// each ant: nine times the cells inside the largest rim.
 pub const MOST_WEIGHT: u32 = 2_340_900;
 
 const _: () = prove!(MOST_WEIGHT == 9 * (MOST_SIZE as u32 - 2) * (MOST_SIZE as u32 - 2));

@@ -2,7 +2,8 @@
 ghost use Rattle.std.specs.Prelude.{◌≡◌, ◌<◌};
 ghost use Rattle.cell_world.specs.Marks.{no_marks, has_mark, with_mark, without_mark, has_any_mark};
 
-/// A set of markers, which are numbered from 0 to 5: those of one colour that are set on one cell (the task's chemistry).
+/// A set of markers, which are numbered from 0 to 5: those of one colour that are set on one cell (the task's
+/// chemistry).
 #[derive(Clone, Copy, Debug, Default, PartialEq, Eq)]
 pub struct Marks {
     // Bit i is marker i; no bit above the sixth is ever set.
@@ -38,7 +39,8 @@ impl Marks {
         }
     }
 
-    /// The same set, without marker `i`, which is from 0 to 5; the other markers are as they were (the task's chemistry).
+    /// The same set, without marker `i`, which is from 0 to 5; the other markers are as they were (the task's
+    /// chemistry).
     #[inline]
     pub fn without(self, i: u8) -> Marks
         requires { i < 6 }

@@ -6,10 +6,10 @@ pub fn plans_open()
     ensures { PlansOpen }
 {}
 
-/// A law: at the start each cell is what its kind says, and outside there is rock (the task's geography and chemistry). An ant stands on
-/// each hill cell and on no other: it is of the hill's colour, in state 0, not resting, faces direction 0 and carries no food, its id is
-/// the number of hill cells before its own in row order, and that cell is its place; every ant is alive, and no cell is marked (the task's
-/// biology).
+/// A law: at the start each cell is what its kind says, and outside there is rock (the task's geography and chemistry).
+/// Each hill cell has an ant, and no other cell has one. The ant has the hill's colour, is in state 0, doesn't rest,
+/// faces direction 0 and carries no food. Its id is the number of hill cells before its own in row order. Every ant is
+/// alive, and no cell is marked (the task's biology).
 pub fn hills_are_manned()
     ensures { HillsAreManned }
 {}

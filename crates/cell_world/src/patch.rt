@@ -21,8 +21,8 @@ impl Cell {
             && self.agrees_in(other, parts, Part::BlackMarks)
     }
 
-    /// The cell with the named parts of the source, and everything else its own. Parts with Who also have Mind and Load; where they have
-    /// one of these and not Who, both cells hold ants of one id and colour.
+    /// The cell with the named parts of the source, and all else its own. Parts with Who also have Mind and Load. If
+    /// the parts have Mind or Load without Who, both cells hold ants with the same id and colour.
     #[inline]
     pub fn patched(self, source: Cell, parts: Parts) -> Cell
         requires { CanPatch self source parts }
@@ -41,7 +41,8 @@ impl Cell {
         }
     }
 
-    /// The first of the parts in which the two cells differ, in the order of the variants; none where they agree in all of them.
+    /// The first of the parts in which the two cells differ, in the order of the variants; none where they agree in all
+    /// of them.
     pub fn difference(&self, other: &Cell, parts: Parts) -> Option<Part>
         ensures { IsDifference parts self.now other.now result }
     {

@@ -1,7 +1,7 @@
-// What no clause says: that commands succeed, and the exact bytes that they write. Each file has tables of cases, and a loop for each. A table
-// with commands in it is a `static`, and so is a command that a function varies: where they are constants, a function builds them piece by
-// piece. The texts of one `static` are proved together, and what that costs grows with the square of their length: so a long table is one of
-// its own, or several.
+// What no clause says: that commands succeed, and the exact bytes that they write. Each file has tables of cases, and a
+// loop for each. A table with commands in it is a `static`, and so is a command that a function varies: where they are
+// constants, a function builds them piece by piece. The texts of one `static` are proved together, and what that costs
+// grows with the square of their length: so a long table is one of its own, or several.
 mod acts;
 mod assembled;
 mod brains;
@@ -43,8 +43,9 @@ const CLOSED: &str = "3\n3\n# # #\n # + #\n# # #\n";
 const CLOSING: &str =
     "7\n6\n# # # # # # #\n # . . . . . #\n# . . - # . #\n # - . + - # #\n# + . - - # #\n # # # # # # #\n";
 
-// A command over a world in the files w and -, a red brain in r, a black one in b, breaks in k, and more files by name; the fetch and the
-// push to out that fail, if there are calls of these numbers; and the room of out and of err, in bytes.
+// A command over a world in the files w and -, a red brain in r, a black one in b, breaks in k, and more files by name;
+// the fetch and the push to out that fail, if there are calls of these numbers; and the room of out and of err, in
+// bytes.
 #[derive(Clone, Copy, Debug)]
 struct Job<'t> {
     line: &'t str,
@@ -397,7 +398,8 @@ fn check_with<R: Threads + Wait + Sync + Abort>(
     check(rt, alloc, &job.with(given, text), wanted)
 }
 
-// A table of rows: each has a text in one of the places of a command, and what the output gets at Done, and else the errors.
+// A table of rows: each has a text in one of the places of a command, and what the output gets at Done, and else the
+// errors.
 #[derive(Clone, Copy)]
 struct Table<'t> {
     job: Job<'t>,

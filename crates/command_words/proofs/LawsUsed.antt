@@ -178,7 +178,8 @@ not_height is = go is.0 is.1 is.2 where
   go zero less at = (let no : ⊥ = cc in no)
   go (suc k) less at = omega (arith, less)
 
--- the file, the seed and the width are those of the words, the height that of the table, and the width is the option that is given
+-- the file, the seed and the width are those of the words, the height that of the table, and the width is the option
+-- that is given
 says_its_words_used : SaysItsWords →
     (shown.file 0 ≡ codes "w")
     × (number_in SeedNumber (codes "7") ≡ Some (shown.number 1))

@@ -1,4 +1,5 @@
--- What holds of each command, each option and each list of the tables. Each fact computes over the whole table, so that a new row needs no line here.
+-- What holds of each command, each option and each list of the tables. Each fact computes over the whole table, so that
+-- a new row needs no line here.
 use denote.Enum.Bare.{sameb, same_true}
 use Rattle.std.proofs.Common.{nat_le, ◌≡◌, ◌≢◌, ℕ, Bool, true, false, not, ◌&&◌, ◌||◌, List, [], ◌∷◌, ◌++◌, Some, find, is_some, codes, cond, bytes_eq, refl, sym, ap, ◌∙◌, ◌⊎◌, inl, inr}
 use Rattle.std.specs.List.{Contains, flat_map, list_all}

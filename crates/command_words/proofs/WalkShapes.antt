@@ -179,8 +179,8 @@ rest-ended kind list places names before words stops are rest = record {
   new = rest.new;
 }
 
--- Words that the walk accepts are, with fitting words for the places that are still due, words for the places that were due
--- and then options.
+-- Words that the walk accepts are, with fitting words for the places that are still due, words for the places that were
+-- due and then options.
 abbrev Accepts : CommandKind → List (List ℕ) → Type 0
 Accepts kind words =
     (due : List Place) (names before : List (List ℕ)) (later : List Place) → RunsEnd due → IsOpen due names → walk kind words due names before ≡ Ok later

@@ -19,7 +19,8 @@ use Rattle.command_words.proofs.ReadLemmas.{read-accepts, read-refuses}
 abbrev pub words_of : List ℕ → List (List ℕ)
 words_of line = slice_split (λ byte. byte == 32) line
 
--- what is asked for: the name of a file at a place, a number at a place, the names of a list, the number of an option, the dumps, and whether an option is given
+-- what is asked for: the name of a file at a place, a number at a place, the names of a list, the number of an option,
+-- the dumps, and whether an option is given
 pub data Answer : Type 0 where
   AtFile : ℕ → List ℕ → Answer
   AtNumber : ℕ → ℕ → Answer

@@ -1,4 +1,5 @@
--- Options that a command doesn't take, each refused at its word; and the greatest numbers and the names of the other commands.
+-- Options that a command doesn't take, each refused at its word; and the greatest numbers and the names of the other
+-- commands.
 use Rattle.std.proofs.Common.{◌≡◌, ℕ, List, [], ◌∷◌, ◌++◌, codes, false, refl, Err}
 use Rattle.std.proofs.lemmas.Bool.{false≢true}
 use Rattle.ant_base.specs.Number.{decimal_value}
@@ -98,7 +99,8 @@ unfolding command_kind_of choice_of is_among rest_after is_file_name is_dumps du
 save_takes_no_text = refused_after (codes "save w r b") 5 ((codes "--dump") ∷ (codes "--stats") ∷ (codes "--far") ∷ shape_options)
     (refl, (refl, (refl, (refl, (refl, (refl, (refl, tt)))))))
 
--- what a save holds, `resume` takes no option for: the seed, the window and the sheet; nor does it take standing workers or an option of a world
+-- what a save holds, `resume` takes no option for: the seed, the window and the sheet; nor does it take standing
+-- workers or an option of a world
 abbrev held_options : List (List ℕ)
 held_options = (codes "--seed") ∷ (codes "--window") ∷ (codes "--surround") ∷ (codes "--corpse") ∷ (codes "--rest") ∷ []
 

@@ -50,7 +50,8 @@ abbrev pub IsGiven : Choice → List Given → Type 0
 IsGiven choice given = Contains (map (λ g. g.choice) given) choice
 
 -- the words are a command of this kind: its first word, the words of each of its places, and then options in any order
-pub record IsCommandOf (kind : CommandKind) (front : List (List (List ℕ))) (given : List Given) (words : List (List ℕ)) : Type 0 where
+pub record IsCommandOf (kind : CommandKind) (front : List (List (List ℕ))) (given : List Given)
+    (words : List (List ℕ)) : Type 0 where
   pub known : Contains kinds kind
   pub whole : words ≡ word_of kind ∷ (joined front ++ flat_map given_words given)
   pub places : FitAll (places_of kind) front
@@ -82,8 +83,8 @@ names_front (word ∷ words) = if is_file_name word then word ∷ names_front wo
 unfoldable pub is_among : List ℕ → List (List ℕ) → Bool
 is_among word words = list_any (λ other. bytes_eq other word) words
 
--- what words of a command say: the word of a number, counted from 1, that has a place; the names after a list's word; the word after an option's;
--- and whether an option's word stands among them
+-- what words of a command say: the word of a number, counted from 1, that has a place; the names after a list's word;
+-- the word after an option's; and whether an option's word stands among them
 pub record Answers : Type 0 where
   pub place : ℕ → Option (List ℕ)
   pub names : NameList → List (List ℕ)
@@ -98,8 +99,9 @@ answers_in kind words = record {
   has = λ choice. is_among (option_of choice) words;
 }
 
--- what a command line asks for, whichever command it is: the file and the number at each place, counted from 0; the names of each list; the
--- number of each option, given or not; the rounds that are dumped; and whether an option is given
+-- what a command line asks for, whichever command it is: the file and the number at each place, counted from 0; the
+-- names of each list; the number of each option, given or not; the rounds that are dumped; and whether an option is
+-- given
 pub record PlainAsked : Type 0 where
   pub kind : CommandKind
   pub file : ℕ → List ℕ
@@ -167,8 +169,9 @@ pub record IsBeginning (words : List (List ℕ)) : Type 0 where
   pub asked : PlainAsked
   pub whole : IsCommand (words ++ more) asked
 
--- the refused word, counted from 1: the first one with which the words up to and including it are not the beginning of any
--- command, so that any fewer are one; where all the words are a beginning and no command, the number of words plus one
+-- the refused word, counted from 1: the first one with which the words up to and including it are not the beginning of
+-- any command, so that any fewer are one; where all the words are a beginning and no command, the number of words plus
+-- one
 pub record IsRefusedAt (words : List (List ℕ)) (word : ℕ) : Type 0 where
   pub counted : 1 ≤ word
   pub no_further : word ≤ length words + 1
@@ -182,10 +185,12 @@ AreWithin NoDump = Unit {0}
 AreWithin EveryDump = Unit {0}
 AreWithin (ChosenDumps rounds) = AllByRecursion (IsWithin RoundCount) rounds
 
--- what is asked for is within the limits: each number is within those of its kind, and the names of each list of the command are as many as
--- it asks for, and different where they must differ
+-- what is asked for is within the limits: each number is within those of its kind, and the names of each list of the
+-- command are as many as it asks for, and different where they must differ
 pub record AskedWithin (asked : PlainAsked) : Type 0 where
-  pub number : (place : ℕ) (kind : NumberKind) → slice_get (places_of asked.kind) place ≡ Some (Word (Number kind)) → IsWithin kind (asked.number place)
-  pub option : (choice : Choice) (kind : NumberKind) → values_of choice ≡ Word (Number kind) ∷ [] → IsWithin kind (asked.option choice)
+  pub number : (place : ℕ) (kind : NumberKind) → slice_get (places_of asked.kind) place ≡ Some (Word (Number kind))
+      → IsWithin kind (asked.number place)
+  pub option : (choice : Choice) (kind : NumberKind) → values_of choice ≡ Word (Number kind) ∷ []
+      → IsWithin kind (asked.option choice)
   pub dumps : AreWithin asked.dumps
   pub names : (list : NameList) → Contains (places_of asked.kind) (Names list) → AreNames list (asked.names list)

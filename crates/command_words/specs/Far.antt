@@ -22,5 +22,6 @@ words_without_far words = if is_far_run words then map word_without_far words el
 
 -- such a reader takes no command that has the option, and all others as they are
 pub record RefusesFar : Type 0 where
-  pub refused : (words : List (List ℕ)) (asked : PlainAsked) → is_far_run words ≡ true → ¬ IsCommand (words_without_far words) asked
+  pub refused : (words : List (List ℕ)) (asked : PlainAsked) → is_far_run words ≡ true
+      → ¬ IsCommand (words_without_far words) asked
   pub others : (words : List (List ℕ)) → is_far_run words ≡ false → words_without_far words ≡ words

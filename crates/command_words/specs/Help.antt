@@ -1,4 +1,5 @@
--- What the page of `--help` says of the table: each command with its options, and each option, with their limits (this project's own).
+-- What the page of `--help` says of the table: each command with its options, and each option, with their limits (this
+-- project's own).
 use Rattle.std.specs.Prelude.{ℕ, ◌-◌, Bool, true, false, not, if◌then◌else◌, List, [], ◌∷◌, length, slice_index_or, codes, decimal}
 use Rattle.std.specs.List.{list_any}
 use Rattle.ant_base.specs.Layout.{◌+++◌, numbered}
@@ -24,7 +25,9 @@ range_text kind = codes ", " +++ decimal (least_of kind) +++ codes " to " +++ de
 -- the line of a place with limits, and the lines of all places; a file has none
 abbrev pub place_line : Place → List ℕ
 place_line (Word (Number kind)) = codes "      " +++ name_of kind +++ range_text kind +++ codes "\n"
-place_line (Names list) = codes "      " +++ list_name list +++ codes ", " +++ decimal (fewest_names list) +++ codes " to " +++ decimal most_names +++ codes " names\n"
+place_line (Names list) =
+    codes "      " +++ list_name list +++ codes ", "
+    +++ decimal (fewest_names list) +++ codes " to " +++ decimal most_names +++ codes " names\n"
 place_line place = []
 
 unfoldable pub place_lines : List Place → List ℕ
@@ -57,7 +60,8 @@ takes_line choices = if has_free choices then codes "      takes" +++ free_texts
 -- how a command is called, what it does, the limits of its numbers and lists, and its options
 unfoldable pub command_text : CommandKind → List ℕ
 command_text kind =
-    codes "  " +++ word_of kind +++ (help_row kind).names +++ needed_texts (choices_of kind) +++ more_text (choices_of kind)
+    codes "  " +++ word_of kind +++ (help_row kind).names +++ needed_texts (choices_of kind)
+    +++ more_text (choices_of kind)
     +++ codes "\n      " +++ (help_row kind).says +++ codes "\n"
     +++ place_lines (places_of kind)
     +++ takes_line (choices_of kind)
@@ -82,7 +86,8 @@ default_text places needed all default = []
 -- the line of an option; what is said of it begins in column 17
 unfoldable pub option_line : Choice → List ℕ
 option_line choice =
-    codes "  " +++ option_of choice +++ value_text (values_of choice) +++ numbered (λ at. codes " ") (12 - length (option_of choice))
+    codes "  " +++ option_of choice +++ value_text (values_of choice)
+    +++ numbered (λ at. codes " ") (12 - length (option_of choice))
     +++ about_of choice
     +++ default_text (values_of choice) (is_needed choice) (means_all choice) (default_of choice)
     +++ codes "\n"

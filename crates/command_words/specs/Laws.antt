@@ -23,7 +23,8 @@ NeverBoth = (words : List (List ℕ)) (asked : PlainAsked) (word : ℕ) → IsCo
 
 -- words are a command or have a refused word
 abbrev pub OneOfBoth : Type 0
-OneOfBoth = (words : List (List ℕ)) → ((asked : PlainAsked) × IsCommand words asked) ⊎ ((word : ℕ) × IsRefusedAt words word)
+OneOfBoth =
+    (words : List (List ℕ)) → ((asked : PlainAsked) × IsCommand words asked) ⊎ ((word : ℕ) × IsRefusedAt words word)
 
 -- a prefix of a beginning is a beginning, so that the refused word ends it for good
 abbrev pub FrontBegins : Type 0
@@ -44,17 +45,23 @@ WithinLimits = (words : List (List ℕ)) (asked : PlainAsked) → IsCommand word
 -- what is asked for stands among the words: no default takes the place of a word that stands there
 pub record SaysItsWords : Type 0 where
   -- a file has the name that stands at its place
-  pub file : (words : List (List ℕ)) (asked : PlainAsked) → IsCommand words asked → (place : ℕ) → slice_get (places_of asked.kind) place ≡ Some (Word FileName)
+  pub file : (words : List (List ℕ)) (asked : PlainAsked) → IsCommand words asked → (place : ℕ)
+      → slice_get (places_of asked.kind) place ≡ Some (Word FileName)
       → slice_get words (place + 1) ≡ Some (asked.file place)
   -- a number is the one that is spelled at its place
-  pub number : (words : List (List ℕ)) (asked : PlainAsked) → IsCommand words asked → (place : ℕ) (kind : NumberKind) → slice_get (places_of asked.kind) place ≡ Some (Word (Number kind))
+  pub number : (words : List (List ℕ)) (asked : PlainAsked) → IsCommand words asked → (place : ℕ) (kind : NumberKind)
+      → slice_get (places_of asked.kind) place ≡ Some (Word (Number kind))
       → (word : List ℕ) × (slice_get words (place + 1) ≡ Some word) × (number_in kind word ≡ Some (asked.number place))
   -- an option that is given has the number that is spelled behind its word
-  pub option : (words : List (List ℕ)) (asked : PlainAsked) (is : IsCommand words asked) (given : Given) → Contains is.given given
+  pub option : (words : List (List ℕ)) (asked : PlainAsked) (is : IsCommand words asked) (given : Given)
+      → Contains is.given given
       → (kind : NumberKind) → values_of given.choice ≡ Word (Number kind) ∷ []
       → (word : List ℕ) × (given.values ≡ (word ∷ []) ∷ []) × (number_in kind word ≡ Some (asked.option given.choice))
   -- and without it, that of the table
-  pub default : (words : List (List ℕ)) (asked : PlainAsked) (is : IsCommand words asked) (choice : Choice) → ¬ IsGiven choice is.given → asked.option choice ≡ default_of choice
+  pub default : (words : List (List ℕ)) (asked : PlainAsked) (is : IsCommand words asked) (choice : Choice)
+      → ¬ IsGiven choice is.given → asked.option choice ≡ default_of choice
   -- whether an option is given is said
-  pub has : (words : List (List ℕ)) (asked : PlainAsked) (is : IsCommand words asked) (choice : Choice) → asked.has choice ≡ true → IsGiven choice is.given
-  pub given : (words : List (List ℕ)) (asked : PlainAsked) (is : IsCommand words asked) (choice : Choice) → IsGiven choice is.given → asked.has choice ≡ true
+  pub has : (words : List (List ℕ)) (asked : PlainAsked) (is : IsCommand words asked) (choice : Choice)
+      → asked.has choice ≡ true → IsGiven choice is.given
+  pub given : (words : List (List ℕ)) (asked : PlainAsked) (is : IsCommand words asked) (choice : Choice)
+      → IsGiven choice is.given → asked.has choice ≡ true

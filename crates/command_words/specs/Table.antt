@@ -41,17 +41,23 @@ cup_places = Word (Keyword Worlds) ∷ Names Worlds ∷ Word (Keyword Brains) �
 
 -- all commands that are known, in the order of the page of `--help`
 abbrev pub kinds : List CommandKind
-kinds = Run ∷ Save ∷ Resume ∷ Advance ∷ View ∷ Trace ∷ Events ∷ Acts ∷ Profile ∷ Cup ∷ Workload ∷ Show ∷ Gen ∷ Brain ∷ Minimise ∷ Same ∷ Asm ∷ HelpWord ∷ Help ∷ Version ∷ []
+kinds =
+    Run ∷ Save ∷ Resume ∷ Advance ∷ View ∷ Trace ∷ Events ∷ Acts ∷ Profile ∷ Cup ∷ Workload ∷ Show ∷ Gen ∷ Brain
+    ∷ Minimise ∷ Same ∷ Asm ∷ HelpWord ∷ Help ∷ Version ∷ []
 
 abbrev pub row_of : CommandKind → CommandRow
 row_of Show = command_row (codes "show") (Word FileName ∷ number_place SeedNumber ∷ []) []
 row_of Brain = command_row (codes "brain") one_file []
 row_of Minimise = command_row (codes "minimise") one_file (States ∷ [])
-row_of Run = command_row (codes "run") game_places (Seed ∷ Rounds ∷ Dump ∷ Workers ∷ Window ∷ Surround ∷ Corpse ∷ Rest ∷ Stats ∷ Far ∷ [])
+row_of Run =
+    command_row (codes "run") game_places
+    (Seed ∷ Rounds ∷ Dump ∷ Workers ∷ Window ∷ Surround ∷ Corpse ∷ Rest ∷ Stats ∷ Far ∷ [])
 row_of Gen = command_row (codes "gen") (number_place SeedNumber ∷ []) (Width ∷ Height ∷ Rocks ∷ Blobs ∷ [])
 row_of Cup = command_row (codes "cup") cup_places (Seed ∷ Seeds ∷ Rounds ∷ Workers ∷ Games ∷ Leads ∷ Gauntlet ∷ [])
 row_of View = command_row (codes "view") (Word FileName ∷ game_places) (Seed ∷ Rounds ∷ From ∷ [])
-row_of Workload = command_row (codes "workload") (number_place SeedNumber ∷ number_place RoundCount ∷ number_place WorkerCount ∷ []) []
+row_of Workload =
+    command_row (codes "workload")
+    (number_place SeedNumber ∷ number_place RoundCount ∷ number_place WorkerCount ∷ []) []
 row_of Help = command_row (codes "--help") [] []
 row_of HelpWord = command_row (codes "help") [] []
 row_of Version = command_row (codes "--version") [] []
@@ -76,20 +82,33 @@ command_help names says = record { names = names; says = says }
 abbrev pub help_row : CommandKind → CommandHelp
 help_row Run = command_help (codes " WORLD RED BLACK") (codes "plays a game between two brains, and prints its score")
 help_row Save = command_help (codes " WORLD RED BLACK") (codes "plays a game up to a round, and prints a save of it")
-help_row Resume = command_help (codes " SAVE") (codes "goes on with a saved game, and prints the rest of what run prints")
-help_row Advance = command_help (codes " SAVE") (codes "goes on with a saved game up to a round, and prints a save of it there")
-help_row View = command_help (codes " WORLD RED BLACK BREAKS") (codes "plays a game up to the first of its breaks, and prints the world there")
-help_row Trace = command_help (codes " WORLD RED BLACK ID") (codes "plays a game, and prints where one ant is after each round")
-help_row Events = command_help (codes " WORLD RED BLACK") (codes "plays a game, and prints who died, and how the score went")
+help_row Resume =
+    command_help (codes " SAVE") (codes "goes on with a saved game, and prints the rest of what run prints")
+help_row Advance =
+    command_help (codes " SAVE") (codes "goes on with a saved game up to a round, and prints a save of it there")
+help_row View =
+    command_help (codes " WORLD RED BLACK BREAKS")
+    (codes "plays a game up to the first of its breaks, and prints the world there")
+help_row Trace =
+    command_help (codes " WORLD RED BLACK ID") (codes "plays a game, and prints where one ant is after each round")
+help_row Events =
+    command_help (codes " WORLD RED BLACK") (codes "plays a game, and prints who died, and how the score went")
 help_row Acts = command_help (codes " WORLD RED BLACK") (codes "plays a game, and prints what every ant executed")
-help_row Profile = command_help (codes " WORLD RED BLACK") (codes "plays a game, and prints how often each state was executed")
-help_row Cup = command_help (codes " --worlds WORLD.. --brains BRAIN..") (codes "plays all games between brains on worlds, and prints their standing")
-help_row Workload = command_help (codes " SEED ROUNDS WORKERS") (codes "plays the sample brain against itself on a world that gen makes")
+help_row Profile =
+    command_help (codes " WORLD RED BLACK") (codes "plays a game, and prints how often each state was executed")
+help_row Cup =
+    command_help (codes " --worlds WORLD.. --brains BRAIN..")
+    (codes "plays all games between brains on worlds, and prints their standing")
+help_row Workload =
+    command_help (codes " SEED ROUNDS WORKERS")
+    (codes "plays the sample brain against itself on a world that gen makes")
 help_row Show = command_help (codes " WORLD SEED") (codes "prints a world as it is at the start of a game")
 help_row Gen = command_help (codes " SEED") (codes "prints a world like the contest's, generated from a number")
 help_row Brain = command_help (codes " FILE") (codes "checks a brain, and prints it with one instruction a line")
-help_row Minimise = command_help (codes " FILE") (codes "merges equivalent states of a brain, and keeps what state 0 leads to")
-help_row Same = command_help (codes " FILE FILE") (codes "says whether two brains are the same except for state numbers")
+help_row Minimise =
+    command_help (codes " FILE") (codes "merges equivalent states of a brain, and keeps what state 0 leads to")
+help_row Same =
+    command_help (codes " FILE FILE") (codes "says whether two brains are the same except for state numbers")
 help_row Asm = command_help (codes " FILE") (codes "prints the brain of a program with labels and blocks")
 help_row HelpWord = command_help (codes "") (codes "prints this page")
 help_row Help = command_help (codes "") (codes "prints this page")
@@ -104,8 +123,8 @@ places_of kind = (row_of kind).places
 abbrev pub choices_of : CommandKind → List Choice
 choices_of kind = (row_of kind).choices
 
--- an option: its word, what stands after that, whether a command that has the option needs it, and the number that holds where it isn't given, or
--- whether all do
+-- an option: its word, what stands after that, whether a command that has the option needs it, and the number that
+-- holds where it isn't given, or whether all do
 pub record OptionRow : Type 0 where
   pub word : List ℕ
   pub values : List Place
@@ -114,10 +133,22 @@ pub record OptionRow : Type 0 where
   pub all : Bool
 
 abbrev pub needed_option : List ℕ → NumberKind → OptionRow
-needed_option word kind = record { word = word; values = number_place kind ∷ []; needed = true; default = 0; all = false }
+needed_option word kind = record {
+  word = word;
+  values = number_place kind ∷ [];
+  needed = true;
+  default = 0;
+  all = false;
+}
 
 abbrev pub number_option : List ℕ → NumberKind → ℕ → OptionRow
-number_option word kind default = record { word = word; values = number_place kind ∷ []; needed = false; default = default; all = false }
+number_option word kind default = record {
+  word = word;
+  values = number_place kind ∷ [];
+  needed = false;
+  default = default;
+  all = false;
+}
 
 abbrev pub one_option : List ℕ → NumberKind → OptionRow
 one_option word kind = record { word = word; values = number_place kind ∷ []; needed = false; default = 0; all = true }
@@ -174,7 +205,9 @@ means_all choice = (option_row choice).all
 
 -- all options, in the order of the page of `--help`
 abbrev pub options : List Choice
-options = Seed ∷ Seeds ∷ Rounds ∷ Dump ∷ Workers ∷ Window ∷ Surround ∷ Corpse ∷ Rest ∷ From ∷ Ant ∷ Stats ∷ Food ∷ Far ∷ Width ∷ Height ∷ Rocks ∷ Blobs ∷ Games ∷ Leads ∷ Gauntlet ∷ States ∷ Way ∷ Labels ∷ Lines ∷ []
+options =
+    Seed ∷ Seeds ∷ Rounds ∷ Dump ∷ Workers ∷ Window ∷ Surround ∷ Corpse ∷ Rest ∷ From ∷ Ant ∷ Stats ∷ Food ∷ Far ∷ Width
+    ∷ Height ∷ Rocks ∷ Blobs ∷ Games ∷ Leads ∷ Gauntlet ∷ States ∷ Way ∷ Labels ∷ Lines ∷ []
 
 -- what the page says of an option
 abbrev pub about_of : Choice → List ℕ

@@ -9,8 +9,8 @@ use crate::values::{dumps_said, names_of, said_at, said_for, word_after, word_fo
 use crate::walk::is_among;
 use crate::{Choice, CommandKind, DumpRounds, NameList};
 
-/// What a command line asks for, whichever command it is: which command, and what the words say at each of its places, in its lists of names and by its
-/// options. It borrows the words and takes no memory. Contracts see it by `plain`.
+/// What a command line requests, whichever command it is: which command, and what the words say at each of its places,
+/// in its lists of names and by its options. It borrows the words and takes no memory. Contracts see it by `plain`.
 #[derive(Clone, Copy)]
 pub struct Asked<'w> {
     /// which command it is
@@ -76,7 +76,8 @@ impl<'w> Asked<'w> {
     }
 }
 
-/// The words are no command; names the refused word, the first one with which they are not the beginning of any command.
+/// The words are no command; names the refused word, the first one with which they are not the beginning of any
+/// command.
 #[derive(Clone, Copy, Debug, PartialEq, Eq)]
 pub struct Refused {
     /// counted from 1; the number of words plus one where all of them are the beginning of a command and no command

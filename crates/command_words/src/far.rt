@@ -20,8 +20,8 @@ pub fn is_far_run(words: &[String]) -> bool
     first.as_str() == CommandKind::Run.word() && is_among(Choice::Far.word(), others)
 }
 
-/// The same as `read_words`, but that `--far` is no option: the first `--far` of a `run` is refused, unless a word before it is. It takes no
-/// memory.
+/// The same as `read_words`, but that `--far` is no option: the first `--far` of a `run` is refused, unless a word
+/// before it is. It takes no memory.
 pub fn read_words_without_far<'w>(words: &'w [String]) -> Result<Asked<'w>, Refused>
     ensures command { IfOk result (λ asked. IsCommand (words_without_far (texts words.now)) (plain asked)) }
     ensures refused { IfErr result (λ refused. IsRefusedAt (words_without_far (texts words.now)) refused.word) }

@@ -11,8 +11,8 @@ use crate::table::{MOST_NAMES, kinds, options};
 use crate::{Choice, CommandKind, NumberKind, Place, Slot};
 use ant_base::{Each, Failed, Layout, NumberedTexts, Sink, layout};
 
-/// What the page of `--help` says of the table: of each command how it is called, a sentence, the limits of its numbers and lists, and its
-/// options; and of each option what it is for, its limits, and what holds without it.
+/// What the page of `--help` says of the table: of each command how it is called, a sentence, the limits of its numbers
+/// and lists, and its options; and of each option what it is for, its limits, and what holds without it.
 #[derive(Clone, Copy)]
 pub struct HelpPage;
 

@@ -35,18 +35,19 @@ pub fn any_order()
     ensures { AnyOrder }
 {}
 
-/// Each number that is asked for is within the limits of its kind, those of a list of rounds too, and the names of each list are as many as it asks for.
+/// Each number that is requested is within the limits of its kind, those of a list of rounds too, and each list has a
+/// permitted number of names.
 pub fn within_limits()
     ensures { WithinLimits }
 {}
 
-/// To a reader that doesn't know `--far`, a run among whose words it stands is no command, and all other words are as they are.
+/// To a reader that doesn't know `--far`, a run with that word is no command, and all other words are unchanged.
 #[tactic(auto, using(crate::proofs::FarWords::refuses_far))]
 pub fn refuses_far()
     ensures { RefusesFar }
 {}
 
-/// What is asked for stands among the words; what holds without an option is what the table says.
+/// Whatever is requested is one of the words; without an option, the table's value holds.
 #[tactic(auto, using(crate::proofs::SaidLemmas::says_its_words))]
 pub fn says_its_words()
     ensures { SaysItsWords }

@@ -1,10 +1,11 @@
 //! The words of the program's command line: which words are a command, what they say, and which word is refused.
 //!
-//! `read_words` gives what the words ask for, or the first word with which they are not the beginning of any command. Both are
-//! relations over tables of commands, options and lists of names, a row each, and say nothing of how the words are gone over. A command
-//! or an option that no row of `kinds` or `choices` names is no command and no option. The laws say that words are one command or have
-//! one refused word, that options may stand in any order, and that numbers and names are within their limits. No call takes memory.
-//! Command lines are this project's own. This crate stands on `ant_base`, for numbers.
+//! `read_words` returns what the words request, or the first word that makes it impossible to complete the line to a
+//! command. Both are relations over tables of commands, options and lists of names, with a row each, and say nothing
+//! about how the words are read. A command or an option is known only if a row of `kinds` or `choices` names it. The
+//! laws say that words are one command or have one refused word, that options may be in any order, and that numbers and
+//! names are within their limits. No call takes memory. Command lines are this project's own. This crate depends on
+//! `ant_base`, for numbers.
 #![tactic(auto)]
 
 mod asked;

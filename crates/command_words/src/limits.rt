@@ -4,7 +4,8 @@ ghost use Rattle.command_words.specs.Limits.{least_of, most_of, name_of, number_
 
 use ant_base::read_number_within;
 
-/// What a number counts. Each kind has limits of its own; a number is 1 to 10 decimal digits, and leading zeros are accepted.
+/// What a number counts. Each kind has limits of its own; a number is 1 to 10 decimal digits, and leading zeros are
+/// accepted.
 #[derive(Clone, Copy, Debug, PartialEq, Eq)]
 pub enum NumberKind {
     /// a seed of random numbers, from 0 to 4,294,967,295

@@ -7,8 +7,8 @@ use crate::NumberKind;
 use crate::pieces::Pieces;
 use std::marker::Model;
 
-/// The numbers of a list that are left, each from 0 to 1,000,000, in the order of the list. Contracts see it as the
-/// list of these numbers. It takes no memory and refuses nothing: the list was read whole when it was made.
+/// The remaining numbers of a list, each from 0 to 1,000,000, in the order of the list. Contracts see it as the list of
+/// these numbers. It takes no memory and refuses nothing: the list was checked whole when it was made.
 #[derive(Drop)]
 pub struct Numbers<'w> {
     pieces: Pieces<'w>,

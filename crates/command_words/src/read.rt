@@ -7,9 +7,9 @@ ghost use Rattle.command_words.specs.Words.{texts};
 use crate::walk::{is_finished, kind_of, walk};
 use crate::{Asked, Refused};
 
-/// What the program's words ask for, without the program's own name. Refused exactly where they are no command, at the first word,
-/// counted from 1, with which the words up to and including it are not the beginning of any command, or at the number of words plus one
-/// where all of them are a beginning and no command. It takes no memory.
+/// What the program's words request, without the program's own name. If they are no command, it returns the first word,
+/// counted from 1, that makes it impossible to complete the line to a command; if words are only missing at the end, it
+/// returns the number of words plus one. It takes no memory.
 #[tactic(auto, using(crate::proofs::ReadLemmas::result_command, crate::proofs::ReadLemmas::result_refused, crate::proofs::ReadLemmas::result_none))]
 pub fn read_words<'w>(words: &'w [String]) -> Result<Asked<'w>, Refused>
     ensures command { IfOk result (λ asked. IsCommand (texts words.now) (plain asked)) }

@@ -18,7 +18,7 @@ pub enum Slot {
     Keyword(NameList),
 }
 
-/// A place of a command: one word, or names as many as one likes within the limits of their list.
+/// A place of a command: one word, or any number of names within the limits of their list.
 #[derive(Clone, Copy, Debug, PartialEq, Eq)]
 pub enum Place {
     /// one word

@@ -29,7 +29,8 @@ pub enum CommandKind {
     HelpWord,
     /// `--version`: which program this is
     Version,
-    /// `asm FILE`, and its options: the brain of a labelled program, or what its labels lead to and which lines its states come from
+    /// `asm FILE`, and its options: the brain of a labelled program, or what its labels lead to and which lines its
+    /// states come from
     Asm,
     /// `save WORLD RED BLACK`, and its options: a game after some rounds, to go on with
     Save,
@@ -74,7 +75,7 @@ pub enum Choice {
     Stats,
     /// `--food`, whether it is told who takes and who drops food
     Food,
-    /// `--far`, whether workers play that stand for the whole game
+    /// `--far`, whether the workers are kept for the whole game
     Far,
     /// `--width N`, the cells of a row; without it 150
     Width,
@@ -88,9 +89,9 @@ pub enum Choice {
     From,
     /// `--ant N`, the one ant that is told of; without it all are
     Ant,
-    /// `--labels`, whether the state that each label leads to is wanted in place of the brain
+    /// `--labels`, whether to print the state of each label instead of the brain
     Labels,
-    /// `--states`, whether the new number of each state is wanted in place of the brain
+    /// `--states`, whether to print the new number of each state instead of the brain
     States,
     /// `--games`, whether the line of each game is wanted before the standing
     Games,
@@ -98,7 +99,7 @@ pub enum Choice {
     Leads,
     /// `--gauntlet`, whether only the games of the first brain are played
     Gauntlet,
-    /// `--lines`, whether the line that each state comes from is wanted in place of the brain
+    /// `--lines`, whether to print the line of each state instead of the brain
     Lines,
     /// `--way`, whether each answer on the way to the difference is wanted
     Way,
@@ -145,8 +146,8 @@ pub(crate) fn kinds() -> &'static [CommandKind]
     ]
 }
 
-// A command: its first word, what stands after that, and the options that may follow; and of the page of `--help` its places by name,
-// each behind a space, and a sentence.
+// A command: its first word, what stands after that, and the options that may follow; and of the page of `--help` its
+// places by name, each behind a space, and a sentence.
 #[derive(Clone, Copy)]
 struct CommandRow {
     word: &'static str,
@@ -450,8 +451,8 @@ pub(crate) fn options() -> &'static [Choice]
     ]
 }
 
-// An option: its word, what stands after that, whether a command that has the option needs it, the number that holds where it isn't given, or
-// whether all do, and what the page of `--help` says of it.
+// An option: its word, what stands after that, whether a command that has the option needs it, the number that holds
+// where it isn't given, or whether all do, and what the page of `--help` says of it.
 #[derive(Clone, Copy)]
 struct OptionRow {
     word: &'static str,

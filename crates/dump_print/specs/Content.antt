@@ -31,8 +31,10 @@ marks_text colour marks =
 -- an ant
 unfoldable pub standing_ant_text : Ant → List ℕ
 standing_ant_text ant =
-    colour_text ant.colour +++ codes " ant of id " +++ decimal ant.id +++ codes ", dir " +++ decimal (number_of ant.facing)
-    +++ codes ", food " +++ (if ant.laden then codes "1" else codes "0") +++ codes ", state " +++ decimal ant.state +++ codes ", resting " +++ decimal ant.resting
+    colour_text ant.colour +++ codes " ant of id " +++ decimal ant.id +++ codes ", dir "
+    +++ decimal (number_of ant.facing)
+    +++ codes ", food " +++ (if ant.laden then codes "1" else codes "0") +++ codes ", state " +++ decimal ant.state
+    +++ codes ", resting " +++ decimal ant.resting
 
 -- the ant, where one stands there
 abbrev pub ant_text : Option Ant → List ℕ

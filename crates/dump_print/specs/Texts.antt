@@ -37,9 +37,11 @@ seed_text seed = (codes "random seed: " +++ decimal seed) +++ codes "\n"
 
 -- an empty line and the line of a score
 unfoldable pub score_text : Score → List ℕ
-score_text score = codes "\nscore: red " +++ decimal score.red +++ codes " black " +++ decimal score.black +++ codes "\n"
+score_text score =
+    codes "\nscore: red " +++ decimal score.red +++ codes " black " +++ decimal score.black +++ codes "\n"
 
 -- the line of the counts of turns and looks
 unfoldable pub stats_text : Totals → List ℕ
 stats_text totals =
-    codes "turns " +++ decimal totals.turns +++ codes " taken " +++ decimal totals.taken +++ codes " redone " +++ decimal totals.redone +++ codes "\n"
+    codes "turns " +++ decimal totals.turns +++ codes " taken " +++ decimal totals.taken +++ codes " redone "
+    +++ decimal totals.redone +++ codes "\n"

@@ -8,7 +8,7 @@ use ant_base::{Each, Failed, Layout, NumberedTexts, Sink, layout};
 use cell_world::{Ant, Cell, Colour, Marks};
 use hex_geometry::Dir;
 
-/// The word of a colour, as it stands in a dump and in a save: `red` or `black` (this project's own layout).
+/// The word of a colour in a dump and in a save: `red` or `black` (this project's own layout).
 #[derive(Clone, Copy)]
 pub struct ColourWord(pub Colour);
 

@@ -1,8 +1,8 @@
 //! The exact text of dumps, scores and counts.
 //!
-//! Each text is a value that pushes itself to a sink, and each public call pushes exactly the text that its clause names, or a prefix of
-//! it where the sink failed; no call builds its text in memory. The layout is this project's own. This crate stands on `ant_base` and
-//! `cell_world`.
+//! Each text is a value that pushes itself to a sink. Each public call pushes exactly the text that its clause names,
+//! or a prefix of it if the sink failed. No call builds its text in memory. The layout is this project's own. This
+//! crate depends on `ant_base` and `cell_world`.
 #![tactic(auto)]
 
 mod content;

@@ -51,8 +51,8 @@ impl Layout for CellWords {
     }
 }
 
-// The line of a cell without its LF, and in front of it the LF of the line before, if there is one: pieces that end in LF are flushed
-// by the sinks of streams, and so all lines are flushed at once.
+// The line of a cell without its LF, and in front of it the LF of the line before, if there is one: pieces that end in
+// LF are flushed by the sinks of streams, and so all lines are flushed at once.
 #[derive(Clone, Copy)]
 pub struct CellLine<'r> {
     pub x: u16,

@@ -28,18 +28,20 @@ pub fn push_seed<K: Sink>(seed: u32, sink: &mut K) -> Result<(), Failed>
     layout!(SeedWords(seed), "\n").push_to(sink)
 }
 
-/// Pushes a line for each cell, row by row from the top, each row from the left, as `cell (1, 1): red hill; `. Where the sink failed, a prefix of the lines was pushed.
+/// Pushes a line for each cell, row by row from the top, each row from the left, as `cell (1, 1): red hill; `. Where
+/// the sink failed, a prefix of the lines was pushed.
 pub fn push_cells<K: Sink>(world: &World, sink: &mut K) -> Result<(), Failed>
     ensures { Pushed (K.state sink.old) (K.state sink.new) (cells_text (world_of world.now)) result }
 {
     Cells(world).push_to(sink)
 }
 
-/// Pushes the dump of a world after a round, counted from 0 for the start: an empty line, `After round 0...` and the lines of the
-/// cells. Where the sink failed, a prefix of the dump was pushed.
+/// Pushes the dump of a world after a round, counted from 0 for the start: an empty line, `After round 0...` and the
+/// lines of the cells. Where the sink failed, a prefix of the dump was pushed.
 ///
-/// Given the opening world of `3\n3\n###\n#+#\n###\n` and round 0 it pushes 11 lines: the empty one, `After round 0...`, and nine of cells. The
-/// seventh is `cell (1, 1): red hill; red ant of id 0, dir 0, food 0, state 0, resting 0`, and the eight of the rim end in `: rock`.
+/// Given the opening world of `3\n3\n###\n#+#\n###\n` and round 0 it pushes 11 lines: the empty one, `After round
+/// 0...`, and nine of cells. The seventh is `cell (1, 1): red hill; red ant of id 0, dir 0, food 0, state 0, resting
+/// 0`, and the eight of the rim end in `: rock`.
 #[tactic(auto, unfolding(crate::specs::Texts::dump_text))]
 pub fn push_dump<K: Sink>(world: &World, round: u32, sink: &mut K) -> Result<(), Failed>
     ensures { Pushed (K.state sink.old) (K.state sink.new) (dump_text (world_of world.now) round) result }

@@ -21,7 +21,8 @@ pub record FoundValue : Type 0 where
   pub base : Grid
   pub looks : List LookValue
 
--- what every job keeps: its brains fit its world, its turns are ids of it, and each has a guess at which a number can be drawn
+-- what every job keeps: its brains fit its world, its turns are ids of it, and each has a guess at which a number can
+-- be drawn
 pub record IsJob (job : JobValue) : Type 0 where
   pub fits : Fits (world_of job.base) job.minds
   pub forwards : job.from ≤ job.to
@@ -42,4 +43,6 @@ pub record IsFound (minds : Minds) (seed : ℕ) (base : Grid) (looks : List Look
 -- the looks of the first n turns of a job, in order
 abbrev pub looks_of : JobValue → ℕ → List LookValue
 looks_of job zero = []
-looks_of job (suc n) = looks_of job n ++ look_of job.minds job.seed (world_of job.base) (slice_index_or job.guesses n 0) (job.from + n) ∷ []
+looks_of job (suc n) =
+    looks_of job n
+    ++ look_of job.minds job.seed (world_of job.base) (slice_index_or job.guesses n 0) (job.from + n) ∷ []

@@ -20,10 +20,10 @@ use hex_geometry::Pos;
 use round_book::Field;
 use spec_record::Look;
 
-/// Whether a look of an answer agrees with a field at a guess: the seeds, the sheets, the sizes and the numbers of ids are equal, the look's
-/// guess is this one, every position that the look reads has equal whole contents in both worlds, and its ant is dead in both or alive in
-/// both, there with the same instruction in both pairs of brains. Then it is the look on the field at its turn and this guess. `i` is below
-/// the number of looks. It takes no memory.
+/// Whether a look of an answer agrees with a field at a guess: the seeds, the sheets, the sizes and the numbers of ids
+/// are equal, the look's guess is this one, every position that the look reads has equal whole contents in both worlds,
+/// and its ant is dead in both or alive in both, there with the same instruction in both pairs of brains. Then it is
+/// the look on the field at its turn and this guess. `i` is below the number of looks. It takes no memory.
 pub fn agrees(field: &Field<'_>, found: &Found, i: u32, guess: u64) -> bool
     requires { i < length found.now.looks }
     ensures agrees { (look : _) → slice_get found.now.looks i ≡ Some look → ((result ≡ true) ↔ AgreesWith field.now found.now look guess) }
@@ -81,7 +81,8 @@ fn is_same_there(field: &Field<'_>, found: &Found, look: &Look) -> bool
     are_reads_same(field, found, look) && is_same_ant(field, found, look.turn())
 }
 
-// Whether the field's world holds at each position that was read what the answer's world holds there, which is what the look stored.
+// Whether the field's world holds at each position that was read what the answer's world holds there, which is what the
+// look stored.
 fn are_reads_same(field: &Field<'_>, found: &Found, look: &Look) -> bool
     requires { IsLookOf found.now.minds found.now.seed found.now.base look.now }
     ensures { (result ≡ true) ↔ AllByRecursion (λ read. (world_of found.now.base).cells (seen_place read) ≡ (world_of field.now.world).cells (seen_place read)) look.now.reads }

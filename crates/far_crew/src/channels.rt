@@ -6,8 +6,9 @@ use spec_record::Look;
 use std::alloc::Global;
 use std::sync::Wait;
 
-// A worker's two channels, whether both are open as far as the crew knows, whether an answer is due, the job that is ready for it, its last
-// answer, and the room of older looks. One answer is kept in the line itself, so that no list grows in a window.
+// A worker's two channels, whether both are open as far as the crew knows, whether an answer is due, the job that is
+// ready for it, its last answer, and the room of older looks. One answer is kept in the line itself, so that no list
+// grows in a window.
 #[derive(Drop)]
 pub struct WorkerChannels {
     jobs: Sender<Job>,
@@ -57,7 +58,8 @@ impl WorkerChannels {
         self.job = Some(job);
     }
 
-    // Sends the job that is ready, if there is one. A job that can't be sent is gone with its room, and the line is closed.
+    // Sends the job that is ready, if there is one. A job that can't be sent is gone with its room, and the line is
+    // closed.
     pub fn ask<R: Wait>(&mut self, rt: &R) {
         if let Some(job) = self.job.take() {
             self.is_asked = self.jobs.send(rt, job).is_ok();

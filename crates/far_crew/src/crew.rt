@@ -21,9 +21,10 @@ use spec_record::Look;
 use std::alloc::Global;
 use std::sync::{Arc, Wait};
 
-/// A crew whose workers stand by over all windows of a game: each gets jobs and gives answers by two channels of its own. Nothing is
-/// assumed of what a channel delivers, since each look of an answer is held against the field before it is used. The crew keeps its copies
-/// of the world and the brains, and the rooms of looks, from one window to the next.
+/// A crew whose workers stay ready over all windows of a game. Each gets jobs and sends answers by two channels of its
+/// own. Nothing is assumed about what a channel delivers, since each look of an answer is checked against the field
+/// before it is used. The crew keeps its copies of the world and the brains, and the rooms of looks, from one window to
+/// the next.
 #[derive(Drop)]
 pub struct FarCrew<'c, R: Wait, G: Gate> {
     rt: &'c R,
@@ -64,8 +65,8 @@ impl<'c, R: Wait, G: Gate> FarCrew<'c, R, G> {
         }
     }
 
-    /// A crew of so many workers, 1 to 16, none of which was started, as where the system refuses each start: no worker is asked, and the
-    /// caller's thread looks at each turn. It has played no turn yet.
+    /// A crew of this number of workers, 1 to 16, none of which was started, as if the system refused each start: no
+    /// worker gets a job, and the caller's thread looks at each turn. It has played no turn yet.
     pub fn unstarted(rt: &'c R, alloc: Global, gate: &'c G, workers: u32) -> FarCrew<'c, R, G>
         requires workers { (1 ≤ workers) × (workers ≤ 16) }
         ensures { IsUnstarted workers result }
@@ -81,14 +82,15 @@ impl<'c, R: Wait, G: Gate> FarCrew<'c, R, G> {
         self.turns
     }
 
-    /// Plays the turns of the ids from `from` up to, and not including, `to`. The field is whole, `from` is at most `to`, `to` at most the
-    /// number of ids, and the place with the number of turns is below 2^63. The field is whole afterwards, its world and place are those to
-    /// which the turns lead in order, and the answer counts the looks that were taken and the turns that were executed anew. It is refused
-    /// only when out of memory; the field and the count of turns are as before then. All memory but that of the book is taken before the
-    /// first job is sent.
+    /// Plays the turns of the ids from `from` up to, and not including, `to`. The field is whole, `from` is at most
+    /// `to`, `to` is at most the number of ids, and the place plus the number of turns is below 2^63. Afterwards the
+    /// field is whole, and its world and place are those to which the turns lead in order. The result counts the looks
+    /// that were used and the turns that were executed again. It fails only if memory runs out; the field and the count
+    /// of turns are then unchanged. All memory except the book's is taken before the first job is sent.
     ///
-    /// Each worker that has started and whose channels are open gets a job, and one answer is awaited of it; so the call may wait. A turn of
-    /// which no look agrees with the field is looked at by the caller's thread, which calls the gate with the number of workers as its own.
+    /// Each worker that has started and whose channels are open gets a job, and the call waits for one answer from it.
+    /// If no look at a turn agrees with the field, the caller's thread looks at it, and calls the gate with the number
+    /// of workers as its own.
     pub fn window(
         &mut self,
         alloc: Global,

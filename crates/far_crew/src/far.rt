@@ -16,8 +16,9 @@ use std::sync::Wait;
 use std::thread;
 use std::thread::Threads;
 
-/// What is done with a crew, whichever crew it is. An errand goes by value and comes back, since a scope of threads passes on what its
-/// closure answers, and not what the closure writes through a borrow; it may hold `&mut` references, which come back with it.
+/// What is done with a crew, whichever crew it is. An errand goes by value and comes back, since a scope of threads
+/// passes on what its closure answers, and not what the closure writes through a borrow; it may hold `&mut` references,
+/// which come back with it.
 pub trait Errand: Drop {
     /// How the errand that comes out belongs to the one that went in.
     ghost finished: { Self → Self → Type 0 };
@@ -97,13 +98,14 @@ fn run_errand<R: Wait, G: Gate, E: Errand>(
     errand.run(&mut crew)
 }
 
-/// Runs an errand with a crew of 1 to 16 workers that stand by, and answers the errand that comes out. It is refused only when out of
-/// memory; the answer has the errand as it was handed in then.
+/// Runs an errand with a crew of 1 to 16 workers that stand by, and answers the errand that comes out. It is refused
+/// only when out of memory; the answer has the errand as it was handed in then.
 ///
-/// The workers are started, each with two channels of its own; one whose start is refused is left out, and the committer looks at its turns.
-/// The errand runs on the caller's thread with a crew of them. When it is done the channels are closed, which ends the workers, and they are
-/// taken in before the call returns. Worker k, from 0, calls the gate with its number before each look, and the committer with the number of
-/// workers. The call may wait for a worker.
+/// The workers are started, each with two channels of its own; one whose start is refused is left out, and the
+/// committer looks at its turns. The errand runs on the caller's thread with a crew of them. When it is done the
+/// channels are closed, which ends the workers, and they are taken in before the call returns. Worker k, from 0, calls
+/// the gate with its number before each look, and the committer with the number of workers. The call may wait for a
+/// worker.
 pub fn with_far<R: Threads + Wait + Sync, G: Gate, E: Errand>(
     rt: &R,
     alloc: Global,

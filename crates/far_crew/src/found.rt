@@ -13,8 +13,8 @@ use spec_record::Look;
 use std::marker::Model;
 use std::sync::Arc;
 
-/// What a worker found: looks, with the brains, the seed and the world on which they were made. The brains fit the world, and each look is
-/// that of these brains, this seed and this world at its own guess and turn.
+/// What a worker found: looks, with the brains, the seed and the world on which they were made. The brains fit the
+/// world, and each look is the one of these brains, this seed and this world at its own guess and turn.
 #[derive(Drop)]
 pub struct Found {
     minds: Arc<OwnBrains>,
@@ -53,7 +53,8 @@ impl Found {
         }
     }
 
-    /// How many looks there are. A clause says what every answer keeps, so that one that came by a channel is known by this call.
+    /// How many looks there are. A clause says what every answer keeps, so that one that came by a channel is known by
+    /// this call.
     #[inline]
     pub fn len(&self) -> usize
         ensures len { result ≡ length self.now.looks }

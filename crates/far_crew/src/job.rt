@@ -26,8 +26,9 @@ use std::alloc::Global;
 use std::marker::Model;
 use std::sync::Arc;
 
-/// The turns at which a worker is to look, and all that it needs for that: the brains, the seed and the world of the game, a guess for each
-/// turn, and room for the looks. Its brains fit its world, its turns are ids of the world, and at each guess a number can be drawn.
+/// The turns at which a worker is to look, and all that it needs for that: the brains, the seed and the world of the
+/// game, a guess for each turn, and room for the looks. Its brains fit its world, its turns are ids of the world, and
+/// at each guess a number can be drawn.
 #[derive(Drop)]
 pub struct Job {
     minds: Arc<OwnBrains>,
@@ -66,9 +67,9 @@ impl Model for Job {
 }
 
 impl Job {
-    /// The job of the turns of the ids from `from` up to, and not including, `to`, each at its guess, with brains and a world that are
-    /// shared. The brains and the world are the field's, `from` is at most `to`, `to` at most the number of ids, there are as many guesses as
-    /// turns, and each is below 2^63 - 1. It is refused only when out of memory.
+    /// The job of the turns of the ids from `from` up to, and not including, `to`, each at its guess, with brains and a
+    /// world that are shared. The brains and the world are the field's, `from` is at most `to`, `to` at most the number
+    /// of ids, there are as many guesses as turns, and each is below 2^63 - 1. It is refused only when out of memory.
     pub fn of(
         alloc: Global,
         field: &Field<'_>,
@@ -127,8 +128,8 @@ impl Job {
         })
     }
 
-    /// The looks at all its turns, in order, on its own world, by its own brains and seed, each at its guess. The worker calls the gate with
-    /// its number and the id before each. It takes no memory.
+    /// The looks at all its turns, in order, on its own world, by its own brains and seed, each at its guess. The
+    /// worker calls the gate with its number and the id before each. It takes no memory.
     pub fn work<G: Gate>(self, gate: &G, worker: u32) -> Found
         ensures minds { result.minds ≡ self.minds }
         ensures seed { result.seed ≡ self.seed }
@@ -190,7 +191,8 @@ fn make_looks<G: Gate>(
     }
 }
 
-// Makes the look at a turn by a stream that stands at its guess, in the room with this number: that of an older look, or the first free one.
+// Makes the look at a turn by a stream that stands at its guess, in the room with this number: that of an older look,
+// or the first free one.
 #[inline]
 fn make_look(
     looks: &mut Vec<Look>,

@@ -16,7 +16,8 @@ use hex_geometry::OutOfMemory;
 use round_book::Field;
 use spec_record::{Look, look};
 
-// Where the look at a turn stands: with this number among the looks in the answer of this line, or among the crew's own.
+// Where the look at a turn stands: with this number among the looks in the answer of this line, or among the crew's
+// own.
 #[derive(Clone, Copy)]
 pub enum Pick {
     Theirs { line: usize, at: usize },
@@ -56,7 +57,8 @@ fn blank(picks: &mut Vec<Option<Pick>>, turns: usize) -> Result<(), OutOfMemory>
     Ok(())
 }
 
-// Picks for each turn of a window the first look that agrees, and where there is none, one of the crew's own, which is made.
+// Picks for each turn of a window the first look that agrees, and where there is none, one of the crew's own, which is
+// made.
 #[tactic(auto, using(crate::proofs::PickLemmas::none_picked))]
 pub fn choose<G: Gate>(
     caller: &Caller<'_, G>,

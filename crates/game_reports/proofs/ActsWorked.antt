@@ -62,8 +62,8 @@ unmade_acts : (acts_text flipping 12345 start 2 (Some 1) 0 ≡ codes "random see
 unfolding acts_text unmade_text digits seed_text opening
 unmade_acts = (refl, refl)
 
--- a red ant moves, rests in round 2 and is blocked in round 3: of a rest nothing is told, and the answer is the real one, though both states of
--- the Move are the same
+-- a red ant moves, rests in round 2 and is blocked in round 3: of a rest nothing is told, and the answer is the real
+-- one, though both states of the Move are the same
 rest_untold : acts_text hasty 12345 lane 3 None 0 ≡
     codes "random seed: 12345\n"
     +++ codes "round 1, red ant 0: on (1, 1), dir 0, food 0, state 0: Move 0 0: met\n"
@@ -111,8 +111,8 @@ food_acts : (lone_acts (PickUp 0 0) (alone_on Red 2 false) ≡ codes "round 4, r
 unfolding act_line seen instruction_words digits place_in cell_in opening floor rock put_cell same_pos
 food_acts = (refl, refl, refl, refl, refl)
 
--- Mark, Unmark and Turn are met; a bound of 1 leaves 0 of every number, and the first one is odd; a blocked Move and a condition that doesn't hold
--- are unmet
+-- Mark, Unmark and Turn are met; a bound of 1 leaves 0 of every number, and the first one is odd; a blocked Move and a
+-- condition that doesn't hold are unmet
 other_acts : (lone_acts (Mark 2 0) (alone_on Red 0 false) ≡ codes "round 4, red ant 0: on (1, 1), dir 0, food 0, state 0: Mark 2 0: met" ∷ [])
     × (lone_acts (Unmark 5 0) (alone_on Red 0 false) ≡ codes "round 4, red ant 0: on (1, 1), dir 0, food 0, state 0: Unmark 5 0: met" ∷ [])
     × (lone_acts (Turn Left 0) (alone_on Red 0 false) ≡ codes "round 4, red ant 0: on (1, 1), dir 0, food 0, state 0: Turn Left 0: met" ∷ [])

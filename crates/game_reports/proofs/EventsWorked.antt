@@ -78,7 +78,8 @@ two_beset =
 abbrev pub stepping : Minds
 stepping = contest_minds (Move 0 0 ∷ []) (Move 0 0 ∷ [])
 
--- both die, in the order of the checks, which isn't that of ids: the one to the east first; and each leaves its corpse on its hill
+-- both die, in the order of the checks, which isn't that of ids: the one to the east first; and each leaves its corpse
+-- on its hill
 two_die : turn_lines stepping 0 7 (start_of two_beset) 6 ≡
     codes "round 7, red ant 6: black ant 7 dies on (4, 3)"
     ∷ codes "round 7, red ant 6: black ant 3 dies on (3, 2)"
@@ -87,7 +88,8 @@ two_die : turn_lines stepping 0 7 (start_of two_beset) 6 ≡
 unfolding turn_lines deaths_in scores_in death_words score_words death_place ant_in ahead_of digits turn stepped check_at is_surrounded killed_at places_around neighbours_of adjacent_pos directions place_in cell_in opening floor rock put_cell same_pos score_of hill_food_of
 two_die = refl
 
--- both are noted as they stood; red ant 6 is the fifth foe of the first on its new cell alone, and of neither where six must surround
+-- both are noted as they stood; red ant 6 is the fifth foe of the first on its new cell alone, and of neither where six
+-- must surround
 two_noted :
     (dead_in stepping two_beset 6 ≡ Some (record { place = at 4 3; ant = new_ant Black 7 }) ∷ Some (record { place = at 3 2; ant = new_ant Black 3 }) ∷ [])
     × (dead_in (record stepping { sheet = record contest { surround = 6 } }) two_beset 6 ≡ [])

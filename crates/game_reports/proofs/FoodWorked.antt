@@ -32,7 +32,8 @@ use Rattle.game_reports.specs.Events.{event_lines}
 use Rattle.game_reports.specs.Report.{report_lines, report_text}
 use Rattle.game_reports.proofs.EventsWorked.{one_laden, stepping}
 
--- the one clear cell of a world, of this hill and with so much food, on which a black ant stands in state 1 that is laden or not
+-- the one clear cell of a world, of this hill and with so much food, on which a black ant stands in state 1 that is
+-- laden or not
 abbrev on_cell : Option Colour → ℕ → Bool → World
 on_cell hill food laden =
     put (world_of (opening 3 3 one_hill)) (at 1 1) (record floor { hill = hill; food = food; ant = Some (record { id = 0; colour = Black; state = 1; resting = 0; facing = SouthEast; laden = laden }) })
@@ -55,7 +56,8 @@ hill_told : (food_told true (Drop 0) (on_cell (Some Black) 0 true) ≡ codes "ro
 unfolding seen digits turn place_in cell_in opening floor rock put_cell same_pos score_of hill_food_of
 hill_told = (refl, refl, refl, refl)
 
--- what does nothing isn't told: a Drop of an ant that carries nothing, a PickUp of a laden one or where no food lies, a Move
+-- what does nothing isn't told: a Drop of an ant that carries nothing, a PickUp of a laden one or where no food lies, a
+-- Move
 idle_untold : (food_told true (Drop 0) (on_cell (Some Red) 2 false) ≡ [])
     × (food_told true (PickUp 0 0) (on_cell (Some Red) 2 true) ≡ [])
     × (food_told true (PickUp 0 0) (on_cell (Some Red) 0 false) ≡ [])
@@ -78,7 +80,8 @@ death_no_drop : flat_map (event_lines true) (seen stepping 0 7 (start_of one_lad
 unfolding seen digits death_place ant_in ahead_of turn stepped check_at is_surrounded killed_at places_around neighbours_of adjacent_pos directions place_in cell_in opening floor rock put_cell same_pos score_of hill_food_of
 death_no_drop = refl
 
--- a red ant that doesn't rest fetches the particle beside its hill, drops it there in round 7, and takes it away again in round 8
+-- a red ant that doesn't rest fetches the particle beside its hill, drops it there in round 7, and takes it away again
+-- in round 8
 abbrev pub lane : List Kind
 lane = Rock ∷ Rock ∷ Rock ∷ Rock ∷ Rock ∷ RedHill ∷ Food 1 ∷ Rock ∷ Rock ∷ Rock ∷ Rock ∷ Rock ∷ []
 
@@ -103,7 +106,8 @@ all_fetched : fetched true 8 0 ≡
 unfolding report_text report_lines seen digits seed_text after_round after_turn turn stepped check_at is_surrounded killed_at places_around neighbours_of adjacent_pos directions turned_by place_in cell_in opening floor rock put_cell same_pos score_of hill_food_of
 all_fetched = refl
 
--- the lines of rounds before the first one are left out, and nothing is told of what changed in them; scores are those of the whole game
+-- the lines of rounds before the first one are left out, and nothing is told of what changed in them; scores are those
+-- of the whole game
 fetched_since : (fetched true 8 8 ≡
     codes "random seed: 12345\n"
     +++ codes "round 8, red ant 0: state 7 takes food on (1, 1), red hill\n"

@@ -34,7 +34,8 @@ use Rattle.game_reports.proofs.EventsWorked.{ambush}
 use Rattle.match_run.specs.Seen.{is_met}
 use Rattle.game_reports.specs.Profile.{brain_lines, executed_in, executed_in_rounds, met_of, profile_text, tally_line, times_of}
 
--- one red ant, whose first random number goes to state 1 and whose second to state 2; the black brain, which has no ant, is shorter
+-- one red ant, whose first random number goes to state 1 and whose second to state 2; the black brain, which has no
+-- ant, is shorter
 flips_counted : profile_text flipping 12345 (world_of (opening 3 3 one_hill)) 3 0 ≡
     codes "random seed: 12345\n"
     +++ codes "red 0: 1 times, 0 met: Flip 4 0 1\n"
@@ -44,7 +45,8 @@ flips_counted : profile_text flipping 12345 (world_of (opening 3 3 one_hill)) 3 
 unfolding profile_text executed_in_rounds executed_in times_of met_of brain_lines tally_line instruction_text numbered digits seed_text after_round after_turn turn place_in cell_in opening floor rock put_cell same_pos drawn random_at state_at
 flips_counted = refl
 
--- turns before the first round don't count, and their random numbers are drawn; round 1 is the first of all, and above the last one nothing counts
+-- turns before the first round don't count, and their random numbers are drawn; round 1 is the first of all, and above
+-- the last one nothing counts
 flips_since : (profile_text flipping 12345 (world_of (opening 3 3 one_hill)) 3 2 ≡
     codes "random seed: 12345\n"
     +++ codes "red 0: 0 times, 0 met: Flip 4 0 1\n"
@@ -73,7 +75,8 @@ lane = world_of (opening 4 3 (Rock ∷ Rock ∷ Rock ∷ Rock ∷ Rock ∷ RedHi
 abbrev pub hasty : Minds
 hasty = record { red = Move 0 0 ∷ []; black = Turn Left 0 ∷ Drop 0 ∷ []; sheet = record contest { rest = 1 } }
 
--- it moves in round 1, rests in round 2 and is blocked in round 3: resting turns don't count, and both states of the Move are the same
+-- it moves in round 1, rests in round 2 and is blocked in round 3: resting turns don't count, and both states of the
+-- Move are the same
 rests_uncounted : profile_text hasty 12345 lane 3 0 ≡
     codes "random seed: 12345\n"
     +++ codes "red 0: 2 times, 1 met: Move 0 0\n"
@@ -82,7 +85,8 @@ rests_uncounted : profile_text hasty 12345 lane 3 0 ≡
 unfolding profile_text executed_in_rounds executed_in times_of met_of brain_lines tally_line instruction_text numbered digits seed_text after_round after_turn turn stepped check_at is_surrounded killed_at places_around neighbours_of adjacent_pos directions place_in cell_in opening floor rock put_cell same_pos
 rests_uncounted = refl
 
--- in the first round of the ambush ant 2 dies before its turn, and one of the five black ants moves; the first number is odd
+-- in the first round of the ambush ant 2 dies before its turn, and one of the five black ants moves; the first number
+-- is odd
 dead_uncounted : profile_text (contest_minds (Flip 2 0 0 ∷ []) (Move 0 0 ∷ [])) 12345 (world_of (opening 7 6 ambush)) 1 0 ≡
     codes "random seed: 12345\n"
     +++ codes "red 0: 1 times, 0 met: Flip 2 0 0\n"

@@ -23,13 +23,15 @@ answer_text false = codes "unmet"
 -- an ant as it stands on a cell
 abbrev pub standing_words : Pos → Ant → List ℕ
 standing_words p ant =
-    ant_words (Some ant) +++ codes ": on " +++ place_words (Some p) +++ codes ", dir " +++ decimal (number_of ant.facing)
+    ant_words (Some ant) +++ codes ": on " +++ place_words (Some p)
+    +++ codes ", dir " +++ decimal (number_of ant.facing)
     +++ codes ", food " +++ decimal (one_if ant.laden) +++ codes ", state " +++ decimal ant.state
 
 -- the line of a turn, without its LF: the ant as it stood before it, and what it executed
 unfoldable pub act_line : Seen → List ℕ
 act_line seen =
-    codes "round " +++ decimal seen.round +++ codes ", " +++ standing_words seen.place seen.ant +++ codes ": " +++ instruction_words seen.instruction
+    codes "round " +++ decimal seen.round +++ codes ", " +++ standing_words seen.place seen.ant +++ codes ": "
+    +++ instruction_words seen.instruction
     +++ codes ": " +++ answer_text seen.met
 
 -- whether the turns of an id are told: those of every ant, or of one

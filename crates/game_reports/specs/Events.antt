@@ -48,11 +48,15 @@ changed_score before after = if same_score before after then [] else after ∷ [
 
 -- the line of an ant that is killed in the turn of another
 abbrev pub death_line : ℕ → Ant → Killed → List ℕ
-death_line round actor killed = (codes "round " +++ decimal round +++ codes ", " +++ ant_words (Some actor) +++ codes ": ") +++ ant_words killed.ant +++ codes " dies on " +++ place_words killed.place
+death_line round actor killed =
+    (codes "round " +++ decimal round +++ codes ", " +++ ant_words (Some actor) +++ codes ": ") +++ ant_words killed.ant
+    +++ codes " dies on " +++ place_words killed.place
 
 -- the line of the score after it
 abbrev pub score_line : ℕ → Ant → Score → List ℕ
-score_line round actor score = (codes "round " +++ decimal round +++ codes ", " +++ ant_words (Some actor) +++ codes ": ") +++ codes "score: red " +++ decimal score.red +++ codes " black " +++ decimal score.black
+score_line round actor score =
+    (codes "round " +++ decimal round +++ codes ", " +++ ant_words (Some actor) +++ codes ": ") +++ codes "score: red "
+    +++ decimal score.red +++ codes " black " +++ decimal score.black
 
 -- the hill of a cell, where it belongs to one
 abbrev pub hill_words : Option Colour → List ℕ
@@ -63,16 +67,21 @@ hill_words (Some colour) = codes ", " +++ colour_text colour +++ codes " hill"
 abbrev pub food_line : List ℕ → Seen → List ℕ
 food_line verb seen =
     (codes "round " +++ decimal seen.round +++ codes ", " +++ ant_words (Some seen.ant) +++ codes ": ")
-    +++ codes "state " +++ decimal seen.ant.state +++ verb +++ codes " food on " +++ place_words (Some seen.place) +++ hill_words seen.hill
+    +++ codes "state " +++ decimal seen.ant.state +++ verb +++ codes " food on "
+    +++ place_words (Some seen.place) +++ hill_words seen.hill
 
 -- the lines of such particles, if they are asked for
 abbrev pub food_lines : Bool → Seen → List (List ℕ)
 food_lines false seen = []
-food_lines true seen = (if takes_food seen then food_line (codes " takes") seen ∷ [] else []) ++ (if drops_food seen then food_line (codes " drops") seen ∷ [] else [])
+food_lines true seen =
+    (if takes_food seen then food_line (codes " takes") seen ∷ [] else [])
+    ++ (if drops_food seen then food_line (codes " drops") seen ∷ [] else [])
 
 -- the lines of what is seen of a turn, with those of food or without them
 abbrev pub event_lines : Bool → Seen → List (List ℕ)
-event_lines food seen = map (death_line seen.round seen.ant) seen.killed ++ (food_lines food seen ++ map (score_line seen.round seen.ant) (changed_score seen.before seen.after))
+event_lines food seen =
+    map (death_line seen.round seen.ant) seen.killed
+    ++ (food_lines food seen ++ map (score_line seen.round seen.ant) (changed_score seen.before seen.after))
 
 -- the ants that are killed in a turn, in the order of the checks
 unfoldable pub deaths_in : Minds → ℕ → Moment → ℕ → List ℕ
@@ -84,7 +93,9 @@ scores_in minds seed m t = changed_score (score_of m.world) (score_of (with_cell
 
 -- the lines of a turn of a round: those of the killed, and that of the score
 unfoldable pub turn_lines : Minds → ℕ → ℕ → Moment → ℕ → List (List ℕ)
-turn_lines minds seed round m t = map (death_words round m.world t) (deaths_in minds seed m t) ++ map (score_words round m.world t) (scores_in minds seed m t)
+turn_lines minds seed round m t =
+    map (death_words round m.world t) (deaths_in minds seed m t)
+    ++ map (score_words round m.world t) (scores_in minds seed m t)
 
 -- the text of all events of a game but those of food: the line of the seed, and the lines of all turns
 unfoldable pub events_text : Minds → ℕ → World → ℕ → List ℕ

@@ -43,7 +43,9 @@ pub record AreTheDead (old new : World) (deaths : List ℕ) : Type 0 where
 
 -- the deaths that are told are the ants that live at the start and not at the end, each once
 abbrev pub DeathsAreTheDead : Type 0
-DeathsAreTheDead = (minds : Minds) (seed : ℕ) (w : World) (rounds : ℕ) → AreSound minds → Valid w → Fits w minds → AreTheDead w (world_after minds seed w rounds) (all_deaths minds seed w rounds)
+DeathsAreTheDead =
+    (minds : Minds) (seed : ℕ) (w : World) (rounds : ℕ) → AreSound minds → Valid w → Fits w minds
+    → AreTheDead w (world_after minds seed w rounds) (all_deaths minds seed w rounds)
 
 -- the last of some scores, or this one where there is none
 abbrev pub last_or : Score → List Score → Score
@@ -72,7 +74,8 @@ up_by t (Some ant) = up_for t ant.resting
 
 -- the ids of those turns of a game in which the ant is alive and doesn't rest
 unfoldable pub acting_turns : Minds → ℕ → World → ℕ → List ℕ
-acting_turns minds seed w rounds = told_in_rounds (λ round m t. up_by t (ant_in m.world t)) minds seed (start_of w) rounds
+acting_turns minds seed w rounds =
+    told_in_rounds (λ round m t. up_by t (ant_in m.world t)) minds seed (start_of w) rounds
 
 -- the sum of f over the numbers below n
 abbrev pub sum_below : (ℕ → ℕ) → ℕ → ℕ
@@ -83,11 +86,14 @@ sum_below f (suc n) = sum_below f n + f n
 abbrev pub CountsAddUp : Type 0
 CountsAddUp = (minds : Minds) (seed : ℕ) (w : World) (rounds : ℕ) → AreSound minds → Valid w → Fits w minds →
     let list = executed_in_rounds minds seed w rounds 0 in
-    sum_below (times_of list Red) (length minds.red) + sum_below (times_of list Black) (length minds.black) ≡ length (acting_turns minds seed w rounds)
+    sum_below (times_of list Red) (length minds.red) + sum_below (times_of list Black) (length minds.black)
+    ≡ length (acting_turns minds seed w rounds)
 
 -- a profile of the rounds before one and a profile from this one on add up to that of all rounds, state by state
 abbrev pub ProfilesAddUp : Type 0
-ProfilesAddUp = (minds : Minds) (seed : ℕ) (w : World) (rounds from : ℕ) (colour : Colour) (state : ℕ) → 1 ≤ from → from ≤ rounds + 1 →
+ProfilesAddUp =
+    (minds : Minds) (seed : ℕ) (w : World) (rounds from : ℕ) (colour : Colour) (state : ℕ) → 1 ≤ from
+    → from ≤ rounds + 1 →
     let before = executed_in_rounds minds seed w (from - 1) 0 in
     let later = executed_in_rounds minds seed w rounds from in
     let whole = executed_in_rounds minds seed w rounds 0 in
@@ -96,7 +102,8 @@ ProfilesAddUp = (minds : Minds) (seed : ℕ) (w : World) (rounds from : ℕ) (co
 
 -- what is seen of all turns of the rounds from `from` on
 unfoldable pub seen_in_rounds : Minds → ℕ → World → ℕ → ℕ → List Seen
-seen_in_rounds minds seed w rounds from = told_in_rounds (from_round from (seen minds seed)) minds seed (start_of w) rounds
+seen_in_rounds minds seed w rounds from =
+    told_in_rounds (from_round from (seen minds seed)) minds seed (start_of w) rounds
 
 -- whether a turn is one of a colour's ant in a state, and whether its answer is the first too
 abbrev pub is_in : Colour → ℕ → Seen → Bool
@@ -105,19 +112,26 @@ is_in colour state it = same_colour it.ant.colour colour && (it.ant.state == sta
 abbrev pub is_met_in : Colour → ℕ → Seen → Bool
 is_met_in colour state it = is_in colour state it && it.met
 
--- the lines of what every ant executes are those of these turns, one each; and these turns, counted by colour and state,
--- and by their answer, are the counts of a profile
+-- the lines of what every ant executes are those of these turns, one each; and these turns, counted by colour and
+-- state, and by their answer, are the counts of a profile
 pub record LinesAreCounted (minds : Minds) (seed : ℕ) (w : World) (rounds from : ℕ) : Type 0 where
-  pub lines : report_lines (act_lines None) from minds seed w rounds ≡ map act_line (seen_in_rounds minds seed w rounds from)
-  pub times : (colour : Colour) (state : ℕ) → length (filter (is_in colour state) (seen_in_rounds minds seed w rounds from)) ≡ times_of (executed_in_rounds minds seed w rounds from) colour state
-  pub met : (colour : Colour) (state : ℕ) → length (filter (is_met_in colour state) (seen_in_rounds minds seed w rounds from)) ≡ met_of (executed_in_rounds minds seed w rounds from) colour state
+  pub lines : report_lines (act_lines None) from minds seed w rounds
+      ≡ map act_line (seen_in_rounds minds seed w rounds from)
+  pub times : (colour : Colour) (state : ℕ)
+      → length (filter (is_in colour state) (seen_in_rounds minds seed w rounds from))
+      ≡ times_of (executed_in_rounds minds seed w rounds from) colour state
+  pub met : (colour : Colour) (state : ℕ)
+      → length (filter (is_met_in colour state) (seen_in_rounds minds seed w rounds from))
+      ≡ met_of (executed_in_rounds minds seed w rounds from) colour state
 
 abbrev pub ActsAreCounted : Type 0
 ActsAreCounted = (minds : Minds) (seed : ℕ) (w : World) (rounds from : ℕ) → LinesAreCounted minds seed w rounds from
 
 -- from round 0 on and without food, the text of events is that of the deaths and scores of all turns, by ids
 abbrev pub AllEventsById : Type 0
-AllEventsById = (minds : Minds) (seed : ℕ) (w : World) (rounds : ℕ) → report_text (event_lines false) 0 minds seed w rounds ≡ events_text minds seed w rounds
+AllEventsById =
+    (minds : Minds) (seed : ℕ) (w : World) (rounds : ℕ)
+    → report_text (event_lines false) 0 minds seed w rounds ≡ events_text minds seed w rounds
 
 -- the line of a cell stands in the dump of a world, behind some of its lines and before others
 pub record StandsInDump (w : World) (round : ℕ) (line : List ℕ) : Type 0 where
@@ -129,5 +143,6 @@ pub record StandsInDump (w : World) (round : ℕ) (line : List ℕ) : Type 0 whe
 -- which it stands
 abbrev pub LinesAreOfDumps : Type 0
 LinesAreOfDumps = (w : World) (round id : ℕ) (p : Pos) → place_in w id ≡ Some p →
-    (way_line round w (place_in w id) ≡ codes "round " +++ decimal round +++ codes ": " +++ cell_line p.x p.y (w.cells p))
+    (way_line round w (place_in w id)
+    ≡ codes "round " +++ decimal round +++ codes ": " +++ cell_line p.x p.y (w.cells p))
     × StandsInDump w round (cell_line p.x p.y (w.cells p))

@@ -45,7 +45,8 @@ executed_in minds seed m t = executed_from minds seed m.world.cells m.place (pla
 
 -- what is executed in the rounds of a game from round `from` on, turn after turn
 unfoldable pub executed_in_rounds : Minds → ℕ → World → ℕ → ℕ → List Executed
-executed_in_rounds minds seed w rounds from = told_in_rounds (from_round from (λ round. executed_in minds seed)) minds seed (start_of w) rounds
+executed_in_rounds minds seed w rounds from =
+    told_in_rounds (from_round from (λ round. executed_in minds seed)) minds seed (start_of w) rounds
 
 -- whether this state of a colour's brain was executed
 abbrev pub is_of : Colour → ℕ → Executed → Bool
@@ -73,7 +74,8 @@ met_text (Flip bound met unmet) many = codes ", " +++ decimal many +++ codes " m
 -- the line of a state, with its instruction and both counts
 unfoldable pub tally_line : Colour → ℕ → Instr → ℕ → ℕ → List ℕ
 tally_line colour state instruction times met =
-    colour_text colour +++ codes " " +++ decimal state +++ codes ": " +++ decimal times +++ codes " times" +++ met_text instruction met
+    colour_text colour +++ codes " " +++ decimal state +++ codes ": " +++ decimal times +++ codes " times"
+    +++ met_text instruction met
     +++ codes ": " +++ instruction_text instruction
 
 -- the line of a state of a colour's brain

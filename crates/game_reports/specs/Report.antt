@@ -14,8 +14,10 @@ told_of lines minds seed round m t = flat_map lines (seen minds seed round m t)
 
 -- the lines of all turns from round `from` on, turn after turn
 unfoldable pub report_lines : (Seen → List (List ℕ)) → ℕ → Minds → ℕ → World → ℕ → List (List ℕ)
-report_lines lines from minds seed w rounds = told_in_rounds (from_round from (told_of lines minds seed)) minds seed (start_of w) rounds
+report_lines lines from minds seed w rounds =
+    told_in_rounds (from_round from (told_of lines minds seed)) minds seed (start_of w) rounds
 
 -- the text of a report: the line of the seed, and these lines
 unfoldable pub report_text : (Seen → List (List ℕ)) → ℕ → Minds → ℕ → World → ℕ → List ℕ
-report_text lines from minds seed w rounds = seed_text seed +++ flat_map (λ words. words +++ codes "\n") (report_lines lines from minds seed w rounds)
+report_text lines from minds seed w rounds =
+    seed_text seed +++ flat_map (λ words. words +++ codes "\n") (report_lines lines from minds seed w rounds)

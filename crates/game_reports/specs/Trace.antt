@@ -22,7 +22,8 @@ lives_in_first worlds id (suc n) = lives_in_first worlds id n && is_some (place_
 -- what is told of the ant in world i of these, which is that after i rounds more than `from`: its line, if it lives in
 -- each world before
 unfoldable pub told_line : (ℕ → World) → ℕ → ℕ → ℕ → List ℕ
-told_line worlds id from i = if lives_in_first worlds id i then way_line (from + i) (worlds i) (place_in (worlds i) id) else []
+told_line worlds id from i =
+    if lives_in_first worlds id i then way_line (from + i) (worlds i) (place_in (worlds i) id) else []
 
 -- the lines of the ant in the first n of these worlds
 unfoldable pub way_text : (ℕ → World) → ℕ → ℕ → ℕ → List ℕ
@@ -37,4 +38,5 @@ unmade_text id = codes "no ant of id " +++ decimal id +++ codes "\n"
 unfoldable pub trace_text : Minds → ℕ → World → ℕ → ℕ → ℕ → List ℕ
 trace_text minds seed w rounds id from =
     seed_text seed
-    +++ (if nat_lt id w.ids then way_text (λ i. world_after minds seed w (from + i)) id from (rounds + 1 - from) else unmade_text id)
+    +++ (if nat_lt id w.ids then way_text (λ i. world_after minds seed w (from + i)) id from (rounds + 1 - from)
+    else unmade_text id)

@@ -5,9 +5,9 @@
 //! then a line for each ant that is killed and for each turn that changes the score; on request also one for each
 //! particle that an ant takes or drops. [`profile`] plays one, and then pushes a line for each state of both brains: in
 //! how many turns an ant executed it, and in how many of these its answer was the first. [`acts`] plays one and pushes
-//! a line for each turn in which an ant executes an instruction, or for those of one ant. [`trace`] plays one and pushes a line for each round: the line that a dump of that round has
-//! of the ant's cell, or that it is dead, which is the last one. This crate stands on `match_run`, `ant_turn` and
-//! `dump_print`.
+//! a line for each turn in which an ant executes an instruction, or for those of one ant. [`trace`] plays one and
+//! pushes a line for each round: the line that a dump of that round has of the ant's cell, or that it is dead, which is
+//! the last one. This crate stands on `match_run`, `ant_turn` and `dump_print`.
 #![tactic(auto)]
 
 mod executed;

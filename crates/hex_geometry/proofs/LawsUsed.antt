@@ -40,7 +40,8 @@ neighbours_are_mutual_used law =
       inner.row,
     )
 
--- directions with one number are one, and so are numbers with one direction and directions with one turn; the last neighbour of six
+-- directions with one number are one, and so are numbers with one direction and directions with one turn; the last
+-- neighbour of six
 pub turns_go_round_used : TurnsGoRound →
     ((d e : Dir) → number_of d ≡ number_of e → d ≡ e)
     × ((j k : ℕ) → j < 6 → k < 6 → dir_of j ≡ dir_of k → j ≡ k)
@@ -116,7 +117,8 @@ rows_are_numbered_used law = (
   (λ p q left right. (law.in_order 5 p q left right).1),
 )
 
--- the middle row of a world three high: its last cell that isn't on the rim, and what isn't on the rim ends before the last column
+-- the middle row of a world three high: its last cell that isn't on the rim, and what isn't on the rim ends before the
+-- last column
 pub rim_is_outermost_used : RimIsOutermost →
     ((width : ℕ) → 3 < width → is_on_rim width 3 (at 2 1) ≡ false)
     × ((p : Pos) → p.x < 4 → p.y < 3 → is_on_rim 4 3 p ≡ false → (1 ≤ p.x) × (p.x + 1 < 4) × (1 ≤ p.y) × (p.y + 1 < 3))

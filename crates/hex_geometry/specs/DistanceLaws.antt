@@ -20,7 +20,8 @@ pub record DistanceIsMetric : Type 0 where
 -- over all pairs of whole numbers
 pub record StepsChangeByOne : Type 0 where
   -- a step changes a distance by one at most
-  pub change : (p next q : Point) (j k : ℕ) → IsAdjacent p next → IsDistance p q j → IsDistance next q k → (j ≤ k + 1) × (k ≤ j + 1)
+  pub change : (p next q : Point) (j k : ℕ) → IsAdjacent p next → IsDistance p q j → IsDistance next q k
+      → (j ≤ k + 1) × (k ≤ j + 1)
   -- neighbours are the places at distance one, so that neighbourhood is mutual
   pub neighbours : (p q : Point) → IsAdjacent p q ↔ IsDistance p q 1
   pub both_ways : (p q : Point) → IsAdjacent p q → IsAdjacent q p

@@ -11,7 +11,8 @@ use Rattle.hex_geometry.specs.declared.position.Pos.{Pos}
 
 -- off the first row and column, the neighbour of a position is that of the table over whole numbers
 abbrev pub NeighboursAreTheTables : Type 0
-NeighboursAreTheTables = (p : Pos) (d : Dir) → 1 ≤ p.x → 1 ≤ p.y → point_of (adjacent_pos p d) ≡ adjacent_point (point_of p) d
+NeighboursAreTheTables =
+    (p : Pos) (d : Dir) → 1 ≤ p.x → 1 ≤ p.y → point_of (adjacent_pos p d) ≡ adjacent_point (point_of p) d
 
 -- off the first row and column
 pub record NeighboursAreMutual : Type 0 where
@@ -24,7 +25,8 @@ pub record NeighboursAreMutual : Type 0 where
   -- and none of them is the position itself
   pub other : (p : Pos) (d : Dir) → 1 ≤ p.x → 1 ≤ p.y → adjacent_pos p d ≢ p
   -- the neighbours of a position of a world that isn't on the rim are positions of that world
-  pub inside : (width height : ℕ) (p : Pos) (d : Dir) → IsInner width height p → IsInside width height (adjacent_pos p d)
+  pub inside : (width height : ℕ) (p : Pos) (d : Dir) → IsInner width height p
+      → IsInside width height (adjacent_pos p d)
 
 -- how directions are numbered, and how turns follow on each other
 pub record TurnsGoRound : Type 0 where

@@ -36,7 +36,8 @@ beside_in_odd x y NorthEast = record { x = x +ℤ pos 1; y = y -ℤ pos 1 }
 unfoldable pub adjacent_point : Point → Dir → Point
 adjacent_point p d = if is_even p.y then beside_in_even p.x p.y d else beside_in_odd p.x p.y d
 
--- the neighbour of a position in a direction: an odd row is shifted half a cell to the right. An ant never stands in column or row 0, where this would be wrong
+-- the neighbour of a position in a direction: an odd row is shifted half a cell to the right. An ant never stands in
+-- column or row 0, where this would be wrong
 unfoldable pub adjacent_pos : Pos → Dir → Pos
 adjacent_pos p East = record { x = p.x + 1; y = p.y }
 adjacent_pos p SouthEast = record { x = p.x + p.y % 2; y = p.y + 1 }

@@ -40,4 +40,5 @@ is_on_rim width height p = (p.x == 0) || (p.y == 0) || (p.x + 1 == width) || (p.
 
 -- of the positions inside, those that aren't on the rim are the inner ones
 abbrev pub RimIsOutermost : Type 0
-RimIsOutermost = (width height : ℕ) (p : Pos) → IsInside width height p → (is_on_rim width height p ≡ false) ↔ IsInner width height p
+RimIsOutermost =
+    (width height : ℕ) (p : Pos) → IsInside width height p → (is_on_rim width height p ≡ false) ↔ IsInner width height p

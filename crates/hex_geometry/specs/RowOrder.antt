@@ -26,4 +26,5 @@ pub record RowsAreNumbered : Type 0 where
   pub below : (width height : ℕ) (p : Pos) → IsInside width height p → index_of width p < width * height
   pub inside : (width height i : ℕ) → i < width * height → IsInside width height (pos_at width i)
   -- a position stands before another exactly where its number is less
-  pub in_order : (width : ℕ) (p q : Pos) → p.x < width → q.x < width → IsBefore p q ↔ (index_of width p < index_of width q)
+  pub in_order : (width : ℕ) (p q : Pos) → p.x < width → q.x < width
+      → IsBefore p q ↔ (index_of width p < index_of width q)

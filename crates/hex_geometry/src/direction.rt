@@ -2,7 +2,8 @@
 ghost use Rattle.std.specs.Prelude.{◌≡◌, ◌<◌};
 ghost use Rattle.hex_geometry.specs.Direction.{number_of, turned_by};
 
-/// One of the six directions in which an ant may face, numbered clockwise from 0, which is to the right (the task's geometry).
+/// One of the six directions in which an ant may face, numbered clockwise from 0, which is to the right (the task's
+/// geometry).
 #[derive(Clone, Copy, Debug, PartialEq, Eq)]
 pub enum Dir {
     /// 0: the next cell of the row, to the right.
@@ -61,7 +62,8 @@ impl Dir {
     }
 }
 
-/// The direction after a turn to this side: its number changes by one, left downwards and right upwards, modulo 6 (the task's geometry).
+/// The direction after a turn to this side: its number changes by one, left downwards and right upwards, modulo 6 (the
+/// task's geometry).
 #[inline]
 pub fn turned(d: Dir, side: Side) -> Dir
     ensures { result ≡ turned_by d side }

@@ -2,8 +2,9 @@
 ghost use Rattle.hex_geometry.specs.Position.{RimIsOutermost};
 ghost use Rattle.hex_geometry.specs.RowOrder.{RowsAreNumbered};
 
-/// A law: the position of a position's number in row order is that position, and the number of a number's position is that number. The
-/// numbers of the positions inside a world are those below the number of its cells, and they rise in row order.
+/// A law: the position of a position's number in row order is that position, and the number of a number's position is
+/// that number. The numbers of the positions inside a world are those below the number of its cells, and they rise in
+/// row order.
 pub fn rows_are_numbered()
     ensures { RowsAreNumbered }
 {}

@@ -2,13 +2,16 @@
 //!
 //! The task's geometry: rows of six-sided cells, every odd row shifted half a cell to the right.
 //!
-//! To the crates above it promises that a neighbour is the one of the task's table, which is stated over all pairs of whole numbers, that a
-//! turn is a sum modulo six, and that a sensed position and the list of neighbours follow from these two; that a distance is the least number
-//! of steps of a walk over all pairs of whole numbers, and that a ball lists each position within its radius once, in row order; that the
-//! positions of a world and their numbers in row order lead to each other, and that its rim is all but its inner positions. Nothing here but
-//! the list of a ball takes memory.
+//! It promises to the crates above:
 //!
-//! It stands on `OutOfMemory` of `ant_base`, and on lemmas.
+//! - A neighbour is the one of the task's table, for all pairs of whole numbers. A turn is a sum modulo six. A sensed
+//!   position and the list of neighbours follow from these two.
+//! - A distance is the least number of steps of a walk over all pairs of whole numbers. A ball lists each position
+//!   within its radius once, in row order.
+//! - The positions of a world and their numbers in row order determine each other. Its rim is every position that isn't
+//!   an inner one.
+//!
+//! No call takes memory except the list of a ball. The crate depends on `OutOfMemory` of `ant_base`, and on lemmas.
 //!
 //! What names no section of the contest's task is this project's own.
 #![tactic(auto)]

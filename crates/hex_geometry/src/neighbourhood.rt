@@ -6,7 +6,8 @@ ghost use Rattle.hex_geometry.specs.Position.{HasNeighbours, point_of};
 use crate::direction::{Dir, Side, turned};
 use crate::position::Pos;
 
-/// Which cell an ant senses: its own, the one ahead, or the one ahead after a turn to the left or to the right (the task's geometry).
+/// Which cell an ant senses: its own, the one ahead, or the one ahead after a turn to the left or to the right (the
+/// task's geometry).
 #[derive(Clone, Copy, Debug, PartialEq, Eq)]
 pub enum Sight {
     /// The ant's own cell.
@@ -41,7 +42,8 @@ pub fn adjacent(p: Pos, d: Dir) -> Pos
     }
 }
 
-/// The position that an ant at `p` with direction `d` senses. Both coordinates of `p` are from 1 to 65,534 (the task's geometry).
+/// The position that an ant at `p` with direction `d` senses. Both coordinates of `p` are from 1 to 65,534 (the task's
+/// geometry).
 #[inline(always)]
 #[tactic(auto, unfolding(crate::specs::Neighbourhood::sensed_pos))]
 pub fn sensed(p: Pos, d: Dir, sight: Sight) -> Pos
@@ -56,7 +58,8 @@ pub fn sensed(p: Pos, d: Dir, sight: Sight) -> Pos
     }
 }
 
-/// The six neighbours of `p`, in the order of directions. Both coordinates of `p` are from 1 to 65,534 (the task's geometry).
+/// The six neighbours of `p`, in the order of directions. Both coordinates of `p` are from 1 to 65,534 (the task's
+/// geometry).
 #[inline]
 #[tactic(auto, unfolding(crate::specs::Neighbourhood::neighbours_of, crate::specs::Direction::directions))]
 pub fn neighbours(p: Pos) -> [Pos; 6]

@@ -5,7 +5,8 @@ use Rattle.line_tokens.specs.Steps.{Read, Step, ◌>>=◌, take_word}
 use Rattle.line_tokens.proofs.LineFaults.{fault_of_read}
 use Rattle.line_tokens.proofs.StepsLemmas.{as_named, bind_assoc}
 
--- a step judges its position: where the further positions are at fault as what comes after it says, this one and they are as the whole says
+-- a step judges its position: where the further positions are at fault as what comes after it says, this one and they
+-- are as the whole says
 pub record Judges {A P F : Type 0} (B : Type 0) (first_fault : ℕ → List (List ℕ) → List P → Option F) (refusal_at : ℕ → Refusal → F) (position : P) (take : List (List ℕ) → Step A) (brings : A → List P) : Type 0 where
   pub steps : (line : ℕ) (tokens : List (List ℕ)) (positions : List P) (f : A × List (List ℕ) → Read B)
       → ((x : A) (rest : List (List ℕ)) → first_fault line rest (brings x ++ positions) ≡ fault_of_read refusal_at line (f (x, rest)))

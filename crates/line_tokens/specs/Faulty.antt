@@ -7,7 +7,8 @@ abbrev pub too_many : {F : Type 0} → ℕ → (ℕ → F) → ℕ → ℕ → O
 too_many most fault before line = if nat_le most before then Some (fault line) else None
 
 -- a line has this fault, and none before it is at fault: those are the lines of items, and no more than there may be
-pub record HasLineFault {A F : Type 0} (Says : List (List ℕ) → A → Type 0) (line_fault : ℕ → TokenLine → Option F) (most : ℕ) (text : List ℕ) (fault : F) : Type 0 where
+pub record HasLineFault {A F : Type 0} (Says : List (List ℕ) → A → Type 0) (line_fault : ℕ → TokenLine → Option F)
+    (most : ℕ) (text : List ℕ) (fault : F) : Type 0 where
   pub before : List TokenLine
   pub line : TokenLine
   pub after : List TokenLine

@@ -1,4 +1,5 @@
--- How the positions of a line are judged, whatever positions and faults there are (this project's own: the rule of faults).
+-- How the positions of a line are judged, whatever positions and faults there are (this project's own: the rule of
+-- faults).
 use Rattle.std.specs.Prelude.{List, [], Option, Some, None}
 
 -- no further position, whatever the token stands for

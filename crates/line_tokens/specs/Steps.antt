@@ -1,5 +1,5 @@
--- One token after another: what is read of the tokens of a line, or why the first position at fault refuses. The clauses of `Tokens` rest on it
--- (this project's own).
+-- One token after another: what is read of the tokens of a line, or why the first position at fault refuses. The
+-- clauses of `Tokens` rest on it (this project's own).
 use Rattle.std.specs.Prelude.{ℕ, false, List, [], ◌∷◌, Option, Some, None, Result, Ok, Err}
 use Rattle.ant_base.specs.Number.{number_within}
 use Rattle.word_table.specs.Words.{word_place}

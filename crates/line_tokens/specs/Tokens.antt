@@ -1,4 +1,5 @@
--- Comments, tokens and bad bytes of a line; the clauses of the public calls rest on them (the task's neurology, as this project spells its files).
+-- Comments, tokens and bad bytes of a line; the clauses of the public calls rest on them (the task's neurology, as this
+-- project spells its files).
 use Rattle.std.specs.Prelude.{ℕ, Bool, true, false, not, ◌||◌, ◌&&◌, ◌==◌, nat_le, List, [], ◌∷◌, filter, if◌then◌else◌}
 use Rattle.std.specs.List.{slice_split, list_any}
 use Rattle.ant_base.specs.Lines.{is_separator}

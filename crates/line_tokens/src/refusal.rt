@@ -47,13 +47,13 @@ impl fmt::Display for LineFault {
 
 impl Error for LineFault {}
 
-/// Why a line is refused: what is wrong with its first position at fault, and whether the token there has a bad byte, which is none of tab,
-/// LF, CR and 32 to 126.
+/// Why a line is refused: what is wrong with its first position at fault, and whether the token there has a bad byte,
+/// which is none of tab, LF, CR and 32 to 126.
 #[derive(Clone, Copy, Debug, PartialEq, Eq)]
 pub struct Refusal {
     /// What is wrong with the position, whatever bytes its token has.
     pub fault: LineFault,
-    /// Whether the token there has a bad byte; false where there is no token.
+    /// Whether the token there has a bad byte; false if there is no token.
     pub bad_byte: bool,
 }
 

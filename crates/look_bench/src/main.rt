@@ -1,8 +1,8 @@
 //! Makes the looks at a whole round of a game's first world, as many times as it is asked to, and throws them away.
 //!
-//! The words are the files of a world, a red and a black brain, and how many times, at least once. It prints how many looks a round has, and how
-//! many of them draw a random number. What a look costs is the difference between a run of many times and one of few, divided by the looks. It is
-//! this project's own.
+//! The words are the files of a world, a red and a black brain, and how many times, at least once. It prints how many
+//! looks a round has, and how many of them draw a random number. What a look costs is the difference between a run of
+//! many times and one of few, divided by the looks. It is this project's own.
 #![tactic(auto)]
 
 ghost use Rattle.std.specs.Prelude.{◌≡◌, ◌≤◌, length, IfSome};
@@ -80,7 +80,8 @@ fn look_often(world: &World, brains: Brains<'_>, times: u64) -> u64
     drawn
 }
 
-// Makes the looks at the world and the brains of these files, so many times; answers how many looks there are, and how many of them draw.
+// Makes the looks at the world and the brains of these files, so many times; answers how many looks there are, and how
+// many of them draw.
 fn look_at_files<S: Shelf>(
     alloc: Global,
     shelf: &mut S,

@@ -38,8 +38,8 @@ seven_more = ((omega arith, omega arith), (omega arith, omega arith), (λ rises.
 cut : (windows_of 7 7 ≡ 1) × (windows_of 3 7 ≡ 3) × (windows_of 1 7 ≡ 7) × (windows_of 16384 7 ≡ 1) × (windows_of 3 6 ≡ 2) × (windows_of 3 0 ≡ 0)
 cut = (refl, refl, refl, refl, refl, refl)
 
--- a round of seven turns: red ants flip, a black one moves and kills the red ant of id 2. In one window two turns are executed anew; in windows
--- of three, that of the killed ant alone; in windows of one turn, none
+-- a round of seven turns: red ants flip, a black one moves and kills the red ant of id 2. In one window two turns are
+-- executed anew; in windows of three, that of the killed ant alone; in windows of one turn, none
 one_round :
     (totals_of minds 12345 7 (start_of field) 1 ≡ record { turns = 7; taken = 5; redone = 2 })
     × (totals_of minds 12345 3 (start_of field) 1 ≡ record { turns = 7; taken = 6; redone = 1 })
@@ -52,7 +52,8 @@ two_rounds : totals_of minds 12345 3 (start_of field) 2 ≡ record { turns = 14;
 unfolding round_totals window_totals window_at counts_of is_taken look_for look_of guess_for moment_before after_round after_turn turn reads writes merged stepped is_surrounded check_at killed_at places_around put_cell same_pos neighbours_of adjacent_pos directions guess flips opening cell_in rock floor place_in drawn random_at state_at
 two_rounds = refl
 
--- the second window of five turns begins where the first one leads: the ant of id 2 is dead, and that of id 4 has drawn the first number
+-- the second window of five turns begins where the first one leads: the ant of id 2 is dead, and that of id 4 has drawn
+-- the first number
 abbrev later : Window
 later = window_at minds 12345 5 (start_of field) 0 1
 
@@ -75,8 +76,8 @@ four = world_of (opening 6 5 (
 abbrev moving : Minds
 moving = contest_minds (Turn Left 1 ∷ Move 1 1 ∷ []) (Drop 0 ∷ [])
 
--- in windows of two the ant of id 2 comes onto the cell that the ant of id 0 left in the window before, and undoes the look at the turn of id 3
--- alone; in one window its own look is undone besides, by which it was blocked
+-- in windows of two the ant of id 2 comes onto the cell that the ant of id 0 left in the window before, and undoes the
+-- look at the turn of id 3 alone; in one window its own look is undone besides, by which it was blocked
 later_windows :
     (totals_of moving 12345 2 (start_of four) 2 ≡ record { turns = 8; taken = 7; redone = 1 })
     × (totals_of moving 12345 4 (start_of four) 2 ≡ record { turns = 8; taken = 6; redone = 2 })

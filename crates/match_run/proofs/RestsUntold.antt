@@ -1,4 +1,5 @@
--- Of a turn that is idle nothing is told, so what is told of some ids is told of those whose ants act, once the others rest.
+-- Of a turn that is idle nothing is told, so what is told of some ids is told of those whose ants act, once the others
+-- rest.
 use Rattle.std.proofs.Common.{◌≡◌, ℕ, zero, suc, ◌+◌, ◌-◌, Bool, true, false, List, [], ◌∷◌, ◌++◌, Option, Some, None, refl, sym, ap, ap₂, ◌∙◌, add-zero, append-nil, append_assoc, arith}
 use Rattle.std.specs.Prelude.{nat_eq}
 use Rattle.std.proofs.lemmas.Bool.{cond_both, eqb-true}

@@ -1,4 +1,5 @@
--- What is seen of a turn, by where its ant is; and it doesn't ask for the rest of others, nor does what is told of it alone.
+-- What is seen of a turn, by where its ant is; and it doesn't ask for the rest of others, nor does what is told of it
+-- alone.
 use Rattle.std.proofs.Common.{◌≡◌, ℕ, Bool, zero, suc, ◌+◌, List, [], ◌∷◌, Option, Some, None, map, ◌∙◌, ap, ap₂, refl, sym, arith}
 use Rattle.std.specs.Prelude.{◌||◌, not, if◌then◌else◌, nat_eq, nat_lt, option_map}
 use Rattle.std.specs.List.{flat_map}

@@ -1,4 +1,5 @@
--- What is known of a game that is just played, when its sink failed: used, so that definitions that say less are refused here.
+-- What is known of a game that is just played, when its sink failed: used, so that definitions that say less are
+-- refused here.
 use Rattle.std.proofs.Common.{◌≡◌, ◌+◌, ◌<◌, ◌≤◌, true, inl, inr, arith}
 use Rattle.ant_base.specs.Sink.{PushedAll, PushedFront, SinkState}
 use Rattle.ant_turn.specs.Rounds.{after_rounds}
@@ -10,7 +11,8 @@ use Rattle.match_run.specs.Alone.{GameAloneValue, standing}
 use Rattle.match_run.specs.Stopped.{LosesDump, LosesScore, LosesText}
 
 module _ (old new : GameAloneValue) (sink new_sink : SinkState) where
-  -- of three rounds that are all dumped the sink failed at one: the game stands after that round, where the rules lead, and the dumps before it were pushed
+  -- of three rounds that are all dumped the sink failed at one: the game stands after that round, where the rules lead,
+  -- and the dumps before it were pushed
   loses_dump_used : (lost : LosesDump old new 3 (λ _. true) sink new_sink) →
       (lost.shown < 3) × (new.done ≡ old.done + (lost.shown + 1)) × (standing new ≡ after_rounds old.minds old.seed (standing old) (lost.shown + 1))
       × PushedAll sink lost.mid (later_dumps old.minds old.seed (λ _. true) (standing old) old.done lost.shown)
@@ -24,7 +26,8 @@ module _ (old new : GameAloneValue) (sink new_sink : SinkState) where
       × PushedFront lost.mid new_sink (score_text (score_of (world_of new.world)))
   loses_score_used lost = (lost.played.done, lost.played.now, lost.before, lost.failed)
 
-  -- and either of both happened: a game whose sink failed was played on by one to three rounds, with the brains and the seed that it had
+  -- and either of both happened: a game whose sink failed was played on by one to three rounds, with the brains and the
+  -- seed that it had
   loses_text_used : LosesText old new 3 (λ _. true) sink new_sink → (old.done + 1 ≤ new.done) × (new.done ≤ old.done + 3) × (new.minds ≡ old.minds) × (new.seed ≡ old.seed)
   loses_text_used (inl lost) =
       let done : new.done ≡ old.done + (lost.shown + 1) = lost.played.done in

@@ -6,8 +6,8 @@ use Rattle.cell_world.specs.Grid.{Grid, world_of}
 use Rattle.cell_world.specs.Limits.{most_ants}
 use Rattle.match_run.specs.Run.{most_rounds}
 
--- what a contract sees of such a game at the end of a round: its world, brains and seed, how many random numbers were drawn, and how many
--- rounds are done
+-- what a contract sees of such a game at the end of a round: its world, brains and seed, how many random numbers were
+-- drawn, and how many rounds are done
 pub record GameAloneValue : Type 0 where
   pub world : Grid
   pub minds : Minds
@@ -19,7 +19,8 @@ pub record GameAloneValue : Type 0 where
 abbrev pub standing : GameAloneValue → Moment
 standing game = record { world = world_of game.world; place = game.place }
 
--- what every such game keeps: its ants fit its brains, few rounds are done, and each turn drew one random number at most
+-- what every such game keeps: its ants fit its brains, few rounds are done, and each turn drew one random number at
+-- most
 pub record IsGameAlone (game : GameAloneValue) : Type 0 where
   pub fit : Fits (world_of game.world) game.minds
   pub few : game.done ≤ most_rounds

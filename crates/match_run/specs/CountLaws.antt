@@ -12,19 +12,25 @@ use Rattle.match_run.specs.Run.{run_text}
 
 -- rounds have a turn for each id, and each turn is taken or redone
 pub record TotalsAddUp : Type 0 where
-  pub turns : (minds : Minds) (seed size : ℕ) (m : Moment) (r : ℕ) → 1 ≤ size → (totals_of minds seed size m r).turns ≡ m.world.ids * r
-  pub each : (minds : Minds) (seed size : ℕ) (m : Moment) (r : ℕ) → (totals_of minds seed size m r).taken + (totals_of minds seed size m r).redone
+  pub turns : (minds : Minds) (seed size : ℕ) (m : Moment) (r : ℕ) → 1 ≤ size
+      → (totals_of minds seed size m r).turns ≡ m.world.ids * r
+  pub each : (minds : Minds) (seed size : ℕ) (m : Moment) (r : ℕ)
+      → (totals_of minds seed size m r).taken + (totals_of minds seed size m r).redone
       ≡ (totals_of minds seed size m r).turns
 
 -- rounds go on: some rounds and those after them lead where all lead, and have the turns of all
 pub record RoundsGoOn : Type 0 where
-  pub moment : (minds : Minds) (seed : ℕ) (m : Moment) (r q : ℕ) → after_rounds minds seed (after_rounds minds seed m r) q ≡ after_rounds minds seed m (r + q)
+  pub moment : (minds : Minds) (seed : ℕ) (m : Moment) (r q : ℕ)
+      → after_rounds minds seed (after_rounds minds seed m r) q ≡ after_rounds minds seed m (r + q)
   pub totals : (minds : Minds) (seed size : ℕ) (m : Moment) (r q : ℕ) → both (totals_of minds seed size m r)
       (totals_of minds seed size (after_rounds minds seed m r) q) ≡ totals_of minds seed size m (r + q)
 
--- where a window has one turn, every turn is taken, at whatever moment the rounds begin where brains fit and the stream lasts
+-- where a window has one turn, every turn is taken, at whatever moment the rounds begin where brains fit and the stream
+-- lasts
 abbrev pub SingleTurnWindowsAreTaken : Type 0
-SingleTurnWindowsAreTaken = (minds : Minds) (seed : ℕ) (m : Moment) (r : ℕ) → AreSound minds → Valid m.world → Fits m.world minds → m.place + m.world.ids * r < 2 ^ 63 →
+SingleTurnWindowsAreTaken =
+    (minds : Minds) (seed : ℕ) (m : Moment) (r : ℕ) → AreSound minds → Valid m.world → Fits m.world minds
+    → m.place + m.world.ids * r < 2 ^ 63 →
     totals_of minds seed 1 m r ≡ record { turns = m.world.ids * r; taken = m.world.ids * r; redone = 0 }
 
 -- the counts come last: without their line the text is the same whatever the size of a window
@@ -32,14 +38,17 @@ pub record CountsComeLast : Type 0 where
   pub without : (minds : Minds) (seed rounds : ℕ) (chosen : ℕ → Bool) (size : ℕ) (w : World)
       → whole_text minds seed rounds chosen size false w ≡ run_text minds seed rounds chosen w
   pub with_them : (minds : Minds) (seed rounds : ℕ) (chosen : ℕ → Bool) (size : ℕ) (w : World) →
-      whole_text minds seed rounds chosen size true w ≡ run_text minds seed rounds chosen w +++ stats_text (totals_of minds seed size (start_of w) rounds)
+      whole_text minds seed rounds chosen size true w
+      ≡ run_text minds seed rounds chosen w +++ stats_text (totals_of minds seed size (start_of w) rounds)
 
 -- a round that begins with the turn of id 0 and is played to its end is a round
 pub record WholeRounds : Type 0 where
-  pub moment : (old new : GameValue) → old.next ≡ 0 → IsRoundPlayed old new → now_of new ≡ after_round old.field.minds old.field.seed (now_of old)
+  pub moment : (old new : GameValue) → old.next ≡ 0 → IsRoundPlayed old new
+      → now_of new ≡ after_round old.field.minds old.field.seed (now_of old)
   pub totals : (old new : GameValue) → old.next ≡ 0 → IsRoundPlayed old new
       → new.totals ≡ both old.totals (round_totals old.field.minds old.field.seed old.window (now_of old))
 
 -- a round that was broken off and then played to its end is the round that is played at once
 abbrev pub BrokenRoundsGoOn : Type 0
-BrokenRoundsGoOn = (old mid new : GameValue) → 1 ≤ old.window → IsRoundRefused old mid → IsRoundPlayed mid new → IsRoundPlayed old new
+BrokenRoundsGoOn =
+    (old mid new : GameValue) → 1 ≤ old.window → IsRoundRefused old mid → IsRoundPlayed mid new → IsRoundPlayed old new

@@ -1,5 +1,6 @@
--- What comes of the turns of a game, window by window (this project's own). No worker, ticket or order of events stands in it: the counts are
--- those of the worlds and places that the turns lead to one after another, and of how many turns a window has.
+-- What comes of the turns of a game, window by window (this project's own). No worker, ticket or order of events stands
+-- in it: the counts are those of the worlds and places that the turns lead to one after another, and of how many turns
+-- a window has.
 use Rattle.std.specs.Prelude.{ℕ, zero, suc, ◌+◌, ◌-◌, ◌*◌, ◌/◌, min, Bool, true, false, List, []}
 use Rattle.ant_base.specs.Layout.{◌+++◌}
 use Rattle.ant_turn.specs.Minds.{Minds}
@@ -17,14 +18,22 @@ no_turns = record { turns = 0; taken = 0; redone = 0 }
 
 -- some turns, and others
 abbrev pub both : Totals → Totals → Totals
-both some others = record { turns = some.turns + others.turns; taken = some.taken + others.taken; redone = some.redone + others.redone }
+both some others = record {
+  turns = some.turns + others.turns;
+  taken = some.taken + others.taken;
+  redone = some.redone + others.redone;
+}
 
 -- the turns of a window
 unfoldable pub window_totals : Window → Totals
-window_totals window = record { turns = window.to - window.from; taken = (counts_of window).taken; redone = (counts_of window).redone }
+window_totals window = record {
+  turns = window.to - window.from;
+  taken = (counts_of window).taken;
+  redone = (counts_of window).redone;
+}
 
--- the turns of a round from `from` on are cut into windows of so many turns, of which the last may have fewer; m is the moment before the
--- first of them. This is window j, counted from 0: it begins where the windows before it lead
+-- the turns of a round from `from` on are cut into windows of so many turns, of which the last may have fewer; m is the
+-- moment before the first of them. This is window j, counted from 0: it begins where the windows before it lead
 unfoldable pub window_at : Minds → ℕ → ℕ → Moment → ℕ → ℕ → Window
 window_at minds seed size m from j = record {
   minds = minds;
@@ -42,7 +51,8 @@ windows_of size turns = (turns + size - 1) / size
 -- the turns of the first n of these windows
 abbrev pub sum_windows : Minds → ℕ → ℕ → Moment → ℕ → ℕ → Totals
 sum_windows minds seed size m from zero = no_turns
-sum_windows minds seed size m from (suc j) = both (sum_windows minds seed size m from j) (window_totals (window_at minds seed size m from j))
+sum_windows minds seed size m from (suc j) =
+    both (sum_windows minds seed size m from j) (window_totals (window_at minds seed size m from j))
 
 -- the turns of a round that begins at a moment: those of all its windows
 unfoldable pub round_totals : Minds → ℕ → ℕ → Moment → Totals
@@ -51,7 +61,8 @@ round_totals minds seed size m = sum_windows minds seed size m 0 (windows_of siz
 -- the turns of r rounds from a moment on
 abbrev pub totals_of : Minds → ℕ → ℕ → Moment → ℕ → Totals
 totals_of minds seed size m zero = no_turns
-totals_of minds seed size m (suc r) = both (totals_of minds seed size m r) (round_totals minds seed size (after_rounds minds seed m r))
+totals_of minds seed size m (suc r) =
+    both (totals_of minds seed size m r) (round_totals minds seed size (after_rounds minds seed m r))
 
 -- the line of the counts, where they are asked for
 abbrev pub counts_text : Bool → Totals → List ℕ
@@ -60,4 +71,5 @@ counts_text true totals = stats_text totals
 
 -- the text of a run, and the line of its counts where they are asked for
 unfoldable pub whole_text : Minds → ℕ → ℕ → (ℕ → Bool) → ℕ → Bool → World → List ℕ
-whole_text minds seed rounds chosen size stats w = run_text minds seed rounds chosen w +++ counts_text stats (totals_of minds seed size (start_of w) rounds)
+whole_text minds seed rounds chosen size stats w =
+    run_text minds seed rounds chosen w +++ counts_text stats (totals_of minds seed size (start_of w) rounds)

@@ -6,8 +6,8 @@ use Rattle.round_book.specs.Book.{FieldValue, field_moment}
 use Rattle.match_run.specs.Counts.{both, no_turns, sum_windows, totals_of, windows_of}
 use Rattle.match_run.specs.Run.{most_rounds}
 
--- what a contract sees of a game: its field, how many turns a window has, the place in the stream with which it began, how many rounds are
--- done, the next turn of the round that isn't, and what came of the turns so far
+-- what a contract sees of a game: its field, how many turns a window has, the place in the stream with which it began,
+-- how many rounds are done, the next turn of the round that isn't, and what came of the turns so far
 pub record GameValue : Type 0 where
   pub field : FieldValue
   pub window : ℕ
@@ -18,14 +18,28 @@ pub record GameValue : Type 0 where
 
 -- a game that begins on a field
 abbrev pub beginning : FieldValue → ℕ → GameValue
-beginning field window = record { field = field; window = window; first_place = field.place; done = 0; next = 0; totals = no_turns }
+beginning field window = record {
+  field = field;
+  window = window;
+  first_place = field.place;
+  done = 0;
+  next = 0;
+  totals = no_turns;
+}
 
 -- a game that began at place 0, of which so many rounds are done with these turns, and that goes on from a field
 abbrev pub game_at_round : FieldValue → ℕ → ℕ → Totals → GameValue
-game_at_round field window done totals = record { field = field; window = window; first_place = 0; done = done; next = 0; totals = totals }
+game_at_round field window done totals = record {
+  field = field;
+  window = window;
+  first_place = 0;
+  done = done;
+  next = 0;
+  totals = totals;
+}
 
--- such a game can go on: its field is whole; a window has a turn; few rounds are done; its turns are those of these rounds, each taken or
--- redone; and each drew one random number at most
+-- such a game can go on: its field is whole; a window has a turn; few rounds are done; its turns are those of these
+-- rounds, each taken or redone; and each drew one random number at most
 pub record CanGoOn (field : FieldValue) (window done : ℕ) (totals : Totals) : Type 0 where
   pub whole : field.whole ≡ true
   pub sized : 1 ≤ window
@@ -34,8 +48,9 @@ pub record CanGoOn (field : FieldValue) (window done : ℕ) (totals : Totals) : 
   pub add_up : totals.taken + totals.redone ≡ totals.turns
   pub place : field.place ≤ totals.turns
 
--- what every game keeps: its field is whole; few rounds are done; the next turn is 0 or the first of a window; its turns are those of the
--- rounds that are done and of the windows since, each taken or redone; and each drew one random number at most
+-- what every game keeps: its field is whole; few rounds are done; the next turn is 0 or the first of a window; its
+-- turns are those of the rounds that are done and of the windows since, each taken or redone; and each drew one random
+-- number at most
 pub record IsGame (game : GameValue) : Type 0 where
   pub whole : game.field.whole ≡ true
   pub few : game.done ≤ most_rounds
@@ -80,7 +95,8 @@ pub record IsRoundPlayed (old new : GameValue) : Type 0 where
   pub next : new.next ≡ 0
   pub same : IsSameGame old new
 
--- a window of the round was refused: so many windows were played, and the next turn is the first one of the window that was refused
+-- a window of the round was refused: so many windows were played, and the next turn is the first one of the window that
+-- was refused
 pub record IsRoundRefused (old new : GameValue) : Type 0 where
   pub windows : ℕ
   pub now : now_of new ≡ moment_ahead old (windows * old.window)
@@ -90,8 +106,8 @@ pub record IsRoundRefused (old new : GameValue) : Type 0 where
   pub is_left : new.next < old.field.world.ids
   pub same : IsSameGame old new
 
--- a game that stood at the end of a round was played for so many rounds: it stands where the rules' rounds lead from there, and has counted
--- their turns beside the earlier ones
+-- a game that stood at the end of a round was played for so many rounds: it stands where the rules' rounds lead from
+-- there, and has counted their turns beside the earlier ones
 pub record GoesOnFor (old new : GameValue) (rounds : ℕ) : Type 0 where
   pub now : now_of new ≡ after_rounds old.field.minds old.field.seed (now_of old) rounds
   pub totals : new.totals ≡ both old.totals (totals_of old.field.minds old.field.seed old.window (now_of old) rounds)

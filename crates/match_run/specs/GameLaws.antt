@@ -23,9 +23,11 @@ AreRounds (suc r) old new = (mid : GameValue) × AreRounds r old mid × ((refusa
 
 -- a game that is at the end of a round goes on so
 abbrev pub GamesGoOnByRounds : Type 0
-GamesGoOnByRounds = (old new : GameValue) (r : ℕ) → 1 ≤ old.window → old.next ≡ 0 → AreRounds r old new → GoesOnFor old new r
+GamesGoOnByRounds =
+    (old new : GameValue) (r : ℕ) → 1 ≤ old.window → old.next ≡ 0 → AreRounds r old new → GoesOnFor old new r
 
--- a game that began on a field stands after r rounds where the game of the rules stands: its world, its place in the stream, and its counts
+-- a game that began on a field stands after r rounds where the game of the rules stands: its world, its place in the
+-- stream, and its counts
 pub record IsAtRound (field : FieldValue) (window r : ℕ) (game : GameValue) : Type 0 where
   pub world : world_of game.field.world ≡ world_after field.minds field.seed (world_of field.world) r
   pub place : game.field.place ≡ (after_rounds field.minds field.seed (start_of (world_of field.world)) r).place
@@ -36,10 +38,15 @@ pub record IsAtRound (field : FieldValue) (window r : ℕ) (game : GameValue) : 
 
 -- each game does that begins at place 0
 abbrev pub GamesFollowTheRules : Type 0
-GamesFollowTheRules = (field : FieldValue) (window r : ℕ) (game : GameValue) → 1 ≤ window → field.place ≡ 0 → AreRounds r (beginning field window) game → IsAtRound field window r game
+GamesFollowTheRules =
+    (field : FieldValue) (window r : ℕ) (game : GameValue) → 1 ≤ window → field.place ≡ 0
+    → AreRounds r (beginning field window) game → IsAtRound field window r game
 
 -- at every round a game that began at place 0 on the world of some kinds has as many hill cells as ids
 abbrev pub GamesKeepTheirHills : Type 0
-GamesKeepTheirHills = (width height : ℕ) (kinds : List Kind) (field : FieldValue) (window r : ℕ) (game : GameValue) → IsPlan width height kinds → AreSound field.minds
-    → field.world ≡ opening width height kinds → field.place ≡ 0 → GoesOnFor (beginning field window) game r → IsWorld game.field.world
+GamesKeepTheirHills =
+    (width height : ℕ) (kinds : List Kind) (field : FieldValue) (window r : ℕ) (game : GameValue)
+    → IsPlan width height kinds → AreSound field.minds
+    → field.world ≡ opening width height kinds → field.place ≡ 0 → GoesOnFor (beginning field window) game r
+    → IsWorld game.field.world
     → hill_cells game.field.world.cells ≡ game.field.world.ids

@@ -12,7 +12,8 @@ pub record PushedProperPrefix (old new : SinkState) (text : List ℕ) : Type 0 w
   pub some_left : 1 ≤ length rest
   pub pushed : PushedAll old new front
 
--- why a play stopped: the sink failed, after a prefix of the text, and its count of faults rose; or memory was wanting, after a proper prefix
+-- why a play stopped: the sink failed, after a prefix of the text, and its count of faults rose; or memory was wanting,
+-- after a proper prefix
 abbrev pub StoppedBy : SinkState → SinkState → List ℕ → PushFault → Type 0
 StoppedBy old new text WriteFault = PushedFront old new text
 StoppedBy old new text OutOfMemory = PushedProperPrefix old new text

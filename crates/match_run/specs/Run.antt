@@ -25,7 +25,8 @@ chosen_dump chosen w round = if chosen round then dump_text w round else []
 unfoldable pub dumps_text : Minds → ℕ → (ℕ → Bool) → World → ℕ → List ℕ
 dumps_text minds seed chosen w n = numbered (λ round. chosen_dump chosen (world_after minds seed w round) round) n
 
--- the text of a run without its counts: the line of the seed, the dump after each round that is chosen, from 0 to the number of rounds in order, and the score
+-- the text of a run without its counts: the line of the seed, the dump after each round that is chosen, from 0 to the
+-- number of rounds in order, and the score
 unfoldable pub run_text : Minds → ℕ → ℕ → (ℕ → Bool) → World → List ℕ
 run_text minds seed rounds chosen w =
     seed_text seed

@@ -11,10 +11,12 @@ use Rattle.match_run.specs.declared.dumps.Dumps.TheVariants.{Nothing, All}
 use Rattle.match_run.specs.Dumps.{chooses, has_round}
 use Rattle.match_run.specs.Run.{run_text, world_after}
 
--- the text of a run with all dumps is the line of the seed, the dump after each round from 0 to the number of rounds in order, and the score
+-- the text of a run with all dumps is the line of the seed, the dump after each round from 0 to the number of rounds in
+-- order, and the score
 abbrev pub AllDumps : Type 0
 AllDumps = (minds : Minds) (seed rounds : ℕ) (w : World) → run_text minds seed rounds (chooses All) w ≡
-    seed_text seed +++ numbered (λ round. dump_text (world_after minds seed w round) round) (rounds + 1) +++ score_text (score_of (world_after minds seed w rounds))
+    seed_text seed +++ numbered (λ round. dump_text (world_after minds seed w round) round) (rounds + 1)
+    +++ score_text (score_of (world_after minds seed w rounds))
 
 -- without dumps it is the line of the seed and the score
 abbrev pub NoDumps : Type 0
@@ -38,7 +40,9 @@ abbrev pub LaterAddsNothing : Type 0
 LaterAddsNothing = (minds : Minds) (seed rounds : ℕ) (w : World) (list : List ℕ) (round : ℕ) → rounds < round
     → run_text minds seed rounds (has_round (list ++ round ∷ [])) w ≡ run_text minds seed rounds (has_round list) w
 
--- the score after r and then q rounds is that after q rounds from the moment after r: its world, and the place of its random numbers
+-- the score after r and then q rounds is that after q rounds from the moment after r: its world, and the place of its
+-- random numbers
 abbrev pub GamesGoOn : Type 0
 GamesGoOn = (minds : Minds) (seed : ℕ) (w : World) (r q : ℕ)
-    → score_of (world_after minds seed w (r + q)) ≡ score_of (after_rounds minds seed (after_rounds minds seed (start_of w) r) q).world
+    → score_of (world_after minds seed w (r + q))
+    ≡ score_of (after_rounds minds seed (after_rounds minds seed (start_of w) r) q).world

@@ -88,7 +88,8 @@ ant_in w t = option_and_then (λ p. (w.cells p).ant) (place_in w t)
 
 -- the cell ahead of the ant of an id
 unfoldable pub ahead_of : World → ℕ → Option Pos
-ahead_of w t = option_and_then (λ p. option_map (λ (ant : Ant). adjacent_pos p ant.facing) (w.cells p).ant) (place_in w t)
+ahead_of w t =
+    option_and_then (λ p. option_map (λ (ant : Ant). adjacent_pos p ant.facing) (w.cells p).ant) (place_in w t)
 
 -- where an ant dies that is killed in the turn of t in this world: that of t on the cell ahead, onto which it has
 -- moved, and each other where it stands
@@ -119,7 +120,9 @@ seen_of seed round w place t p ant instruction outcome = record {
 
 -- what is seen where the ant rests for so many more turns
 abbrev pub seen_by : ℕ → Minds → ℕ → ℕ → Moment → ℕ → Pos → Ant → List Seen
-seen_by zero minds seed round m t p ant = seen_of seed round m.world m.place t p ant (instruction_at (mind_of minds ant.colour) ant.state) (turn minds seed m.world m.place t) ∷ []
+seen_by zero minds seed round m t p ant =
+    seen_of seed round m.world m.place t p ant (instruction_at (mind_of minds ant.colour) ant.state)
+    (turn minds seed m.world m.place t) ∷ []
 seen_by (suc left) minds seed round m t p ant = []
 
 -- at a position that may hold an ant
@@ -139,4 +142,5 @@ seen minds seed round m t = seen_from minds seed round m t (place_in m.world t)
 -- what is seen of the turn of an ant that stands there and doesn't rest
 abbrev pub seen_here : Minds → ℕ → ℕ → Moment → PlacedAnt → Seen
 seen_here minds seed round m it =
-    seen_of seed round m.world m.place it.ant.id it.place it.ant (instruction_at (mind_of minds it.ant.colour) it.ant.state) (turn minds seed m.world m.place it.ant.id)
+    seen_of seed round m.world m.place it.ant.id it.place it.ant
+    (instruction_at (mind_of minds it.ant.colour) it.ant.state) (turn minds seed m.world m.place it.ant.id)

@@ -17,7 +17,8 @@ use Rattle.match_run.specs.Alone.{IsPlayedOn, GameAloneValue, standing}
 abbrev pub dumps_behind : GameValue → (ℕ → Bool) → ℕ → List ℕ
 dumps_behind game chosen rounds = later_dumps game.field.minds game.field.seed chosen (now_of game) game.done rounds
 
--- the sink failed at the dump of one of so many rounds: the game stands behind that round, and the dumps of the rounds before it were pushed
+-- the sink failed at the dump of one of so many rounds: the game stands behind that round, and the dumps of the rounds
+-- before it were pushed
 pub record FailsAtDump (old new : GameValue) (rounds : ℕ) (chosen : ℕ → Bool) (sink new_sink : SinkState) : Type 0 where
   pub shown : ℕ
   pub left : shown < rounds
@@ -27,14 +28,18 @@ pub record FailsAtDump (old new : GameValue) (rounds : ℕ) (chosen : ℕ → Bo
   pub failed : PushedFront mid new_sink (chosen_dump chosen (world_of new.field.world) new.done)
 
 -- the sink failed at the score or the counts: the game stands behind its last round, and all dumps were pushed
-pub record FailsAtEnd (old new : GameValue) (rounds : ℕ) (chosen : ℕ → Bool) (stats : Bool) (sink new_sink : SinkState) : Type 0 where
+pub record FailsAtEnd (old new : GameValue) (rounds : ℕ) (chosen : ℕ → Bool) (stats : Bool)
+    (sink new_sink : SinkState) : Type 0 where
   pub whole : GoesOnFor old new rounds
   pub mid : SinkState
   pub before : PushedAll sink mid (dumps_behind old chosen rounds)
-  pub failed : PushedFront mid new_sink (score_text (score_of (world_of new.field.world)) +++ counts_text stats new.totals)
+  pub failed :
+      PushedFront mid new_sink (score_text (score_of (world_of new.field.world)) +++ counts_text stats new.totals)
 
--- a window of one of so many rounds was refused: the game stands at that window, and the dumps of the rounds before it were pushed and no more
-pub record RefusesWindow (old new : GameValue) (rounds : ℕ) (chosen : ℕ → Bool) (sink new_sink : SinkState) : Type 0 where
+-- a window of one of so many rounds was refused: the game stands at that window, and the dumps of the rounds before it
+-- were pushed and no more
+pub record RefusesWindow (old new : GameValue) (rounds : ℕ) (chosen : ℕ → Bool)
+    (sink new_sink : SinkState) : Type 0 where
   pub shown : ℕ
   pub left : shown < rounds
   pub at : GameValue
@@ -42,14 +47,17 @@ pub record RefusesWindow (old new : GameValue) (rounds : ℕ) (chosen : ℕ → 
   pub refused : IsRoundRefused at new
   pub before : PushedAll sink new_sink (dumps_behind old chosen shown)
 
--- why a game wasn't played so many rounds further with its text: the sink failed at a dump or at the end, or memory was wanting for a window
+-- why a game wasn't played so many rounds further with its text: the sink failed at a dump or at the end, or memory was
+-- wanting for a window
 abbrev pub StopsBy : GameValue → GameValue → ℕ → (ℕ → Bool) → Bool → SinkState → SinkState → PushFault → Type 0
-StopsBy old new rounds chosen stats sink new_sink WriteFault = FailsAtDump old new rounds chosen sink new_sink ⊎ FailsAtEnd old new rounds chosen stats sink new_sink
+StopsBy old new rounds chosen stats sink new_sink WriteFault =
+    FailsAtDump old new rounds chosen sink new_sink ⊎ FailsAtEnd old new rounds chosen stats sink new_sink
 StopsBy old new rounds chosen stats sink new_sink OutOfMemory = RefusesWindow old new rounds chosen sink new_sink
 
--- of a game that is just played, the sink failed at the dump of one of so many rounds: it stands behind that round, and the dumps of the rounds
--- before it were pushed
-pub record LosesDump (old new : GameAloneValue) (rounds : ℕ) (chosen : ℕ → Bool) (sink new_sink : SinkState) : Type 0 where
+-- of a game that is just played, the sink failed at the dump of one of so many rounds: it stands behind that round, and
+-- the dumps of the rounds before it were pushed
+pub record LosesDump (old new : GameAloneValue) (rounds : ℕ) (chosen : ℕ → Bool)
+    (sink new_sink : SinkState) : Type 0 where
   pub shown : ℕ
   pub left : shown < rounds
   pub played : IsPlayedOn old new (shown + 1)
@@ -58,7 +66,8 @@ pub record LosesDump (old new : GameAloneValue) (rounds : ℕ) (chosen : ℕ →
   pub failed : PushedFront mid new_sink (chosen_dump chosen (world_of new.world) new.done)
 
 -- the sink failed at its score: it stands behind its last round, and all dumps were pushed
-pub record LosesScore (old new : GameAloneValue) (rounds : ℕ) (chosen : ℕ → Bool) (sink new_sink : SinkState) : Type 0 where
+pub record LosesScore (old new : GameAloneValue) (rounds : ℕ) (chosen : ℕ → Bool)
+    (sink new_sink : SinkState) : Type 0 where
   pub played : IsPlayedOn old new rounds
   pub mid : SinkState
   pub before : PushedAll sink mid (later_dumps old.minds old.seed chosen (standing old) old.done rounds)
@@ -66,4 +75,5 @@ pub record LosesScore (old new : GameAloneValue) (rounds : ℕ) (chosen : ℕ �
 
 -- why it wasn't played so many rounds further with its text: the sink failed at a dump or at the score
 abbrev pub LosesText : GameAloneValue → GameAloneValue → ℕ → (ℕ → Bool) → SinkState → SinkState → Type 0
-LosesText old new rounds chosen sink new_sink = LosesDump old new rounds chosen sink new_sink ⊎ LosesScore old new rounds chosen sink new_sink
+LosesText old new rounds chosen sink new_sink =
+    LosesDump old new rounds chosen sink new_sink ⊎ LosesScore old new rounds chosen sink new_sink

@@ -11,7 +11,8 @@ Telling A = Moment → ℕ → List A
 -- what is told of the turns of n ids from `from` on, in rising order, each from the moment that those before it led to
 abbrev pub told_in_turns : {A : Type 0} → Telling A → Minds → ℕ → Moment → ℕ → ℕ → List A
 told_in_turns telling minds seed m from zero = []
-told_in_turns telling minds seed m from (suc n) = told_in_turns telling minds seed m from n ++ telling (after_turns minds seed m from n) (from + n)
+told_in_turns telling minds seed m from (suc n) =
+    told_in_turns telling minds seed m from n ++ telling (after_turns minds seed m from n) (from + n)
 
 -- what is told of a round: of one turn of each id in rising order
 abbrev pub told_in_round : {A : Type 0} → Telling A → Minds → ℕ → Moment → List A
@@ -20,7 +21,8 @@ told_in_round telling minds seed m = told_in_turns telling minds seed m 0 m.worl
 -- what is told of n rounds, which are counted from 1
 abbrev pub told_in_rounds : {A : Type 0} → (ℕ → Telling A) → Minds → ℕ → Moment → ℕ → List A
 told_in_rounds telling minds seed m zero = []
-told_in_rounds telling minds seed m (suc n) = told_in_rounds telling minds seed m n ++ told_in_round (telling (suc n)) minds seed (after_rounds minds seed m n)
+told_in_rounds telling minds seed m (suc n) =
+    told_in_rounds telling minds seed m n ++ told_in_round (telling (suc n)) minds seed (after_rounds minds seed m n)
 
 -- what is told from round `from` on: nothing of the turns of earlier rounds
 abbrev pub from_round : {A : Type 0} → ℕ → (ℕ → Telling A) → ℕ → Telling A

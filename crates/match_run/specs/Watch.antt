@@ -12,16 +12,21 @@ use Rattle.match_run.specs.Told.{Telling}
 -- nothing is told of a turn that is idle, and what is told of another asks for no other ant's rest
 pub record IgnoresRest {A : Type 0} (telling : Telling A) : Type 0 where
   pub dead : (m : Moment) (t : ℕ) → place_in m.world t ≡ None → telling m t ≡ []
-  pub resting : (m : Moment) (t : ℕ) (p : Pos) (ant : Ant) (left : ℕ) → place_in m.world t ≡ Some p → (m.world.cells p).ant ≡ Some ant → ant.resting ≡ left + 1 → telling m t ≡ []
-  pub others : (f : ℕ → ℕ → ℕ) (t : ℕ) → ((n : ℕ) → f t n ≡ n) → (m : Moment) → telling (record m { world = with_rests f m.world }) t ≡ telling m t
+  pub resting : (m : Moment) (t : ℕ) (p : Pos) (ant : Ant) (left : ℕ) → place_in m.world t ≡ Some p
+      → (m.world.cells p).ant ≡ Some ant → ant.resting ≡ left + 1 → telling m t ≡ []
+  pub others : (f : ℕ → ℕ → ℕ) (t : ℕ) → ((n : ℕ) → f t n ≡ n) → (m : Moment)
+      → telling (record m { world = with_rests f m.world }) t ≡ telling m t
 
 -- what is told doesn't ask for the rest of others; and a log goes on with what is told piece by piece, until the game
 -- is ended within a piece, whatever comes behind it
-pub record IsFair {A Log Stop : Type 0} (telling : ℕ → Telling A) (logs : Log → Log → List A → Result (Unit {0}) Stop → Type 0) (ready : Log → ℕ → Type 0) : Type 0 where
+pub record IsFair {A Log Stop : Type 0} (telling : ℕ → Telling A)
+    (logs : Log → Log → List A → Result (Unit {0}) Stop → Type 0) (ready : Log → ℕ → Type 0) : Type 0 where
   pub ignores : (round : ℕ) → IgnoresRest (telling round)
   pub none : (log : Log) → logs log log [] (Ok tt)
-  pub more : (old mid new : Log) (told later : List A) (result : Result (Unit {0}) Stop) → logs old mid told (Ok tt) → logs mid new later result → logs old new (told ++ later) result
-  pub front : (old new : Log) (told later : List A) (stop : Stop) → logs old new told (Err stop) → logs old new (told ++ later) (Err stop)
+  pub more : (old mid new : Log) (told later : List A) (result : Result (Unit {0}) Stop) → logs old mid told (Ok tt)
+      → logs mid new later result → logs old new (told ++ later) result
+  pub front : (old new : Log) (told later : List A) (stop : Stop) → logs old new told (Err stop)
+      → logs old new (told ++ later) (Err stop)
   pub fewer : (log : Log) (turns more : ℕ) → ready log (turns + more) → ready log turns
 
 -- the moment of a world and the stream of its game
@@ -29,14 +34,17 @@ abbrev pub moment_of : World → SeedAndPlace → Moment
 moment_of w stream = record { world = w; place = stream.place }
 
 -- a world and a stream stand at a moment of a game, with the seed as before
-pub record IsAtMoment (minds : Minds) (m : Moment) (before : SeedAndPlace) (w : World) (stream : SeedAndPlace) : Type 0 where
+pub record IsAtMoment (minds : Minds) (m : Moment) (before : SeedAndPlace) (w : World)
+    (stream : SeedAndPlace) : Type 0 where
   pub moment : moment_of w stream ≡ m
   pub seed : stream.seed ≡ before.seed
   pub fit : Fits w minds
 
 -- some turns were watched: the log is that of what is told of them, or the game was ended within it. Where it wasn't,
 -- it stands where the turns lead, and each of them took one random number at most
-pub record IsWatched {A Log Stop : Type 0} (logs : Log → Log → List A → Result (Unit {0}) Stop → Type 0) (ready : Log → ℕ → Type 0) (minds : Minds) (start : SeedAndPlace) (old new : Log) (told : List A) (turns : ℕ) (m : Moment) (w : World) (stream : SeedAndPlace)
+pub record IsWatched {A Log Stop : Type 0} (logs : Log → Log → List A → Result (Unit {0}) Stop → Type 0)
+    (ready : Log → ℕ → Type 0) (minds : Minds) (start : SeedAndPlace) (old new : Log) (told : List A) (turns : ℕ)
+    (m : Moment) (w : World) (stream : SeedAndPlace)
     (result : Result (Unit {0}) Stop) : Type 0 where
   pub logged : logs old new told result
   pub stands : OnOk result (IsAtMoment minds m start w stream)

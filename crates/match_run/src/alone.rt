@@ -19,14 +19,15 @@ use ant_turn::Brains;
 use cell_world::{Score, World};
 use dump_print::{push_score, push_seed};
 
-/// Plays a game and pushes the text of its run: the line of the seed, the dump after each round that the plan chooses, from round 0, the
-/// start, to the last in order, and the score (the task's game play).
+/// Plays a game and pushes the text of its run: the line of the seed, the dump after each round that the plan selects,
+/// in order from round 0, which is the start, and the score (the task's game play).
 ///
-/// Each ant's state is below the length of its colour's brain, as in every opening world, and the plan has at most 1,000,000 rounds.
-/// The turns are those of the ids in rising order, from 0, round after round, with the random numbers of the seed from place 0 on.
-/// Gives the score after the last round: the food on each colour's hill. It fails only where the sink did, whose count of faults rose then: a
-/// prefix of the text was pushed. It takes no memory. It makes no looks and counts none: its text is that of a plan without counts, whatever the plan's window and
-/// whether it asks for counts.
+/// Each ant's state is below the length of its colour's brain, as in every opening world, and the plan has at most
+/// 1,000,000 rounds. The turns are those of the ids in rising order, from 0, round after round, with the random numbers
+/// of the seed from place 0 on. It returns the score after the last round: the food on each colour's hill. It fails
+/// only if the sink failed and its count of faults rose; then a prefix of the text was pushed. It takes no memory. It
+/// makes no looks and counts none: its text is that of a plan without counts, whatever the plan says about windows and
+/// counts.
 pub fn play_alone<K: Sink>(
     world: World,
     brains: Brains<'_>,
@@ -45,12 +46,12 @@ pub fn play_alone<K: Sink>(
     play_on_alone(&mut game, plan.rounds, &plan.dumps, sink)
 }
 
-/// Plays a game on until so many rounds are done in all, and pushes the rest of its text, without counts: the dump after each later round that
-/// is chosen, in order, and the score (the task's game play).
+/// Plays a game on until this number of rounds is done in all, and pushes the rest of its text, without counts: the
+/// dump after each later round that is selected, in order, and the score (the task's game play).
 ///
-/// The rounds are at most 1,000,000, and at least those that are done. Gives the score at the end. It fails only where the sink did, whose
-/// count of faults rose then: a prefix of the text was pushed. The game stands at the end of the round at whose dump the sink failed, and else
-/// of the last one. It takes no memory.
+/// The rounds are at most 1,000,000, and at least those that are done. It returns the score at the end. It fails only
+/// if the sink failed and its count of faults rose; then a prefix of the text was pushed. The game is at the end of the
+/// round at whose dump the sink failed, otherwise at the end of the last one. It takes no memory.
 pub fn play_on_alone<K: Sink>(
     game: &mut GameAlone<'_>,
     rounds: u32,
@@ -93,12 +94,13 @@ fn play_rounds<K: Sink>(
     Ok(())
 }
 
-/// The score after the last round of a game, as `play_alone` gives it, without a text: the food on each colour's hill (the task's game
-/// play). Each ant's state is below the length of its colour's brain, as in every opening world; the seed is any, and the rounds are at
-/// most 1,000,000. It takes no memory and refuses nothing.
+/// The score after the last round of a game, as `play_alone` gives it, without a text: the food on each colour's hill
+/// (the task's game play). Each ant's state is below the length of its colour's brain, as in every opening world; the
+/// seed is any, and the rounds are at most 1,000,000. It takes no memory and refuses nothing.
 ///
-/// Given the world of `examples/ambush.world`, `Flip 2 0 0` for red and `Move 0 0` for black, and one round it answers red 3 and black 0,
-/// whatever the seed: black ant 1 steps beside red ant 2, is its fifth foe, and the killed ant leaves 3 particles on its hill.
+/// Given the world of `examples/ambush.world`, `Flip 2 0 0` for red and `Move 0 0` for black, and one round it answers
+/// red 3 and black 0, whatever the seed: black ant 1 steps beside red ant 2, is its fifth foe, and the killed ant
+/// leaves 3 particles on its hill.
 pub fn play_score(world: World, brains: Brains<'_>, seed: u32, rounds: u32) -> Score
     requires fit { Fits (world_of world) (minds_of brains) }
     requires few_rounds { rounds ≤ most_rounds }

@@ -13,9 +13,9 @@ use hex_geometry::OutOfMemory;
 use std::alloc::Global;
 use std::marker::Model;
 
-/// A list of rounds, each counted from 0 for the start of the game; contracts see their numbers, and how many more it takes before it is full.
-/// Order and repeats make no difference to a run. Whether a round is in a list that never falls is found by halving, in any other by a look at
-/// each of its numbers: `sort` makes it such a list.
+/// A list of rounds, each counted from 0 for the start of the game; contracts see their numbers, and how many more it
+/// takes before it is full. Order and repeats make no difference to a run. Whether a round is in a list that never
+/// falls is found by halving, in any other by a look at each of its numbers: `sort` makes it such a list.
 #[derive(Drop)]
 pub struct Rounds {
     list: Vec<u32>,
@@ -45,8 +45,8 @@ impl Rounds {
         }
     }
 
-    /// Adds a round last, whether or not it is there already. It is refused only where the list is full and memory for
-    /// more could not be had; the list is as before then. An add takes at most one of the places that are spare.
+    /// Adds a round at the end, even if it is in the list already. It fails only if the list is full and there is no
+    /// memory for more; the list is then unchanged. An add uses at most one spare place.
     pub fn add(&mut self, round: u32) -> Result<(), OutOfMemory>
         ensures added { OnOk result (self.new.numbers ≡ self.old.numbers ++ round ∷ []) }
         ensures unchanged { OnErr result (self.new ≡ self.old) }
@@ -60,8 +60,8 @@ impl Rounds {
         Ok(())
     }
 
-    /// Puts the rounds into rising order, so that each of them is found by halving from then on. The list has the same numbers as before, each
-    /// as often, and so chooses the same rounds; as many places are spare. It takes no memory.
+    /// Puts the rounds into rising order, so that each of them is found by halving from then on. The list has the same
+    /// numbers as before, each as often, and so chooses the same rounds; as many places are spare. It takes no memory.
     pub fn sort(&mut self)
         ensures permutation { IsPermutation self.old.numbers self.new.numbers }
         ensures rising { IsNonDecreasing self.new.numbers }
@@ -106,8 +106,8 @@ pub enum Dumps {
 }
 
 impl Dumps {
-    /// Whether the world after this round, counted from 0 for the start, is dumped: the value is `All`, or `Chosen` with that number among
-    /// its rounds. It takes no memory.
+    /// Whether the world after this round, counted from 0 for the start, is dumped: the value is `All`, or `Chosen`
+    /// with that number among its rounds. It takes no memory.
     pub fn chooses(&self, round: u32) -> bool
         ensures { result ≡ chooses self.now round }
     {

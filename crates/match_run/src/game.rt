@@ -11,9 +11,9 @@ use round_book::{Crew, Field};
 use std::alloc::Global;
 use std::marker::Model;
 
-/// A game that is played round by round, each round window by window, by whatever crew is at hand (the task's game play; windows are this
-/// project's own). It knows its field, which is whole, how many turns a window has, how many rounds are done, the next turn of the round
-/// that isn't, and what came of the turns so far.
+/// A game that is played round by round, each round window by window, by whatever crew is at hand (the task's game
+/// play; windows are this project's own). It knows its field, which is whole, how many turns a window has, how many
+/// rounds are done, the next turn of the round that isn't, and what came of the turns so far.
 #[derive(Drop)]
 pub struct Game<'b> {
     field: Field<'b>,
@@ -49,8 +49,9 @@ impl<'b> Model for Game<'b> {
 }
 
 impl<'b> Game<'b> {
-    /// A game that begins on this field: no round is done, the next turn is that of id 0, and no turn is counted (the task's game play). The
-    /// field is whole, its place is below 2^62, and a window has at least one turn. It takes no memory.
+    /// A game that begins on this field: no round is done, the next turn is that of id 0, and no turn is counted (the
+    /// task's game play). The field is whole, its place is below 2^62, and a window has at least one turn. It takes no
+    /// memory.
     pub fn begin(field: Field<'b>, window: u32) -> Game<'b>
         requires whole { field.whole ≡ true }
         requires place { field.place < 2 ^ 62 }
@@ -72,9 +73,10 @@ impl<'b> Game<'b> {
         }
     }
 
-    /// A game that began at place 0 and stands at the end of a round: so many rounds are done, which had these turns, and it goes on from this
-    /// field. The field is whole; at most 1,000,000 rounds are done; their turns are those of the ids times the rounds, each taken or redone;
-    /// and no more random numbers were drawn than there were turns. It takes no memory.
+    /// A game that began at place 0 and is at the end of a round. It goes on from this field, and this number of rounds
+    /// is done, with these turns. The field is whole; at most 1,000,000 rounds are done; they have one turn for each id
+    /// and round, each taken or redone; and there were at least as many turns as random numbers drawn. It takes no
+    /// memory.
     pub fn at_round(field: Field<'b>, window: u32, done: u32, totals: Totals) -> Game<'b>
         requires { CanGoOn field window done totals }
         ensures { result ≡ game_at_round field.entry window done totals }
@@ -89,15 +91,16 @@ impl<'b> Game<'b> {
         }
     }
 
-    /// Plays the round that isn't done to its end, window by window (the task's kinetics): the turns from the next one to that of the last
-    /// id, in order. Fewer than 1,000,000 rounds are done. At Ok one more round is done, and the next turn is that of id 0.
+    /// Plays the current round to its end, window by window (the task's kinetics): the turns from the next one to that
+    /// of the last id, in order. Fewer than 1,000,000 rounds are done. After Ok one more round is done, and the next
+    /// turn is that of id 0.
     ///
-    /// It is refused only when out of memory, where the crew refuses a window. The turns before that window are played then, and counted;
-    /// no further round is done; the window's first turn is the next one, with which the next call goes on. In both cases the crew's count
-    /// of turns has risen as much as that of the totals, or stands at its last value.
+    /// It fails only if memory runs out and the crew refuses a window. Then the turns before that window are played and
+    /// counted, and no further round is done. The window's first turn is the next one, with which the next call goes
+    /// on. In both cases the crew's count of turns has risen as much as that of the totals, or is the largest value.
     ///
-    /// Given a game of `Turn Left 0` that begins on the world of `3\n3\n###\n#+#\n###\n`, whose one ant faces direction 0, that ant faces
-    /// direction 5 after a call that is Ok, and direction 4 after the next one.
+    /// Given a game of `Turn Left 0` that begins on the world of `3\n3\n###\n#+#\n###\n`, whose one ant faces direction
+    /// 0, that ant faces direction 5 after a call that returns Ok, and direction 4 after the next one.
     pub fn round<C: Crew>(&mut self, alloc: Global, crew: &mut C) -> Result<(), OutOfMemory>
         requires ready { C.ready crew.old }
         requires few { self.old.done < most_rounds }
@@ -125,7 +128,7 @@ impl<'b> Game<'b> {
         Ok(())
     }
 
-    /// The world as it is (the task's geography).
+    /// The current world (the task's geography).
     pub fn world(&self) -> &World
         ensures { result.now ≡ self.now.field.world }
     {
@@ -156,8 +159,8 @@ impl<'b> Game<'b> {
         self.window
     }
 
-    /// What came of the turns so far: they are those of the rounds that are done and of the windows since, each taken or redone (this
-    /// project's own).
+    /// What came of the turns so far: they are those of the rounds that are done and of the windows since, each taken
+    /// or redone (this project's own).
     pub fn totals(&self) -> Totals
         ensures totals { result ≡ self.now.totals }
         ensures game { IsGame self.now }

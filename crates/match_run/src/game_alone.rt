@@ -14,8 +14,9 @@ use cell_world::World;
 use std::marker::Model;
 use std::mem;
 
-/// A game that is just played, round after round and each turn after turn (the task's game play): no look is made ahead, nothing is counted, and
-/// it takes no memory. It knows its world, its brains, its stream of random numbers, and how many rounds are done.
+/// A game that is just played, round after round and each turn after turn (the task's game play): no look is made
+/// ahead, nothing is counted, and it takes no memory. It knows its world, its brains, its stream of random numbers, and
+/// how many rounds are done.
 #[derive(Drop)]
 pub struct GameAlone<'b> {
     world: World,
@@ -48,8 +49,8 @@ impl<'b> Model for GameAlone<'b> {
 }
 
 impl<'b> GameAlone<'b> {
-    /// A game that begins on a world, with the random numbers of a seed from place 0 on (the task's game play). Each ant's state is below the
-    /// length of its colour's brain, as in every opening world.
+    /// A game that begins on a world, with the random numbers of a seed from place 0 on (the task's game play). Each
+    /// ant's state is below the length of its colour's brain, as in every opening world.
     pub fn begin(world: World, brains: Brains<'b>, seed: u32) -> GameAlone<'b>
         requires fit { Fits (world_of world) (minds_of brains) }
         ensures { result ≡ record { world = world; minds = minds_of brains.entry; seed = seed; place = 0; done = 0 } }
@@ -57,9 +58,9 @@ impl<'b> GameAlone<'b> {
         GameAlone::at_round(world, brains, seed, 0, 0)
     }
 
-    /// A game that stands at the end of a round: its world is this one, so many random numbers of its seed were drawn, and so many rounds are
-    /// done. Each ant's state is below the length of its colour's brain; at most 1,000,000 rounds are done, in which each of 16,384 ids drew
-    /// one number at most.
+    /// A game at the end of a round, with this world, this number of random numbers drawn of its seed, and this number
+    /// of rounds done. Each ant's state is below the length of its colour's brain; at most 1,000,000 rounds are done,
+    /// in each of which each of 16,384 ids drew at most one number.
     pub fn at_round(
         world: World,
         brains: Brains<'b>,
@@ -80,13 +81,15 @@ impl<'b> GameAlone<'b> {
         }
     }
 
-    /// Plays one round: a turn of each id in rising order (the task's kinetics). Fewer than 1,000,000 rounds are done. It takes no memory.
+    /// Plays one round: a turn of each id in rising order (the task's kinetics). Fewer than 1,000,000 rounds are done.
+    /// It takes no memory.
     #[inline(always)]
     pub fn round(&mut self)
         requires few { self.old.done < most_rounds }
         ensures { IsPlayedOn self.old self.new 1 }
     {
-        // the stream stands in a place of its own meanwhile, which no write to the world can reach: so a turn keeps it in registers
+        // the stream stands in a place of its own meanwhile, which no write to the world can reach: so a turn keeps it
+        // in registers
         let mut stream = mem::replace(&mut self.stream, Stream::from_seed(0));
         let _watched = watch_round(
             &Nobody,
@@ -100,7 +103,8 @@ impl<'b> GameAlone<'b> {
         self.done += 1;
     }
 
-    /// Plays so many rounds more (the task's kinetics), with those that are done at most 1,000,000. It takes no memory.
+    /// Plays this number of rounds more (the task's kinetics); with those that are done they are at most 1,000,000. It
+    /// takes no memory.
     pub fn play_on(&mut self, rounds: u32)
         requires few { self.old.done + rounds ≤ most_rounds }
         ensures { IsPlayedOn self.old self.new rounds }
@@ -110,7 +114,7 @@ impl<'b> GameAlone<'b> {
         }
     }
 
-    /// The world as it is (the task's geography).
+    /// The current world (the task's geography).
     #[inline]
     pub fn world(&self) -> &World
         ensures { result.now ≡ self.now.world }

@@ -4,8 +4,8 @@ ghost use Rattle.match_run.specs.GameLaws.{GamesFollowTheRules, GamesGoOnByRound
 ghost use Rattle.match_run.specs.Later.{RunsGoOn};
 ghost use Rattle.match_run.specs.RunLaws.{AllDumps, NoDumps, SameRounds, RepeatAddsNothing, LaterAddsNothing, GamesGoOn};
 
-/// The text of a run with `Dumps::All` is the line of the seed, the dump after each round from 0 to the number of rounds in order, and the
-/// score (the task's game play). The call does nothing: its clause is the law.
+/// The text of a run with `Dumps::All` is the line of the seed, the dump after each round from 0 to the number of
+/// rounds in order, and the score (the task's game play). The call does nothing: its clause is the law.
 pub fn all_dumps()
     ensures { AllDumps }
 {}
@@ -16,8 +16,8 @@ pub fn no_dumps()
     ensures { NoDumps }
 {}
 
-/// Two lists of rounds that have the same rounds, up to the number of rounds, give the same text: order, repeats and later rounds make no
-/// difference. The call does nothing: its clause is the law.
+/// Two lists of rounds that have the same rounds, up to the number of rounds, give the same text: order, repeats and
+/// later rounds make no difference. The call does nothing: its clause is the law.
 pub fn same_rounds()
     ensures { SameRounds }
 {}
@@ -32,20 +32,20 @@ pub fn later_adds_nothing()
     ensures { LaterAddsNothing }
 {}
 
-/// The score after r + q rounds of a game is that after q rounds from the moment after the first r, with the random numbers going on where
-/// they were (the task's game play and kinetics). The call does nothing: its clause is the law.
+/// The score after r + q rounds of a game is the score after q rounds from the moment after the first r, if the random
+/// numbers go on from there (the task's game play and kinetics). The call does nothing: its clause is the law.
 pub fn goes_on()
     ensures { GamesGoOn }
 {}
 
-/// Rounds go on: some rounds and those after them lead where all of them lead, and their turns are the turns of all (the task's
-/// kinetics). The call does nothing: its clause is the law.
+/// Rounds go on: some rounds and those after them lead where all of them lead, and their turns are the turns of all
+/// (the task's kinetics). The call does nothing: its clause is the law.
 pub fn rounds_go_on()
     ensures { RoundsGoOn }
 {}
 
-/// A game's rounds have a turn for each id, and each turn is taken or executed anew, however many turns a window has. The
-/// call does nothing: its clause is the law.
+/// A game's rounds have a turn for each id, and each turn is taken from a look or executed again, however many turns a
+/// window has. The call does nothing: its clause is the law.
 pub fn totals_add_up()
     ensures { TotalsAddUp }
 {}
@@ -55,45 +55,48 @@ pub fn single_turn_windows_are_taken()
     ensures { SingleTurnWindowsAreTaken }
 {}
 
-/// The counts stand on the last line alone: without that line the text of a run is the same, however many turns a window has (this project's
-/// own). The call does nothing: its clause is the law.
+/// The counts affect the last line alone: without that line the text of a run is the same, however many turns a window
+/// has (this project's own). The call does nothing: its clause is the law.
 pub fn counts_come_last()
     ensures { CountsComeLast }
 {}
 
-/// A `round` of a game that begins with the turn of id 0 leads where a round leads, and has its turns (the task's kinetics). The call does
-/// nothing: its clause is the law.
+/// A `round` of a game that begins with the turn of id 0 leads where a round leads, and has its turns (the task's
+/// kinetics). The call does nothing: its clause is the law.
 pub fn whole_rounds()
     ensures { WholeRounds }
 {}
 
-/// A `round` that was refused and is then gone on with leads where it leads at once, with the same counts. The call does
-/// nothing: its clause is the law.
+/// A `round` that was refused and is then gone on with leads where it leads at once, with the same counts. The call
+/// does nothing: its clause is the law.
 pub fn broken_rounds_go_on()
     ensures { BrokenRoundsGoOn }
 {}
 
-/// The text of a run is the line of the seed, the chosen dumps up to whatever round, and then the rest of its text from that round on. So what
-/// `play_on` pushes for a game at that round, with the counts of the rounds before it, is what is missing of the run's text (this project's
-/// own). The call does nothing: its clause is the law.
+/// The text of a run is the line of the seed, the chosen dumps up to whatever round, and then the rest of its text from
+/// that round on. So what `play_on` pushes for a game at that round, with the counts of the rounds before it, is what
+/// is missing of the run's text (this project's own). The call does nothing: its clause is the law.
 pub fn runs_go_on()
     ensures { RunsGoOn }
 {}
 
-/// A game that stands at the end of a round, and of which r rounds are played, each to its end however often it was refused before, stands where
-/// r rounds of the rules lead from there, and has counted what they count (the task's game play). The call does nothing: its clause is the law.
+/// Take a game at the end of a round, and play r more rounds of it, each to its end however often it failed before.
+/// Then the game is where r rounds of the rules lead, and it has counted what they count (the task's game play). The
+/// call does nothing: its clause is the law.
 pub fn games_go_on_by_rounds()
     ensures { GamesGoOnByRounds }
 {}
 
-/// A game that begins at place 0 has, after r whole rounds by whatever crews, the world, the place and the counts that the definitions give for
-/// r rounds of a game of its first world (the task's game play). The call does nothing: its clause is the law.
+/// A game that begins at place 0 has, after r whole rounds by whatever crews, the world, the place and the counts that
+/// the definitions give for r rounds of a game of its first world (the task's game play). The call does nothing: its
+/// clause is the law.
 pub fn games_follow_the_rules()
     ensures { GamesFollowTheRules }
 {}
 
-/// A game that begins at place 0 on the world of some kinds has at every round as many hill cells as ids, since each hill cell was born with an
-/// ant and no turn changes a hill (the task's geography and biology). The call does nothing: its clause is the law.
+/// A game that begins at place 0 on the world of some kinds has at every round as many hill cells as ids, since each
+/// hill cell was born with an ant and no turn changes a hill (the task's geography and biology). The call does nothing:
+/// its clause is the law.
 pub fn games_keep_their_hills()
     ensures { GamesKeepTheirHills }
 {}

@@ -1,14 +1,18 @@
 //! Games of the ant world, and the text of a run.
 //!
-//! The task's game play: rounds are played one after another, each one turn of each id in rising order, with one stream
-//! of random numbers from place 0. A `Game` is played round by round by any crew, in windows of turns: it stands where
-//! the turns lead one after another, and counts how many of them were taken from looks, which depends on the turns and
-//! on the size of a window alone. `play` pushes the text of a run with its counts, by any crew. A `GameAlone` is
-//! just played, turn after turn, in memory that doesn't grow with the rounds, by the one loop of `watch_rounds`, which
-//! plays a game before a `Watch`: `play_alone` pushes the text without counts so, and `play_score` gives a game's score
-//! alone. The laws say what the text is made of, which rounds a list adds to it, what the counts add up to, and that a
-//! game may be broken off and gone on with. What names no section of the contest's task is this project's own. This
-//! crate stands on `round_book`, `ant_turn` and `dump_print`.
+//! The task's game play: rounds are played one after another. Each is one turn of each id in rising order, with one
+//! stream of random numbers from place 0.
+//!
+//! - A `Game` is played round by round by any crew, in windows of turns. It is always where its turns lead one after
+//!   another. It counts how many turns were taken from looks, which depends on the turns and on the size of a window
+//!   alone. `play` pushes the text of a run with its counts, by any crew.
+//! - A `GameAlone` is played turn after turn, in memory that doesn't grow with the rounds, by the one loop of
+//!   `watch_rounds`, which shows a game to a `Watch`. `play_alone` pushes the text without counts in this way, and
+//!   `play_score` returns a game's score alone.
+//!
+//! The laws say which parts the text has, which rounds a list adds to it, what the counts add up to, and that a game
+//! can be interrupted and resumed. What names no section of the contest's task is this project's own. This crate
+//! depends on `round_book`, `ant_turn` and `dump_print`.
 #![tactic(auto)]
 
 mod alone;

@@ -4,7 +4,7 @@ use crate::dumps::Dumps;
 /// The most rounds that a game has (this project's own).
 pub const MOST_ROUNDS: u32 = 1_000_000;
 
-/// What a run is asked to do (seed and rounds are the task's game play).
+/// What a run has to do (seed and rounds are the task's game play).
 #[derive(Drop)]
 pub struct Plan {
     /// The seed of the random numbers, from 0 to 4,294,967,295.

@@ -25,16 +25,16 @@ pub trait Watch {
     /// Why it ends a game.
     type Stop;
 
-    /// A piece of what is told.
+    /// A piece of the report.
     ghost Told: { Type 0 };
 
-    /// What is told of the turn of an id in a round with this seed, from the moment before it.
+    /// What is reported of the turn of an id in a round with this seed, from the moment before it.
     ghost telling: { Self → Minds → ℕ → ℕ → Moment → ℕ → List Told };
 
-    /// One log became another by what was told; or the game was ended in it.
+    /// How the pieces of a report turn one log into another; or the game was ended in them.
     ghost logs: { Self → Self.Log → Self.Log → List Told → Result (Unit {0}) Self.Stop → Type 0 };
 
-    /// A log has room for what is told of so many turns.
+    /// A log has room for what is reported of this number of turns.
     ghost ready: { Self → Minds → Self.Log → ℕ → Type 0 } = { λ _ _ _ _. ⊤ };
 
     /// Takes the turn of this ant, which is alive and doesn't rest, and tells of it.

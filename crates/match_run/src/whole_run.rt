@@ -28,16 +28,19 @@ use hex_geometry::OutOfMemory;
 use round_book::{Crew, Field};
 use std::alloc::Global;
 
-/// Plays a run by a crew, window by window, and pushes its text: the line of the seed, the dump after each round that the plan chooses, from
-/// round 0, the start, to the last in order, the score, and, where the plan asks for them, the counts (the task's game play).
+/// Plays a run by a crew, window by window, and pushes its text: the line of the seed, the dump after each round that
+/// the plan selects, in order from round 0, which is the start, the score, and, if the plan requests them, the counts
+/// (the task's game play).
 ///
-/// Each ant's state is below the length of its colour's brain, as in every opening world; the plan has at most 1,000,000 rounds, and at least
-/// one turn a window. The turns are those of the ids in rising order, from 0, round after round, with the random numbers of the seed from
-/// place 0 on. Gives the score after the last round: the food on each colour's hill; the crew's count of turns has risen by that of the ids
-/// times the rounds then, or stands at its last value.
+/// Each ant's state is below the length of its colour's brain, as in every opening world; the plan has at most
+/// 1,000,000 rounds, and at least one turn per window. The turns are those of the ids in rising order, from 0, round
+/// after round, with the random numbers of the seed from place 0 on. It returns the score after the last round: the
+/// food on each colour's hill. Then the crew's count of turns has risen by the number of ids times the rounds, or is
+/// the largest value.
 ///
-/// It is refused where the sink failed, whose count of faults rose then: a prefix of the text was pushed. Or it is out of memory: a proper
-/// prefix of it was. The crew's count has risen by no more than that of a whole run then.
+/// It fails if the sink failed and its count of faults rose; then a prefix of the text was pushed. Or it fails because
+/// memory ran out; then a proper prefix was pushed. In both cases the crew's count has risen by at most that of a whole
+/// run.
 pub fn play<C: Crew, K: Sink>(
     alloc: Global,
     crew: &mut C,
@@ -93,16 +96,19 @@ fn game_of<'b>(
     Ok(Game::begin(field, plan.window))
 }
 
-/// Plays a game on that is at the end of a round, until so many rounds are done in all, and pushes the rest of its text: the dump after each
-/// later round that is chosen, in order, the score, and, where they are asked for, the counts of all rounds (the task's game play).
+/// Plays on a game that is at the end of a round, until this number of rounds is done in all, and pushes the rest of
+/// its text: the dump after each later round that is selected, in order, the score, and, if requested, the counts of
+/// all rounds (the task's game play).
 ///
-/// The rounds are at most 1,000,000, and at least those that are done. Gives the score at the end. The game stands there then, and the crew's
-/// count of turns has risen by that of the ids times the later rounds, or stands at its last value.
+/// The rounds are at most 1,000,000, and at least those that are done. It returns the score at the end. Then the game
+/// is at that round, and the crew's count of turns has risen by the number of ids times the later rounds, or is the
+/// largest value.
 ///
-/// It is refused where the sink failed, whose count of faults rose then, and a prefix of the text was pushed; or it is out of memory,
-/// and a proper prefix was. Where the sink failed at a dump, the game stands at the end of that round; where at the score or the counts, at
-/// the end of the last one. Out of memory, it stands at the window that was refused, exactly the dumps of the rounds before were pushed,
-/// and it can be gone on with. The crew has counted the turns that the game has, also after a refusal.
+/// It fails if the sink failed and its count of faults rose; then a prefix of the text was pushed. Or it fails because
+/// memory ran out; then a proper prefix was pushed. If the sink failed at a dump, the game is at the end of that round;
+/// if at the score or the counts, at the end of the last round. If memory ran out, the game is at the window that was
+/// refused, exactly the dumps of the rounds before were pushed, and the game can be resumed. The crew has counted the
+/// turns that the game has, even after a failure.
 pub fn play_on<C: Crew, K: Sink>(
     alloc: Global,
     crew: &mut C,

@@ -1,4 +1,5 @@
--- Each law of saves, used on the save of a game of one ant that turns left: a law that says less, or that asks for more, doesn't give these.
+-- Each law of saves, used on the save of a game of one ant that turns left: a law that says less, or that asks for
+-- more, doesn't give these.
 use Rattle.std.proofs.Common.{◌≡◌, inl, inr, ℕ, ◌≤◌, Bool, true, false, [], length, refl, sym, ◌∙◌, subst, arith}
 use Rattle.ant_base.specs.Layout.{◌+++◌}
 use Rattle.ant_turn.specs.Minds.{Minds, contest_minds}
@@ -59,7 +60,8 @@ games_are_advanced_used law = (
   λ w is. sym (law.of_game saved w 3 is (let early : 1 ≤ 3 = omega arith in early)) ∙ row_advanced,
 )
 
--- by way of round 2 the ant has turned twice as well; at its own round the save is as it was; and what it is advanced to is a save
+-- by way of round 2 the ant has turned twice as well; at its own round the save is as it was; and what it is advanced
+-- to is a save
 saves_are_advanced_used : SavesAreAdvanced → IsSaved saved → (advanced (advanced saved 2) 3 ≡ turned_twice) × (advanced saved 1 ≡ saved) × IsSaved turned_twice
 saves_are_advanced_used law is = (
   law.by_steps saved 2 3 is (let early : 1 ≤ 2 = omega arith in early) (let later : 2 ≤ 3 = omega arith in later) ∙ row_advanced,
@@ -67,7 +69,8 @@ saves_are_advanced_used law is = (
   subst IsSaved row_advanced (law.saved saved 3 is (let early : 1 ≤ 3 = omega arith in early) (let few : 3 ≤ 1000000 = omega arith in few)),
 )
 
--- what is resumed of the save is the dumps up to round 3, and then what is resumed of the one that turned twice; both are of one game
+-- what is resumed of the save is the dumps up to round 3, and then what is resumed of the one that turned twice; both
+-- are of one game
 advanced_saves_go_on_used : AdvancedSavesGoOn → IsSaved saved →
     (resumed_text saved 5 all_rounds true ≡ later_dumps turners 12345 all_rounds (moment_of saved) 1 2 +++ resumed_text turned_twice 5 all_rounds true)
     × ((w : World) → IsOfGame saved w → IsOfGame turned_twice w)

@@ -1,4 +1,5 @@
--- A game that was played up to a round is saved as the rules' game, and one that went on from a save as that save, advanced.
+-- A game that was played up to a round is saved as the rules' game, and one that went on from a save as that save,
+-- advanced.
 use Rattle.std.proofs.Common.{◌≡◌, ℕ, ◌+◌, ◌-◌, ◌≤◌, List, sym, ◌∙◌, ap, subst, arith}
 use Rattle.ant_turn.specs.HillLaws.{hill_cells}
 use Rattle.ant_turn.specs.Minds.{AreSound, Minds}

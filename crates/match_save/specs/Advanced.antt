@@ -11,8 +11,8 @@ use Rattle.match_save.specs.Resumed.{IsOfGame, later_moment, later_world, moment
 use Rattle.match_save.specs.Saved.{IsSaved, SavedValue}
 use Rattle.match_save.specs.Saves.{Starts, grid_at, saved_after}
 
--- a save once so many rounds of its game are done in all: its place and its world are those after the later rounds, and their turns are counted
--- beside the earlier ones; its seed, its window and its brains stay as they are
+-- a save once so many rounds of its game are done in all: its place and its world are those after the later rounds, and
+-- their turns are counted beside the earlier ones; its seed, its window and its brains stay as they are
 unfoldable pub advanced : SavedValue → ℕ → SavedValue
 advanced s rounds = record s {
   round = rounds;
@@ -25,18 +25,21 @@ advanced s rounds = record s {
 pub record GamesAreAdvanced : Type 0 where
   pub game : (minds : Minds) (seed window m n : ℕ) (grid : Grid) → Starts minds seed window n grid → m ≤ n
       → advanced (saved_after minds seed window (world_of grid) m) n ≡ saved_after minds seed window (world_of grid) n
-  pub of_game : (s : SavedValue) (w : World) (n : ℕ) → IsOfGame s w → s.round ≤ n → advanced s n ≡ saved_after s.minds s.seed s.window w n
+  pub of_game : (s : SavedValue) (w : World) (n : ℕ) → IsOfGame s w → s.round ≤ n
+      → advanced s n ≡ saved_after s.minds s.seed s.window w n
 
--- advanced, a save is one, whether or not a game made it: at its own round it is as it was, and by two steps it is what it is by one
+-- advanced, a save is one, whether or not a game made it: at its own round it is as it was, and by two steps it is what
+-- it is by one
 pub record SavesAreAdvanced : Type 0 where
   pub saved : (s : SavedValue) (n : ℕ) → IsSaved s → s.round ≤ n → n ≤ most_rounds → IsSaved (advanced s n)
   pub at_once : (s : SavedValue) → IsSaved s → advanced s s.round ≡ s
   pub by_steps : (s : SavedValue) (n m : ℕ) → IsSaved s → s.round ≤ n → n ≤ m → advanced (advanced s n) m ≡ advanced s m
 
--- what is resumed of a save is the chosen dumps up to a later round, and then what is resumed of it advanced to this round; and where it stands
--- where a game led, it does so then
+-- what is resumed of a save is the chosen dumps up to a later round, and then what is resumed of it advanced to this
+-- round; and where it stands where a game led, it does so then
 pub record AdvancedSavesGoOn : Type 0 where
   pub text : (s : SavedValue) (n rounds : ℕ) (chosen : ℕ → Bool) (stats : Bool) → IsSaved s → s.round ≤ n → n ≤ rounds →
       resumed_text s rounds chosen stats
-      ≡ later_dumps s.minds s.seed chosen (moment_of s) s.round (n - s.round) +++ resumed_text (advanced s n) rounds chosen stats
+      ≡ later_dumps s.minds s.seed chosen (moment_of s) s.round (n - s.round)
+      +++ resumed_text (advanced s n) rounds chosen stats
   pub game : (s : SavedValue) (w : World) (n : ℕ) → IsSaved s → IsOfGame s w → s.round ≤ n → IsOfGame (advanced s n) w

@@ -5,7 +5,8 @@ use Rattle.match_save.specs.declared.fault.SaveFault.TheVariants.{BadLine, BadSt
 use Rattle.match_save.specs.Saved.{IsNoState}
 use Rattle.match_save.specs.Verdict.{IsBadLine}
 
--- the fault of a text: its first bad line, or that no line is bad and they describe no state of a game; memory is no fault of a text
+-- the fault of a text: its first bad line, or that no line is bad and they describe no state of a game; memory is no
+-- fault of a text
 abbrev pub IsSaveFault : List ℕ → SaveFault → Type 0
 IsSaveFault text (BadLine line) = IsBadLine text line
 IsSaveFault text BadState = IsNoState text

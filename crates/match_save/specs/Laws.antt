@@ -8,5 +8,6 @@ use Rattle.match_save.specs.Saved.{IsSaveText, SavedValue}
 pub record EveryTextHasOneVerdict : Type 0 where
   pub some : (text : List ℕ) → ((s : SavedValue) × IsSaveText text s) ⊎ ((fault : SaveFault) × IsSaveFault text fault)
   pub one_save : (text : List ℕ) (s other : SavedValue) → IsSaveText text s → IsSaveText text other → s ≡ other
-  pub one_fault : (text : List ℕ) (fault other : SaveFault) → IsSaveFault text fault → IsSaveFault text other → fault ≡ other
+  pub one_fault : (text : List ℕ) (fault other : SaveFault) → IsSaveFault text fault → IsSaveFault text other
+      → fault ≡ other
   pub never_both : (text : List ℕ) (s : SavedValue) (fault : SaveFault) → IsSaveText text s → IsSaveFault text fault → ⊥

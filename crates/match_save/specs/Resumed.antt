@@ -26,19 +26,22 @@ later_moment s rounds = after_rounds s.minds s.seed (moment_of s) rounds
 abbrev pub later_world : SavedValue → ℕ → World
 later_world s rounds = (later_moment s rounds).world
 
--- the text of its rest up to so many rounds in all: the dumps of the later rounds that are chosen, the score of the end, and the counts of all
--- rounds where they are asked for
+-- the text of its rest up to so many rounds in all: the dumps of the later rounds that are chosen, the score of the
+-- end, and the counts of all rounds where they are asked for
 unfoldable pub resumed_text : SavedValue → ℕ → (ℕ → Bool) → Bool → List ℕ
-resumed_text s rounds chosen stats = later_text s.minds s.seed s.window (moment_of s) s.round s.totals rounds chosen stats
+resumed_text s rounds chosen stats =
+    later_text s.minds s.seed s.window (moment_of s) s.round s.totals rounds chosen stats
 
 -- a save stands where so many rounds of a game that starts in w led, and counts their turns
 pub record IsOfGame (s : SavedValue) (w : World) : Type 0 where
   pub moment : moment_of s ≡ after_rounds s.minds s.seed (start_of w) s.round
   pub totals : s.totals ≡ totals_of s.minds s.seed s.window (start_of w) s.round
 
--- the text of a run that is never broken off is the line of the seed, the chosen dumps up to the saved round, and the rest of the save's
+-- the text of a run that is never broken off is the line of the seed, the chosen dumps up to the saved round, and the
+-- rest of the save's
 abbrev pub SavesGoOn : Type 0
-SavesGoOn = (s : SavedValue) (w : World) (rounds : ℕ) (chosen : ℕ → Bool) (stats : Bool) → IsOfGame s w → s.round ≤ rounds →
+SavesGoOn =
+    (s : SavedValue) (w : World) (rounds : ℕ) (chosen : ℕ → Bool) (stats : Bool) → IsOfGame s w → s.round ≤ rounds →
     whole_text s.minds s.seed rounds chosen s.window stats w
     ≡ seed_text s.seed +++ dumps_text s.minds s.seed chosen w (s.round + 1) +++ resumed_text s rounds chosen stats
 

@@ -18,8 +18,8 @@ use Rattle.match_save.specs.State.{IsState, grid_of_draft, turns_of}
 use Rattle.match_save.specs.Text.{draft_text}
 use Rattle.match_save.specs.Verdict.{IsDraftText}
 
--- what a contract sees of a save: the seed, how many turns a window has, how many rounds are done, the place in the stream, what came of the
--- turns, both brains with their sheet, and the world
+-- what a contract sees of a save: the seed, how many turns a window has, how many rounds are done, the place in the
+-- stream, what came of the turns, both brains with their sheet, and the world
 pub record SavedValue : Type 0 where
   pub seed : ℕ
   pub window : ℕ
@@ -113,7 +113,11 @@ saved_of d = record {
   round = d.head.round;
   place = d.head.place;
   totals = record { turns = turns_of d; taken = d.head.taken; redone = d.head.redone };
-  minds = record { red = d.red; black = d.black; sheet = record { surround = d.head.surround; corpse = d.head.corpse; rest = d.head.rest } };
+  minds = record {
+    red = d.red;
+    black = d.black;
+    sheet = record { surround = d.head.surround; corpse = d.head.corpse; rest = d.head.rest };
+  };
   world = grid_of_draft d;
 }
 

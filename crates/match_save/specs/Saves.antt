@@ -17,15 +17,16 @@ use Rattle.match_run.specs.Game.{GameValue}
 use Rattle.match_save.specs.Resumed.{IsOfGame}
 use Rattle.match_save.specs.Saved.{IsSaved, SavedValue, save_text}
 
--- a game can be saved: it stands at the end of a round, it began at place 0, a window has at most 16,384 turns, and its world has as many ids as
--- hill cells
+-- a game can be saved: it stands at the end of a round, it began at place 0, a window has at most 16,384 turns, and its
+-- world has as many ids as hill cells
 pub record CanBeSaved (game : GameValue) : Type 0 where
   pub at_end : game.next ≡ 0
   pub from_start : game.first_place ≡ 0
   pub window : game.window ≤ 16384
   pub hills : hill_cells game.field.world.cells ≡ game.field.world.ids
 
--- the save of a game: its seed, its window, the rounds that are done, its place, what came of its turns, its brains and its world
+-- the save of a game: its seed, its window, the rounds that are done, its place, what came of its turns, its brains and
+-- its world
 abbrev pub save_of : GameValue → SavedValue
 save_of game = record {
   seed = game.field.seed;
@@ -77,7 +78,8 @@ pub record Starts (minds : Minds) (seed window rounds : ℕ) (grid : Grid) : Typ
 -- the save of such a game is one, of this game
 abbrev pub GamesAreSaved : Type 0
 GamesAreSaved = (minds : Minds) (seed window rounds : ℕ) (grid : Grid) → Starts minds seed window rounds grid
-    → IsSaved (saved_after minds seed window (world_of grid) rounds) × IsOfGame (saved_after minds seed window (world_of grid) rounds) (world_of grid)
+    → IsSaved (saved_after minds seed window (world_of grid) rounds)
+    × IsOfGame (saved_after minds seed window (world_of grid) rounds) (world_of grid)
 
 -- the text of every save has at most as many bytes as a file may have
 abbrev pub SavesAreShort : Type 0

@@ -42,7 +42,14 @@ hill_count (soil ∷ soils) = one_if (is_hill soil) + hill_count soils
 
 -- a cell of this ground, with these marks and this food, without an ant
 abbrev pub ground_cell : Soil → ℕ → ℕ → ℕ → Cell
-ground_cell soil red black food = record { rocky = is_rocky soil; hill = hill_of soil; food = food; red = record { set = red }; black = record { set = black }; ant = None }
+ground_cell soil red black food = record {
+  rocky = is_rocky soil;
+  hill = hill_of soil;
+  food = food;
+  red = record { set = red };
+  black = record { set = black };
+  ant = None;
+}
 
 -- the cells of these grounds, marks and foods, without ants
 abbrev pub ground_cells : List Soil → List ℕ → List ℕ → List ℕ → List Cell
@@ -50,11 +57,14 @@ ground_cells [] reds blacks foods = []
 ground_cells (soil ∷ soils) [] blacks foods = []
 ground_cells (soil ∷ soils) (red ∷ reds) [] foods = []
 ground_cells (soil ∷ soils) (red ∷ reds) (black ∷ blacks) [] = []
-ground_cells (soil ∷ soils) (red ∷ reds) (black ∷ blacks) (food ∷ foods) = ground_cell soil red black food ∷ ground_cells soils reds blacks foods
+ground_cells (soil ∷ soils) (red ∷ reds) (black ∷ blacks) (food ∷ foods) =
+    ground_cell soil red black food ∷ ground_cells soils reds blacks foods
 
 -- the cells, with this ant at its place
 abbrev pub with_ant : ℕ → PlacedAnt → List Cell → List Cell
-with_ant width it cells = slice_set cells (index_of width it.place) (record (slice_index_or cells (index_of width it.place) rock) { ant = Some it.ant })
+with_ant width it cells =
+    slice_set cells (index_of width it.place)
+    (record (slice_index_or cells (index_of width it.place) rock) { ant = Some it.ant })
 
 -- the cells, with these ants at their places
 abbrev pub with_ants : ℕ → List PlacedAnt → List Cell → List Cell
@@ -91,7 +101,10 @@ StandApart (it ∷ ants) = StandsAlone it ants × StandApart ants
 -- what the lines of a save describe is a state of a game
 pub record IsState (d : Draft) : Type 0 where
   pub world : IsWorld (grid_of_draft d)
-  pub clear : AllByRecursion (λ (it : PlacedAnt). (slice_index_or (ground_cells d.soils d.red_marks d.black_marks d.foods) (index_of d.head.width it.place) rock).rocky ≡ false) d.ants
+  pub clear :
+      AllByRecursion
+      (λ (it : PlacedAnt). (slice_index_or (ground_cells d.soils d.red_marks d.black_marks d.foods)
+      (index_of d.head.width it.place) rock).rocky ≡ false) d.ants
   pub apart : StandApart d.ants
   pub red : StatesBelow (length d.red) d.red
   pub black : StatesBelow (length d.black) d.black

@@ -66,12 +66,14 @@ food_tokens width i food = codes "food" ∷ decimal (i % width) ∷ decimal (i /
 -- the lines of those amounts that have no byte of their own, of which the first is at number i in row order
 abbrev pub food_lines : ℕ → ℕ → List ℕ → List (List ℕ)
 food_lines width i [] = []
-food_lines width i (food ∷ foods) = (if nat_le food 62 then [] else spaced (food_tokens width i food) ∷ []) ++ food_lines width (i + 1) foods
+food_lines width i (food ∷ foods) =
+    (if nat_le food 62 then [] else spaced (food_tokens width i food) ∷ []) ++ food_lines width (i + 1) foods
 
 -- the line of an ant
 abbrev pub ant_tokens : PlacedAnt → List (List ℕ)
 ant_tokens it =
-    codes "ant" ∷ decimal it.ant.id ∷ colour_text it.ant.colour ∷ decimal it.place.x ∷ decimal it.place.y ∷ decimal (number_of it.ant.facing)
+    codes "ant" ∷ decimal it.ant.id ∷ colour_text it.ant.colour ∷ decimal it.place.x ∷ decimal it.place.y
+    ∷ decimal (number_of it.ant.facing)
     ∷ decimal (one_if it.ant.laden) ∷ decimal it.ant.state ∷ decimal it.ant.resting ∷ []
 
 -- the lines of the ants, and the last

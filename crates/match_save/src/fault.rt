@@ -48,8 +48,8 @@ impl fmt::Display for SaveFault {
 
 impl Error for SaveFault {}
 
-/// Of a save more rounds are done than are to be played in all: so many (this project's own). It is no fault of the text, so whoever asks for the
-/// rounds compares them with `Saved::round`.
+/// The save has more rounds done than are to be played in all: this number (this project's own). It is no fault of the
+/// text, so the caller that sets the rounds compares them with `Saved::round`.
 #[derive(Clone, Copy, Debug, PartialEq, Eq)]
 pub struct AlreadyAt(pub u32);
 

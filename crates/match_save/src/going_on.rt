@@ -18,17 +18,20 @@ use match_run::{Dumps, Game, GameAlone, PlayFault, play_on, play_on_alone};
 use round_book::{Crew, Field, lemma_valid};
 use std::alloc::Global;
 
-/// Goes on with a saved game by any crew until so many rounds are done in all, and pushes the rest of its text: the dump after each later round
-/// that is chosen, in order, the score, and, where they are asked for, the counts of all rounds (this project's own). What was pushed before the
-/// save and this rest are together the text of the run that was never broken off: the law `saves_go_on`.
+/// Goes on with a saved game by any crew until this number of rounds is done in all, and pushes the rest of its text:
+/// the dump after each later round that is selected, in order, the score, and, if requested, the counts of all rounds
+/// (this project's own). What was pushed before the save and this rest are together the text of the run that was never
+/// interrupted: the law `saves_go_on`.
 ///
-/// The rounds are at most 1,000,000, and at least those that are done. Gives the score at the end; the crew's count of turns has risen by that of
-/// the ids times the later rounds then, or stands at its last value. It is refused where the sink failed, whose count of faults rose then, and a
-/// prefix of the text was pushed; or it is out of memory, and a proper prefix was; the crew's count has risen by no more than that of the later
-/// rounds then. The save stays as it is.
+/// The rounds are at most 1,000,000, and at least those that are done. It returns the score at the end; then the crew's
+/// count of turns has risen by the number of ids times the later rounds, or is the largest value. It fails if the sink
+/// failed and its count of faults rose; then a prefix of the text was pushed. Or it fails because memory ran out; then
+/// a proper prefix was pushed. In both cases the crew's count has risen by at most that of the later rounds. The save
+/// stays unchanged.
 ///
-/// Given the save of `examples/one_ant.save`, which is at round 1, rounds 1 and no counts it pushes an empty line and `score: red 0 black 0`. Given
-/// rounds 2, all dumps and counts it pushes the dump after round 2, that score, and `turns 2 taken 2 redone 0`.
+/// Given the save of `examples/one_ant.save`, which is at round 1, rounds 1 and no counts it pushes an empty line and
+/// `score: red 0 black 0`. Given rounds 2, all dumps and counts it pushes the dump after round 2, that score, and
+/// `turns 2 taken 2 redone 0`.
 pub fn resume<C: Crew, K: Sink>(
     alloc: Global,
     crew: &mut C,
@@ -60,15 +63,17 @@ fn game_of<'s>(alloc: Global, saved: &'s Saved) -> Result<Game<'s>, OutOfMemory>
     Ok(Game::at_round(field, saved.window(), saved.round(), saved.totals()))
 }
 
-/// Goes on with a saved game by any crew until so many rounds are done in all, and gives the save of it there (this project's own). However many
-/// saves are made on the way, the last is the same: the laws `games_are_advanced` and `saves_are_advanced`.
+/// Goes on with a saved game by any crew until this number of rounds is done in all, and returns the save of it there
+/// (this project's own). However many saves are made on the way, the last is the same: the laws `games_are_advanced`
+/// and `saves_are_advanced`.
 ///
-/// The rounds are at most 1,000,000, and at least those that are done. The seed, the window and both brains are those of the save, whatever game made
-/// it. The crew's count of turns has risen by that of the ids times the later rounds then, or stands at its last value. It is refused only when out
-/// of memory; the crew's count has risen by no more than that then. The save stays as it is.
+/// The rounds are at most 1,000,000, and at least those that are done. The seed, the window and both brains are those
+/// of the save, whatever game made it. Then the crew's count of turns has risen by the number of ids times the later
+/// rounds, or is the largest value. It fails only if memory runs out; the crew's count has then risen by at most that.
+/// The save stays unchanged.
 ///
-/// Given the save of `examples/one_ant.save`, which is at round 1, and rounds 3 it gives one at round 3, with `taken 3 redone 0`, whose ant faces
-/// direction 3.
+/// Given the save of `examples/one_ant.save`, which is at round 1, and rounds 3 it returns one at round 3, with `taken
+/// 3 redone 0`, whose ant faces direction 3.
 pub fn advance<C: Crew>(
     alloc: Global,
     crew: &mut C,
@@ -113,11 +118,12 @@ fn play_rounds<C: Crew>(
     Ok(())
 }
 
-/// Goes on with a saved game, as `resume` does where no counts are asked for: it is just played, turn after turn, without looks (this project's
-/// own). Its text is the same, and takes no more memory than a copy of the saved world.
+/// Goes on with a saved game, as `resume` does if no counts are requested: it is played turn after turn, without looks
+/// (this project's own). Its text is the same, and it takes no more memory than a copy of the saved world.
 ///
-/// The rounds are at most 1,000,000, and at least those that are done. Gives the score at the end. It is refused where the sink failed, whose count
-/// of faults rose then, and a prefix of the text was pushed; or it is out of memory, and nothing was. The save stays as it is.
+/// The rounds are at most 1,000,000, and at least those that are done. It returns the score at the end. It fails if the
+/// sink failed and its count of faults rose; then a prefix of the text was pushed. Or it fails because memory ran out;
+/// then nothing was pushed. The save stays unchanged.
 pub fn resume_alone<K: Sink>(
     alloc: Global,
     saved: &Saved,

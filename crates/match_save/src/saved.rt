@@ -11,11 +11,13 @@ use cell_world::World;
 use dump_print::Totals;
 use std::marker::Model;
 
-/// A save (this project's own): a game at the end of a round, which began at place 0 of its stream, with all that it takes to go on: its seed, its
-/// window, the round, the place, what came of the turns, both brains with their sheet, and the world.
+/// A save (this project's own): a game at the end of a round, which began at place 0 of its stream, with all that it
+/// takes to go on: its seed, its window, the round, the place, what came of the turns, both brains with their sheet,
+/// and the world.
 ///
-/// At most 1,000,000 rounds are done; a window has from 1 to 16,384 turns; the world has as many ids as hill cells; every ant fits its brain; no
-/// more random numbers were drawn than there were turns, and these are the ids times the rounds.
+/// At most 1,000,000 rounds are done; a window has from 1 to 16,384 turns; the world has as many ids as hill cells;
+/// every ant fits its brain; no more random numbers were drawn than there were turns, and these are the ids times the
+/// rounds.
 #[derive(Drop)]
 pub struct Saved {
     seed: u32,

@@ -17,9 +17,9 @@ use hex_geometry::OutOfMemory;
 use match_run::Game;
 use std::alloc::Global;
 
-/// The save of a game, which goes on where the game stands (this project's own). The game stands at the end of a round, it began at place 0, its
-/// window has at most 16,384 turns, and its world has as many ids as hill cells, as every world has with which a game begins. The game stays as it
-/// is. It is refused only when out of memory.
+/// The save of a game at its current round (this project's own). The game is at the end of a round, it began at place
+/// 0, its window has at most 16,384 turns, and its world has one hill cell per id, as every opening world has. The game
+/// stays unchanged. It fails only if memory runs out.
 pub fn save_of(alloc: Global, game: &Game<'_>) -> Result<Saved, OutOfMemory>
     requires { CanBeSaved game.now }
     ensures { IfOk result (λ saved. saved ≡ save_of game.now) }

@@ -21,8 +21,8 @@ use hex_geometry::{Pos, pos_at};
 // How many markers a colour has.
 const MARKERS: u8 = 6;
 
-/// Pushes the text of a save, which is read as this save again (this project's own). At `Failed` a prefix of it was appended, and the sink's count of
-/// faults rose. It takes no memory.
+/// Pushes the text of a save, which is read as this save again (this project's own). At `Failed` a prefix of it was
+/// appended, and the sink's count of faults rose. It takes no memory.
 pub fn write_saved<K: Sink>(saved: &Saved, sink: &mut K) -> Result<(), Failed>
     ensures pushed { Pushed (K.state sink.old) (K.state sink.new) (save_text saved.now) result }
 {

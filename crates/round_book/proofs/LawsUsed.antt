@@ -77,7 +77,8 @@ book-stands = record {
   stands = record { seed = refl; from = refl; to = refl; now = refl; verdicts = refl; unwritten = λ p _. refl };
 }
 
--- its first turn may be settled, and then the book stands where that turn leads: the look was taken, or the turn executed anew
+-- its first turn may be settled, and then the book stands where that turn leads: the look was taken, or the turn
+-- executed anew
 pub standing_books_settle_used : StandingBooksSettle →
     ((look_for all_seven 0).turn ≡ 0)
     × AllByRecursion (AgreesUnwritten book) (look_for all_seven 0).reads
@@ -133,7 +134,8 @@ single_turns_are_taken_used law =
 abbrev found_food : LookValue
 found_food = record { turn = 0; guess = 3; drew = true; reads = (at 1 1, only Food, record floor { food = 4 }) ∷ []; writes = []; killed = [] }
 
--- the test of it is true of those cells at that place alone; and of the turns of the window the killed ant's isn't taken
+-- the test of it is true of those cells at that place alone; and of the turns of the window the killed ant's isn't
+-- taken
 pub taken_where_it_holds_used : TakenWhereItHolds →
     ((cells : Cells) (place : ℕ) → look_holds found_food cells place ≡ true → (4 ≡ (cells (at 1 1)).food) × (place ≡ 3))
     × ((cells : Cells) (place : ℕ) → LookHolds found_food cells place → look_holds found_food cells place ≡ true)

@@ -83,7 +83,8 @@ draws-lawful window state hand = tt
 abbrev pub after : List Event → State
 after events = run all_seven (first_state all_seven) events
 
--- two hands draw a ticket each; the second puts the look of turn 1, then the first that of turn 0; both turns are settled
+-- two hands draw a ticket each; the second puts the look of turn 1, then the first that of turn 0; both turns are
+-- settled
 abbrev two_drawn : List Event
 two_drawn = Draws 0 ∷ Draws 1 ∷ []
 
@@ -151,8 +152,8 @@ holds-first : (found : Cause) → ¬ IsLawful all_seven (after two_put) (Settles
 unfolding patched look_for look_of guess_for turn reads writes merged stepped is_surrounded check_at killed_at places_around put_cell same_pos neighbours_of adjacent_pos directions guess flips opening cell_in rock floor place_in drawn random_at state_at
 holds-first found can = Redone-refutes all_seven (after two_put).now 0 found can.is_verdict (held all_seven (after two_put).now 0 refl)
 
--- the red ant of id 2 was killed by turn 1: its turn is executed anew, and so is that of the red ant of id 4, whose number was guessed to be
--- the second and is the first. The first hand puts the look of turn 4 before that of turn 3
+-- the red ant of id 2 was killed by turn 1: its turn is executed anew, and so is that of the red ant of id 4, whose
+-- number was guessed to be the second and is the first. The first hand puts the look of turn 4 before that of turn 3
 abbrev pub three_put : List Event
 three_put = two_settled ++ Draws 1 ∷ Draws 0 ∷ Draws 0 ∷ Puts 0 4 ∷ Puts 1 2 ∷ []
 
@@ -256,8 +257,8 @@ parts-first : ¬ IsVerdict all_seven killed_elsewhere 2 (Redone (cause.Place 0 1
 unfolding patched look_for look_of guess_for turn reads writes merged stepped is_surrounded check_at killed_at places_around put_cell same_pos neighbours_of adjacent_pos directions guess flips opening cell_in rock floor place_in drawn random_at state_at
 parts-first said = unlike Who (all_seven.base.cells (at 3 3)) (killed_elsewhere.world.cells (at 3 3)) refl (said.unchanged.0 Who refl)
 
--- a window of the one turn of id 4: ticket 0 is its first turn's, and the place rises where its look is taken. Whoever draws a ticket beyond
--- the window puts nothing
+-- a window of the one turn of id 4: ticket 0 is its first turn's, and the place rises where its look is taken. Whoever
+-- draws a ticket beyond the window puts nothing
 abbrev pub only_four : Window
 only_four = record all_seven { from = 4; to = 5 }
 

@@ -26,7 +26,8 @@ Contains-place [] i d early = absurd (omega arith)
 Contains-place (write ∷ writes) zero d early = Contains-first (seen_place write) (seen_positions writes)
 Contains-place (write ∷ writes) (suc i) d early = Contains-later (seen_place write) (seen_place (slice_index_or writes i d)) (seen_positions writes) (Contains-place writes i d (omega arith))
 
--- some of the writes are marked: all that was is still, nothing else but their positions is, and each of them is or is among those that are left
+-- some of the writes are marked: all that was is still, nothing else but their positions is, and each of them is or is
+-- among those that are left
 pub record Marking (start : List Pos) (all : List Sighting) (now : List Pos) (left : List Sighting) : Type 0 where
   pub old : (p : Pos) → Contains start p → Contains now p
   pub from : (p : Pos) → Contains now p → Contains start p ⊎ Contains (seen_positions all) p

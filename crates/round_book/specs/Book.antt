@@ -21,8 +21,8 @@ use Rattle.round_book.specs.declared.verdict.Verdict.{Verdict}
 use Rattle.round_book.specs.declared.verdict.Verdict.TheVariants.{Taken, Redone}
 use Rattle.round_book.specs.Window.{Window, AreVerdicts, IsPlayable, moment_before}
 
--- what a contract sees of a field: a game's world, brains, seed and place in the stream; whether it is whole; and where it is lent, between
--- which ends its window's turns are
+-- what a contract sees of a field: a game's world, brains, seed and place in the stream; whether it is whole; and where
+-- it is lent, between which ends its window's turns are
 pub record FieldValue : Type 0 where
   pub world : Grid
   pub minds : Minds
@@ -31,8 +31,8 @@ pub record FieldValue : Type 0 where
   pub whole : Bool
   pub lent : Option (ℕ × ℕ)
 
--- what a contract sees of a book: the window's seed and turns, the next turn, the world and the place that the turns before it left, the
--- positions that they wrote, and their verdicts in order
+-- what a contract sees of a book: the window's seed and turns, the next turn, the world and the place that the turns
+-- before it left, the positions that they wrote, and their verdicts in order
 pub record BookValue : Type 0 where
   pub seed : ℕ
   pub from : ℕ
@@ -49,14 +49,22 @@ field_moment field = record { world = world_of field.world; place = field.place 
 
 -- the window of turns that begins on a field
 abbrev pub window_of : FieldValue → ℕ → ℕ → Window
-window_of field from to = record { minds = field.minds; seed = field.seed; base = world_of field.world; place = field.place; from = from; to = to }
+window_of field from to = record {
+  minds = field.minds;
+  seed = field.seed;
+  base = world_of field.world;
+  place = field.place;
+  from = from;
+  to = to;
+}
 
 -- where the turns before the next one led
 abbrev pub moment_of : BookValue → Moment
 moment_of book = record { world = world_of book.world; place = book.place }
 
--- a book stands on a window: it has the window's seed and turns; world and place are those of the turns up to the next one, executed in
--- order; it has their verdicts, each once; and its world is the base at every position that wasn't written
+-- a book stands on a window: it has the window's seed and turns; world and place are those of the turns up to the next
+-- one, executed in order; it has their verdicts, each once; and its world is the base at every position that wasn't
+-- written
 pub record Stands (window : Window) (book : BookValue) : Type 0 where
   pub seed : book.seed ≡ window.seed
   pub from : book.from ≡ window.from
@@ -73,7 +81,16 @@ pub record StandsFor (window : Window) (book : BookValue) : Type 0 where
 
 -- the book with which a window of a field begins
 abbrev pub begun : FieldValue → ℕ → ℕ → BookValue
-begun field from to = record { seed = field.seed; from = from; to = to; next = from; world = field.world; place = field.place; written = []; verdicts = [] }
+begun field from to = record {
+  seed = field.seed;
+  from = from;
+  to = to;
+  next = from;
+  world = field.world;
+  place = field.place;
+  written = [];
+  verdicts = [];
+}
 
 -- a look holds in a book
 abbrev pub HoldsInBook : BookValue → LookValue → Type 0
@@ -89,7 +106,8 @@ pub record IsChanged (reads : List Sighting) (cells : Cells) (at : Pos) (k : Par
 
 -- all that the look read is as it was, and its random number is another
 pub record IsMoved (look : LookValue) (now : Moment) (guessed actual : ℕ) : Type 0 where
-  pub unchanged : AllByRecursion (λ read. Agree (seen_parts read) (seen_cell read) (now.world.cells (seen_place read))) look.reads
+  pub unchanged :
+      AllByRecursion (λ read. Agree (seen_parts read) (seen_cell read) (now.world.cells (seen_place read))) look.reads
   pub drew : look.drew ≡ true
   pub is_guess : guessed ≡ look.guess
   pub is_actual : actual ≡ now.place
@@ -102,7 +120,8 @@ IsCause look now (cause.Place guessed actual) = IsMoved look now guessed actual
 
 -- what was read at a position that wasn't written is there still
 abbrev pub AgreesIfUnwritten : List Pos → Cells → Sighting → Type 0
-AgreesIfUnwritten written cells read = ¬ Contains written (seen_place read) → Agree (seen_parts read) (seen_cell read) (cells (seen_place read))
+AgreesIfUnwritten written cells read =
+    ¬ Contains written (seen_place read) → Agree (seen_parts read) (seen_cell read) (cells (seen_place read))
 
 -- the same of what a book has written, and of its world
 abbrev pub AgreesUnwritten : BookValue → Sighting → Type 0
@@ -110,10 +129,12 @@ AgreesUnwritten book = AgreesIfUnwritten book.written (world_of book.world).cell
 
 -- a write can be patched into the cell of its position, which is inside
 abbrev pub CanPatchIn : World → Sighting → Type 0
-CanPatchIn w write = IsInside w.width w.height (seen_place write) × CanPatch (w.cells (seen_place write)) (seen_cell write) (seen_parts write)
+CanPatchIn w write =
+    IsInside w.width w.height (seen_place write)
+    × CanPatch (w.cells (seen_place write)) (seen_cell write) (seen_parts write)
 
--- writes may be set in a world: each can be patched at its position; and the patched cells may be set one after another, first those that
--- don't raise the weight of their cell, then the others
+-- writes may be set in a world: each can be patched at its position; and the patched cells may be set one after
+-- another, first those that don't raise the weight of their cell, then the others
 pub record CanTake (w : World) (writes : List Sighting) : Type 0 where
   pub each : AllByRecursion (CanPatchIn w) writes
   pub in_order : CanSetWrites w 9 writes
@@ -122,8 +143,8 @@ pub record CanTake (w : World) (writes : List Sighting) : Type 0 where
 abbrev pub Wrote : List Pos → List Pos → List Pos → Type 0
 Wrote written more new = (p : Pos) → Contains new p ↔ (Contains written p ⊎ Contains more p)
 
--- a turn that does what a look says is settled with a verdict: the named parts of the look's writes are set and their positions written, the
--- place rises by one if it drew, and the verdict is added last
+-- a turn that does what a look says is settled with a verdict: the named parts of the look's writes are set and their
+-- positions written, the place rises by one if it drew, and the verdict is added last
 pub record IsEnded (look : LookValue) (verdict : Verdict) (book new : BookValue) : Type 0 where
   pub now : moment_of new ≡ record {
     world = with_cells (world_of book.world) (patched_cells (world_of book.world).cells look.writes);

@@ -1,4 +1,5 @@
--- What holds of every book that stands: its next turn may be settled, and it is what the events of workers lead to (this project's own).
+-- What holds of every book that stands: its next turn may be settled, and it is what the events of workers lead to
+-- (this project's own).
 use Rattle.std.specs.Prelude.{◌≡◌, ℕ, ◌-◌, ◌<◌, ◌≤◌, List, Option, Some, None}
 use Rattle.std.specs.List.{AllByRecursion}
 use Rattle.cell_world.specs.Grid.{world_of}
@@ -23,18 +24,20 @@ pub record MaySettle (minds : Minds) (book : BookValue) (look : LookValue) : Typ
   pub writes : HoldsInBook book look → CanTake (world_of book.world) look.writes
   pub fit : Fits (world_of book.world) minds
 
--- a turn of a book was settled by a look: settling answered nothing, and the look was taken; or it answered why the look doesn't hold, and
--- the turn was executed anew for that cause, by these brains
+-- a turn of a book was settled by a look: settling answered nothing, and the look was taken; or it answered why the
+-- look doesn't hold, and the turn was executed anew for that cause, by these brains
 abbrev pub IsSettled : Minds → LookValue → Option Cause → BookValue → BookValue → Type 0
 IsSettled minds look None book new = IsTaken look book new
 IsSettled minds look (Some found) book new = IsCause look (moment_of book) found × IsRedone minds found book new
 
--- where a book stands for a window, and its next turn is one of the window's, the look at that turn may be settled; and once it is settled
--- the book stands for the window
+-- where a book stands for a window, and its next turn is one of the window's, the look at that turn may be settled; and
+-- once it is settled the book stands for the window
 pub record StandingBooksSettle : Type 0 where
-  pub may : (window : Window) (book : BookValue) → StandsFor window book → book.next < book.to → MaySettle window.minds book (next_look window book)
+  pub may : (window : Window) (book : BookValue) → StandsFor window book → book.next < book.to
+      → MaySettle window.minds book (next_look window book)
   pub stands : (window : Window) (answer : Option Cause) (book new : BookValue) →
-      StandsFor window book → book.next < book.to → IsSettled window.minds (next_look window book) answer book new → IsSameWindow book new → StandsFor window new
+      StandsFor window book → book.next < book.to → IsSettled window.minds (next_look window book) answer book new
+      → IsSameWindow book new → StandsFor window new
 
 -- a state of the workers on a window and a book of it have the same next turn, world, place and verdicts
 pub record IsAt (state : State) (book : BookValue) : Type 0 where
@@ -47,13 +50,15 @@ abbrev pub verdict_of : Option Cause → Verdict
 verdict_of None = Taken
 verdict_of (Some found) = Redone found
 
--- a book with which a window begins is at the first state; lawful events lead from there to every book that stands; and settling a book's
--- next turn, whose look was put, is one lawful event
+-- a book with which a window begins is at the first state; lawful events lead from there to every book that stands; and
+-- settling a book's next turn, whose look was put, is one lawful event
 pub record BooksAreReached : Type 0 where
   pub first : (field : FieldValue) (from to : ℕ) → IsAt (first_state (window_of field from to)) (begun field from to)
   pub reached : (window : Window) (book : BookValue) → StandsFor window book → book.next ≤ book.to →
       (events : List Event) × AreLawful window (first_state window) events
       × IsAt (run window (first_state window) events) book
   pub settled : (window : Window) (answer : Option Cause) (book new : BookValue) (state : State) →
-      StandsFor window book → book.next < book.to → IsSettled window.minds (next_look window book) answer book new → IsAt state book → IsPut state (book.next - book.from) →
-      IsLawful window state (Settles (verdict_of answer)) × IsAt (happens window state (Settles (verdict_of answer))) new
+      StandsFor window book → book.next < book.to → IsSettled window.minds (next_look window book) answer book new
+      → IsAt state book → IsPut state (book.next - book.from) →
+      IsLawful window state (Settles (verdict_of answer))
+      × IsAt (happens window state (Settles (verdict_of answer))) new

@@ -15,13 +15,19 @@ CountsAddUp = (window : Window) → (counts_of window).taken + (counts_of window
 
 -- in a window of one turn the look is taken
 abbrev pub SingleTurnsAreTaken : Type 0
-SingleTurnsAreTaken = (window : Window) → IsPlayable window → window.to ≡ window.from + 1 → counts_of window ≡ record { taken = 1; redone = 0 }
+SingleTurnsAreTaken =
+    (window : Window) → IsPlayable window → window.to ≡ window.from + 1
+    → counts_of window ≡ record { taken = 1; redone = 0 }
 
--- the test of a look is true exactly where the look holds, and a turn counts as taken exactly where its look holds when its turn comes
+-- the test of a look is true exactly where the look holds, and a turn counts as taken exactly where its look holds when
+-- its turn comes
 pub record TakenWhereItHolds : Type 0 where
-  pub look : (look : LookValue) (cells : Cells) (place : ℕ) → (look_holds look cells place ≡ true) ↔ LookHolds look cells place
+  pub look : (look : LookValue) (cells : Cells) (place : ℕ)
+      → (look_holds look cells place ≡ true) ↔ LookHolds look cells place
   pub turn : (window : Window) (t : ℕ) → (is_taken window t ≡ true) ↔ HoldsIn window (moment_before window t) t
 
 -- no turn may be said to be executed anew where its look holds
 abbrev pub CausesRefute : Type 0
-CausesRefute = (window : Window) (now : Moment) (t : ℕ) (found : Cause) → IsVerdict window now t (Redone found) → ¬ HoldsIn window now t
+CausesRefute =
+    (window : Window) (now : Moment) (t : ℕ) (found : Cause) → IsVerdict window now t (Redone found)
+    → ¬ HoldsIn window now t

@@ -26,7 +26,8 @@ abbrev pub same_identity : Ant → Ant → Bool
 same_identity a b = nat_eq a.id b.id && same_colour a.colour b.colour
 
 abbrev pub same_posture : Ant → Ant → Bool
-same_posture a b = nat_eq a.state b.state && (nat_eq a.resting b.resting && nat_eq (number_of a.facing) (number_of b.facing))
+same_posture a b =
+    nat_eq a.state b.state && (nat_eq a.resting b.resting && nat_eq (number_of a.facing) (number_of b.facing))
 
 abbrev pub same_load : Ant → Ant → Bool
 same_load a b = nat_eq (one_if a.laden) (one_if b.laden)
@@ -57,7 +58,8 @@ do_agree parts c d =
 -- whether all that was read is as it was
 abbrev pub is_unchanged : List Sighting → Cells → Bool
 is_unchanged [] cells = true
-is_unchanged (read ∷ reads) cells = do_agree (seen_parts read) (seen_cell read) (cells (seen_place read)) && is_unchanged reads cells
+is_unchanged (read ∷ reads) cells =
+    do_agree (seen_parts read) (seen_cell read) (cells (seen_place read)) && is_unchanged reads cells
 
 -- whether a look holds among cells at a place, as a test that computes
 abbrev pub look_holds : LookValue → Cells → ℕ → Bool
@@ -83,4 +85,7 @@ pub record Counted : Type 0 where
   pub redone : ℕ
 
 unfoldable pub counts_of : Window → Counted
-counts_of window = record { taken = taken_among window (window.to - window.from); redone = window.to - window.from - taken_among window (window.to - window.from) }
+counts_of window = record {
+  taken = taken_among window (window.to - window.from);
+  redone = window.to - window.from - taken_among window (window.to - window.from);
+}

@@ -1,4 +1,5 @@
--- Workers on one window, as events one after another (this project's own): tickets are drawn, looks are put, turns are settled in order.
+-- Workers on one window, as events one after another (this project's own): tickets are drawn, looks are put, turns are
+-- settled in order.
 use Rattle.std.specs.Prelude.{◌≡◌, ◌≢◌, ℕ, ◌+◌, ◌-◌, ◌<◌, ◌≤◌, ⊤, cond, nat_eq, List, [], ◌∷◌, ◌++◌}
 use Rattle.std.specs.List.{Contains}
 use Rattle.cell_world.specs.Cell.{one_if}
@@ -10,12 +11,14 @@ use Rattle.round_book.specs.declared.verdict.Verdict.{Verdict}
 use Rattle.round_book.specs.declared.verdict.Verdict.TheVariants.{Taken, Redone}
 use Rattle.round_book.specs.Window.{Window, AreVerdicts, IsVerdict, look_for, moment_before}
 
--- a turn's look that was put: by which hand, and the ticket of the turn, which is the turn's number in the window, from 0
+-- a turn's look that was put: by which hand, and the ticket of the turn, which is the turn's number in the window, from
+-- 0
 pub record Put : Type 0 where
   pub hand : ℕ
   pub ticket : ℕ
 
--- how many tickets were drawn, which of them each hand holds, which looks were put, and what came of the turns that were settled
+-- how many tickets were drawn, which of them each hand holds, which looks were put, and what came of the turns that
+-- were settled
 pub record State : Type 0 where
   pub drawn : ℕ
   pub hands : ℕ → List ℕ
@@ -68,7 +71,10 @@ dealt hands hand ticket other = cond (nat_eq other hand) (hands other ++ ticket 
 
 -- the moment in which a look's writes are patched, and its random number is used
 abbrev pub taken : Moment → LookValue → Moment
-taken now look = record { world = with_cells now.world (patched_cells now.world.cells look.writes); place = now.place + one_if look.drew }
+taken now look = record {
+  world = with_cells now.world (patched_cells now.world.cells look.writes);
+  place = now.place + one_if look.drew;
+}
 
 -- the moment after the turn is settled: with the parts that its look wrote; or executed anew
 abbrev pub settled : Window → Moment → ℕ → Verdict → Moment
@@ -93,7 +99,8 @@ run window state (event ∷ events) = run window (happens window state event) ev
 -- each event is lawful where it happens
 abbrev pub AreLawful : Window → State → List Event → Type 0
 AreLawful window state [] = ⊤
-AreLawful window state (event ∷ events) = IsLawful window state event × AreLawful window (happens window state event) events
+AreLawful window state (event ∷ events) =
+    IsLawful window state event × AreLawful window (happens window state event) events
 
 -- how often a number stands in a list
 abbrev pub times : ℕ → List ℕ → ℕ
@@ -102,11 +109,13 @@ times x (y ∷ ys) = one_if (nat_eq y x) + times x ys
 
 -- each ticket below c is in one hand, once, and no other ticket is in any
 pub record AreDealt (c : ℕ) (hands : ℕ → List ℕ) : Type 0 where
-  pub each : (x : ℕ) → x < c → (hand : ℕ) × (times x (hands hand) ≡ 1) × ((other : ℕ) → other ≢ hand → times x (hands other) ≡ 0)
+  pub each : (x : ℕ) → x < c
+      → (hand : ℕ) × (times x (hands hand) ≡ 1) × ((other : ℕ) → other ≢ hand → times x (hands other) ≡ 0)
   pub no_other : (x : ℕ) → c ≤ x → (hand : ℕ) → times x (hands hand) ≡ 0
 
--- what is true of every state that lawful events lead to, in whatever order they happen: the turns that were settled did what the turns from
--- `from` on do one after another; each has its verdict, in order; each ticket is in one hand; and who put a look drew its ticket
+-- what is true of every state that lawful events lead to, in whatever order they happen: the turns that were settled
+-- did what the turns from `from` on do one after another; each has its verdict, in order; each ticket is in one hand;
+-- and who put a look drew its ticket
 pub record IsReached (window : Window) (state : State) : Type 0 where
   pub from_first : window.from ≤ state.next
   pub to_last : state.next ≤ window.to

@@ -5,13 +5,15 @@ use Rattle.round_book.specs.Machine.{Event, AreLawful, IsLawful, IsPut, IsReache
 use Rattle.round_book.specs.Machine.Event.{Settles}
 use Rattle.round_book.specs.Window.{Window, IsSound}
 
--- whatever lawful events happen, in whatever order: the turns that were settled did what the turns of the window do one after another, each
--- has its verdict, in order; each ticket that was drawn is in one hand, once; and each look was put by the hand that drew its ticket
+-- whatever lawful events happen, in whatever order: the turns that were settled did what the turns of the window do one
+-- after another, each has its verdict, in order; each ticket that was drawn is in one hand, once; and each look was put
+-- by the hand that drew its ticket
 abbrev pub EveryInterleaving : Type 0
 EveryInterleaving = (window : Window) (events : List Event) → IsSound window →
     AreLawful window (first_state window) events → IsReached window (run window (first_state window) events)
 
--- once the look at the next turn is put, and the turn is one of the window, there is a verdict with which it may be settled, in every state
+-- once the look at the next turn is put, and the turn is one of the window, there is a verdict with which it may be
+-- settled, in every state
 abbrev pub PutTurnsSettle : Type 0
 PutTurnsSettle = (window : Window) (state : State) → state.next < window.to → IsPut state (state.next - window.from) →
     (verdict : Verdict) × IsLawful window state (Settles verdict)

@@ -17,8 +17,8 @@ use Rattle.round_book.specs.declared.verdict.Cause.TheVariants as cause
 use Rattle.round_book.specs.declared.verdict.Verdict.{Verdict}
 use Rattle.round_book.specs.declared.verdict.Verdict.TheVariants.{Taken, Redone}
 
--- a window: the brains and the seed of its game, the world and the place in the stream with which it begins (its base), and its turns:
--- those of the ids from `from` up to, and not including, `to`
+-- a window: the brains and the seed of its game, the world and the place in the stream with which it begins (its base),
+-- and its turns: those of the ids from `from` up to, and not including, `to`
 pub record Window : Type 0 where
   pub minds : Minds
   pub seed : ℕ
@@ -27,14 +27,16 @@ pub record Window : Type 0 where
   pub from : ℕ
   pub to : ℕ
 
--- a window whose turns are turns: its base is a world, its brains are brains and fit it, and it doesn't end before it begins
+-- a window whose turns are turns: its base is a world, its brains are brains and fit it, and it doesn't end before it
+-- begins
 pub record IsSound (window : Window) : Type 0 where
   pub valid : Valid window.base
   pub sound : AreSound window.minds
   pub fits : Fits window.base window.minds
   pub forwards : window.from ≤ window.to
 
--- a window that may be played: its brains are brains and fit its base, its turns are ids of it, and the stream lasts for them
+-- a window that may be played: its brains are brains and fit its base, its turns are ids of it, and the stream lasts
+-- for them
 pub record IsPlayable (window : Window) : Type 0 where
   pub valid : Valid window.base
   pub sound : AreSound window.minds
@@ -45,7 +47,9 @@ pub record IsPlayable (window : Window) : Type 0 where
 
 -- the world and the place after the turns from `from` up to, and not including, turn t, one after another
 unfoldable pub moment_before : Window → ℕ → Moment
-moment_before window t = after_turns window.minds window.seed (record { world = window.base; place = window.place }) window.from (t - window.from)
+moment_before window t =
+    after_turns window.minds window.seed (record { world = window.base; place = window.place }) window.from
+    (t - window.from)
 
 -- the guess for a turn of the window
 unfoldable pub guess_for : Window → ℕ → ℕ
@@ -79,8 +83,8 @@ pub record IsElsewhere (window : Window) (now : Moment) (t guessed actual : ℕ)
   pub is_actual : actual ≡ now.place
   pub differs : actual ≢ guessed
 
--- what may be said of turn t where the turns before it led to this moment: taken, where its look holds; else redone, with a part that it
--- reads and that differs, or, where none differs, with the guessed and the actual place
+-- what may be said of turn t where the turns before it led to this moment: taken, where its look holds; else redone,
+-- with a part that it reads and that differs, or, where none differs, with the guessed and the actual place
 abbrev pub IsVerdict : Window → Moment → ℕ → Verdict → Type 0
 IsVerdict window now t Taken = HoldsIn window now t
 IsVerdict window now t (Redone (cause.Part at k)) = IsOther window now.world t at k
@@ -91,4 +95,5 @@ abbrev pub AreVerdicts : Window → ℕ → List Verdict → Type 0
 AreVerdicts window zero verdicts = verdicts ≡ []
 AreVerdicts window (suc n) verdicts =
     let t = window.from + n in
-    (before : List Verdict) × (last : Verdict) × (verdicts ≡ before ++ last ∷ []) × AreVerdicts window n before × IsVerdict window (moment_before window t) t last
+    (before : List Verdict) × (last : Verdict) × (verdicts ≡ before ++ last ∷ []) × AreVerdicts window n before
+    × IsVerdict window (moment_before window t) t last

@@ -17,10 +17,11 @@ use std::alloc::Global;
 // The number of a worker that works alone.
 const ALONE: u32 = 0;
 
-/// Plays the turns of the ids from `from` up to, and not including, `to` on the caller's thread, which calls the gate as worker 0 before
-/// each look that it makes. The field is whole, `from` is at most `to`, `to` at most the number of ids, and the place with the number of
-/// turns is below 2^63. The field is whole afterwards, its world and place are those to which the turns lead in order, and the answer counts
-/// the looks that were taken and the turns that were executed anew. The one refusal is out of memory; the field is as before then.
+/// Plays the turns of the ids from `from` up to, and not including, `to` on the caller's thread, which calls the gate
+/// as worker 0 before each look that it makes. The field is whole, `from` is at most `to`, `to` is at most the number
+/// of ids, and the place plus the number of turns is below 2^63. Afterwards the field is whole, and its world and place
+/// are those to which the turns lead in order. The result counts the looks that were used and the turns that were
+/// executed again. It fails only if memory runs out; the field is then unchanged.
 pub fn play_window<G: Gate>(
     gate: &G,
     alloc: Global,
@@ -60,7 +61,8 @@ fn make_room(looks: &mut Vec<Look>, field: &Field<'_>, id: u32)
     looks.push_reserved(look(field.world(), field.brains(), field.seed(), place, id));
 }
 
-// Settles the turns of a window, of which there is one, by looks that are made one after another, in one room and off one stream.
+// Settles the turns of a window, of which there is one, by looks that are made one after another, in one room and off
+// one stream.
 fn settle_alone<G: Gate>(
     book: &mut Book,
     field: &Field<'_>,

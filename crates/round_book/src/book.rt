@@ -19,9 +19,9 @@ use cell_world::World;
 use spec_record::{Look, look};
 use std::marker::Model;
 
-/// A window of turns that is being settled, one after another. It has a world of its own, which is that after the turns so far, the place
-/// in the stream that they left, the positions that they wrote, and what came of the look at each. Only a field's `begin` makes one, and it
-/// has no copy.
+/// A window of turns that is being settled, one after another. It has a world of its own, which is that after the turns
+/// so far, the place in the stream that they left, the positions that they wrote, and what came of the look at each.
+/// Only a field's `begin` makes one, and it has no copy.
 #[derive(Drop)]
 pub struct Book {
     seed: u32,
@@ -122,14 +122,15 @@ impl Book {
         (self.work, self.place)
     }
 
-    /// Settles the next turn by a look at it, where the look holds: where the book's world agrees with each cell that the look read in the
-    /// parts that it read, and the book's place is the look's guess, if the turn draws a random number. The named parts of its writes are
-    /// set then, the place rises by one if it drew, and it is noted that the look was taken. Else the answer says why it doesn't hold, and
-    /// the book is as before. It takes no memory.
+    /// Settles the next turn by a look at it, if the look is valid. A look is valid if the book's world agrees with
+    /// each cell that the look read in the parts that it read, and, if the turn draws a random number, the book's place
+    /// is the look's guess. Then the named parts of its writes are set, the place rises by one if it drew, and the book
+    /// notes that the look was used. Otherwise the result says why the look isn't valid, and the book is unchanged. It
+    /// takes no memory.
     ///
-    /// The next turn is one of the window, and the look's. Where a read position wasn't written, the look's cell agrees with the book's
-    /// world. Where the look holds, its writes can be patched and set, first those that don't raise the weight of their cell, then the
-    /// others.
+    /// The next turn is one of the window, and the look is at that turn. At each read position that wasn't written, the
+    /// look's cell agrees with the book's world. If the look is valid, its writes can be patched and set: first those
+    /// that don't raise the weight of their cell, then the others.
     #[inline]
     pub fn settle(&mut self, look: Look) -> Option<Cause>
         requires in_window { self.old.next < self.old.to }
@@ -186,11 +187,11 @@ impl Book {
         None
     }
 
-    /// Executes the next turn, by these brains, on the book's world at its place, and notes for which cause: world and place become those
-    /// of the turn, and the positions that it writes are written. It takes no memory.
+    /// Executes the next turn, by these brains, on the book's world at its place, and notes the cause: world and place
+    /// become those of the turn, and the positions that it writes are noted as written. It takes no memory.
     ///
-    /// The next turn is one of the window, and the brains fit the book's world. A book in which a turn was executed anew although its look
-    /// holds, or for another cause than the look's, doesn't stand.
+    /// The next turn is one of the window, and the brains fit the book's world. A book in which a turn was executed
+    /// again although its look is valid, or for a cause that isn't the look's, doesn't stand.
     #[inline(never)]
     pub fn redo(&mut self, brains: Brains<'_>, cause: Cause)
         requires in_window { self.old.next < self.old.to }
@@ -220,8 +221,8 @@ impl Book {
     }
 }
 
-/// Gives nothing, and does nothing that can be seen: it is called for its clauses, that brains and a world are what their types promise.
-/// The program's own, for a caller whose proof needs it before a turn.
+/// Gives nothing, and does nothing that can be seen: it is called for its clauses, that brains and a world are what
+/// their types promise. The program's own, for a caller whose proof needs it before a turn.
 #[inline]
 pub fn lemma_valid(brains: Brains<'_>, world: &World)
     ensures sound { AreSound (minds_of brains.entry) }

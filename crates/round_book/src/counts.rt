@@ -7,8 +7,8 @@ use crate::book::Book;
 use crate::field::Field;
 use std::marker::Model;
 
-/// How many looks of a window were taken, and how many of its turns were executed anew. Only a field's `finish` makes one, and it has no
-/// copy.
+/// How many looks of a window were used, and how many of its turns were executed again. Only a field's `finish` makes
+/// one, and it can't be copied.
 #[derive(Drop)]
 pub struct Counts {
     taken: u32,
@@ -32,7 +32,7 @@ impl Counts {
         self.taken
     }
 
-    /// How many turns were executed anew, since their look didn't hold.
+    /// How many turns were executed again because their look wasn't valid.
     #[inline]
     pub fn redone(&self) -> u32
         ensures { result ≡ self.now.redone }
@@ -42,9 +42,9 @@ impl Counts {
 }
 
 impl Field<'_> {
-    /// Ends a window: the field is whole, with the world and the place to which the window's turns lead, and the answer counts the looks
-    /// that were taken and the turns that were executed anew. The field is lent for the window of the book, which
-    /// stands on it, and all its turns are settled.
+    /// Ends a window. The field is whole again, with the world and the place to which the window's turns lead. The
+    /// result counts the looks that were used and the turns that were executed again. The field is lent for the window
+    /// of the book, which stands on it, and all its turns are settled.
     #[inline(always)]
     pub fn finish(&mut self, book: Book) -> Counts
         requires stands { StandsOn self.old book }

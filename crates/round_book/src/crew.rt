@@ -8,8 +8,8 @@ use crate::field::Field;
 use hex_geometry::OutOfMemory;
 use std::alloc::Global;
 
-/// Who plays the windows of a game: alone, or with workers. Whoever it is, a window leads where its turns lead one after another, and the
-/// counts are the same.
+/// Who plays the windows of a game: alone, or with workers. Whoever it is, a window leads where its turns lead one
+/// after another, and the counts are the same.
 pub trait Crew {
     /// How many turns it has played.
     ghost played: { Self → ℕ };
@@ -21,10 +21,11 @@ pub trait Crew {
     fn turns(&self) -> u64
         ensures { result ≡ played self.now };
 
-    /// Plays the turns of the ids from `from` up to, and not including, `to`. The field is whole, `from` is at most `to`, `to` at most the
-    /// number of ids, and the place with the number of turns is below 2^63. The field is whole afterwards, its world and place are those to
-    /// which the turns lead in order, and the answer counts the looks that were taken and the turns that were executed anew. It is refused
-    /// where it runs out of memory alone; the field and the count of turns are as before then.
+    /// Plays the turns of the ids from `from` up to, and not including, `to`. The field is whole, `from` is at most
+    /// `to`, `to` is at most the number of ids, and the place plus the number of turns is below 2^63. Afterwards the
+    /// field is whole, and its world and place are those to which the turns lead in order. The result counts the looks
+    /// that were used and the turns that were executed again. It fails only if memory runs out; the field and the count
+    /// of turns are then unchanged.
     fn window(
         &mut self,
         alloc: Global,

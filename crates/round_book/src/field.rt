@@ -18,8 +18,8 @@ use std::alloc::Global;
 use std::marker::Model;
 use std::mem;
 
-/// Where a game stands: its world, its brains, its seed and its place in the stream. It is whole, or lent for a window of turns, whose ends
-/// it knows; while it is lent it shows what it was when the window began.
+/// Where a game stands: its world, its brains, its seed and its place in the stream. It is whole, or lent for a window
+/// of turns, whose ends it knows; while it is lent it shows what it was when the window began.
 #[derive(Drop)]
 pub struct Field<'b> {
     world: World,
@@ -55,8 +55,8 @@ impl<'b> Model for Field<'b> {
 }
 
 impl<'b> Field<'b> {
-    /// A whole field. Each ant's state is below the length of its colour's brain, and the place is below 2^62. It is refused for want of
-    /// memory alone.
+    /// A whole field. Each ant's state is below the length of its colour's brain, and the place is below 2^62. It fails
+    /// only if memory runs out.
     pub fn new(
         alloc: Global,
         world: World,
@@ -116,10 +116,11 @@ impl<'b> Field<'b> {
         self.place
     }
 
-    /// Begins the window of the turns of the ids from `from` up to, and not including, `to`: the field is lent for them, and the book stands
-    /// on it, with no turn settled yet. The field is whole, `from` is at most `to`, `to` at most the number of ids, and the place with the number
-    /// of turns is below 2^63. The one refusal is out of memory; the field is whole and as before then. No call on the book takes
-    /// memory: there is room for the positions that the turns write, seven each and no more than the world has cells.
+    /// Begins the window of the turns of the ids from `from` up to, and not including, `to`. The field is lent for
+    /// them, and the book stands on it, with no turn settled yet. The field is whole, `from` is at most `to`, `to` is
+    /// at most the number of ids, and the place plus the number of turns is below 2^63. It fails only if memory runs
+    /// out; the field is then whole and unchanged. No call on the book takes memory: it has room for the positions that
+    /// the turns write, seven each and no more than the world has cells.
     #[inline(always)]
     pub fn begin(&mut self, _alloc: Global, from: u32, to: u32) -> Result<Book, OutOfMemory>
         requires { CanBegin self.old from to }
@@ -131,7 +132,8 @@ impl<'b> Field<'b> {
         self.lend(from, to)
     }
 
-    // Gives out a stream that stands at the field's seed and place: the kept one, where it stands there, and else a new one.
+    // Gives out a stream that stands at the field's seed and place: the kept one, where it stands there, and else a new
+    // one.
     #[inline]
     pub(crate) fn take_stream(&mut self) -> Stream
         requires { self.old.place < 2 ^ 63 }
@@ -169,7 +171,8 @@ impl<'b> Field<'b> {
         Ok(looks)
     }
 
-    // Lends the workspace, once it has room for the window. It gets the room where it lies, so that no call is lent one that is on its way.
+    // Lends the workspace, once it has room for the window. It gets the room where it lies, so that no call is lent one
+    // that is on its way.
     #[inline(always)]
     fn lend(&mut self, from: u32, to: u32) -> Result<Book, OutOfMemory>
         requires { CanBegin self.old from to }
@@ -193,8 +196,8 @@ impl<'b> Field<'b> {
         Ok(Book::over(work, self.seed, self.place, from, to))
     }
 
-    // Takes back what was lent, with the world and the place to which the window led: the field's own world is brought up to it at the
-    // positions that were written.
+    // Takes back what was lent, with the world and the place to which the window led: the field's own world is brought
+    // up to it at the positions that were written.
     #[inline(always)]
     pub(crate) fn take_back(&mut self, work: Workspace, place: u64)
         requires marks { AreMarked work.world work.marked.items work.written.items }

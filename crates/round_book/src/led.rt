@@ -11,8 +11,8 @@ use hex_geometry::OutOfMemory;
 use std::alloc::Global;
 use std::marker::Model;
 
-/// A crew that plays each window by a function, which counts its own looks by `finish`. It makes a crew of workers, which are started by a
-/// function, one that plays as any other.
+/// A crew that plays each window by a function, which counts its own looks by `finish`. It makes a crew of workers,
+/// which are started by a function, one that plays as any other.
 #[derive(Drop)]
 pub struct Led<F: Drop> {
     play: F,
@@ -45,7 +45,8 @@ impl<F: FnMut(&mut Field<'_>, u32, u32) -> Result<Counts, OutOfMemory> + Drop> C
         self.turns
     }
 
-    // A window that is played is played by a call of the function, which leaves the field and the function as they are then.
+    // A window that is played is played by a call of the function, which leaves the field and the function as they are
+    // then.
     fn window(
         &mut self,
         _alloc: Global,

@@ -1,9 +1,9 @@
 //! Windows of turns, settled in order from looks that were made ahead.
 //!
-//! A window is a run of turns of one round. Its looks are made on the world with which it begins; then they are settled one after another: a
-//! look that still holds is taken, any other turn is executed anew. Whatever was looked at when, and by whom, what the window leaves is what
-//! its turns do one after another, and how many looks were taken depends on the turns and the window alone. All of this is this project's
-//! own.
+//! A window is a run of turns of one round. Its looks are made on the world at its start. Then they are settled one
+//! after another: a valid look is used, and any other turn is executed again. Whichever worker made a look, and
+//! whenever, the window leaves what its turns do one after another. The number of looks that are used depends on the
+//! turns and the window alone. All of this is this project's own.
 #![tactic(auto)]
 
 mod alone;

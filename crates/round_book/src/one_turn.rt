@@ -9,10 +9,10 @@ use crate::field::Field;
 use crate::verdict::Cause;
 use spec_record::Look;
 
-/// Settles the next turn of a window by the look at it: takes the look where it holds, and else executes the turn anew and says why it
-/// doesn't. The book stands on the field, the next turn is one of the window, and the look is that at the turn on the field's world at its
-/// guess; the turn is settled as the law `books_are_reached` asks, and the book stands on the field again, one turn further. So where a book
-/// stands, the conditions of `settle` are met.
+/// Settles the next turn of a window by the look at it: uses the look if it is valid, and otherwise executes the turn
+/// again and says why. The book stands on the field, the next turn is one of the window, and the look is the one at
+/// that turn on the field's world at its guess. The turn is settled as the law `books_are_reached` requires, and the
+/// book stands on the field again, one turn further. So a book that stands meets the conditions of `settle`.
 #[inline(always)]
 pub fn advance(book: &mut Book, field: &Field<'_>, look: &Look) -> Option<Cause>
     requires stands { StandsOn field.now book.old }

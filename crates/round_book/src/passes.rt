@@ -14,8 +14,8 @@ use cell_world::{Ant, Cell, Ground, Part, Parts, World};
 use hex_geometry::Pos;
 use spec_record::Sighting;
 
-// Sets the named parts of each write: of one alone at once; of more first where that doesn't raise the weight of the cell, then at the others, so that the world is
-// light enough at every step.
+// Sets the named parts of each write: of one alone at once; of more first where that doesn't raise the weight of the
+// cell, then at the others, so that the world is light enough at every step.
 #[inline(always)]
 pub(crate) fn set_writes(world: &mut World, writes: &[Sighting])
     requires once { EachOnce (seen_positions writes.now) }

@@ -12,7 +12,7 @@ pub enum Cause {
         /// The part of its cell.
         part: Part,
     },
-    /// All that was read is as it was, and the turn's random number is another than the one that was guessed.
+    /// All that was read is unchanged, but the turn's random number isn't the guessed one.
     Place {
         /// The place in the stream at which the look was made.
         guessed: u64,
@@ -26,6 +26,6 @@ pub enum Cause {
 pub enum Verdict {
     /// The look held, and what it wrote was taken.
     Taken,
-    /// It didn't, and the turn was executed anew.
+    /// It wasn't valid, and the turn was executed again.
     Redone(Cause),
 }

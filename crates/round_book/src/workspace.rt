@@ -20,7 +20,8 @@ use hex_geometry::{OutOfMemory, Pos, index_of};
 use spec_record::Sighting;
 use std::alloc::Global;
 
-// A world, which of its cells were written since it was lent, as marks and as a list, and what came of the turns so far.
+// A world, which of its cells were written since it was lent, as marks and as a list, and what came of the turns so
+// far.
 #[derive(Drop)]
 pub(crate) struct Workspace {
     pub(crate) world: World,
@@ -42,7 +43,8 @@ impl Workspace {
         })
     }
 
-    // Takes room for the positions that so many turns write, seven each and no more than there are cells, and for their verdicts.
+    // Takes room for the positions that so many turns write, seven each and no more than there are cells, and for their
+    // verdicts.
     #[inline(always)]
     pub(crate) fn reserve(&mut self, turns: u32) -> Result<(), OutOfMemory>
         ensures rest { self.new ≡ record self.old { written = self.new.written; verdicts = self.new.verdicts } }
@@ -56,8 +58,8 @@ impl Workspace {
         self.reserve_verdicts(turns as usize)
     }
 
-    // Takes room for so many written positions more, and no more than there are cells. Most windows find the room of an earlier one, so the
-    // cells are counted only where that is too small.
+    // Takes room for so many written positions more, and no more than there are cells. Most windows find the room of an
+    // earlier one, so the cells are counted only where that is too small.
     #[inline]
     fn reserve_written(&mut self, more: usize) -> Result<(), OutOfMemory>
         ensures rest { self.new ≡ record self.old { written = self.new.written } }
@@ -128,8 +130,8 @@ impl Workspace {
         }
     }
 
-    // The first part, in the order of the reads, that was read and is another now. Most looks read no cell that was written, so the marks of
-    // all are asked first, and the others are a call.
+    // The first part, in the order of the reads, that was read and is another now. Most looks read no cell that was
+    // written, so the marks of all are asked first, and the others are a call.
     #[inline(always)]
     pub(crate) fn first_change(&self, reads: &[Sighting]) -> Option<Cause>
         requires marks { AreMarked self.now.world self.now.marked.items self.now.written.items }

@@ -21,8 +21,9 @@ use Rattle.round_workers.specs.BoardView.{look_empty, look_in_hand, window_for}
 use Rattle.round_workers.proofs.BoardTickets.{word-bound}
 use Rattle.round_workers.proofs.BoardTotalLemmas.{below-where, once-le, other-none, same-one, times-append, total-add, total-at, total-gap, total-none, total-same, total-set}
 
--- of the look of a ticket that a seat drew and didn't put: w its word, a and b the seats that are putting and taking it, p and q those that put and took it,
--- u what all put or are putting, t how often it was drawn; e and d of the seat itself
+-- of the look of a ticket that a seat drew and didn't put: w its word, a and b the seats that are putting and taking
+-- it, p and q those that put and took it, u what all put or are putting, t how often it was drawn; e and d of the seat
+-- itself
 when-drawn : (w a b p q u t e d n : ℕ) → w + b ≡ a + (p + p) + q → a + p ≤ 1 → b + q ≤ p → u + d ≤ t + (n + e) → u ≡ p + a → t ≤ 1 → e ≤ a → 1 ≤ d → n ≡ 0 → (w ≡ 0) ⊎ ((w ≡ 1) × (e ≡ 1))
 when-drawn w a b p q u t e d n sum once back gap both most puts had none = go (ℕ_discrete e 0) where
   go : Dec (e ≡ 0) → (w ≡ 0) ⊎ ((w ≡ 1) × (e ≡ 1))

@@ -54,7 +54,8 @@ module _ (basis : Basis) where
   pub the_whole : views_joined (drew first 0) giver ≡ record { about = Some basis; number = 0; made = 2; parts = 0 ∷ 2 ∷ []; drawn = 0 ∷ 3 ∷ 5 ∷ []; put = 3 ∷ []; took = 3 ∷ []; holds = false; opened = true; tries = 0; last = Never; phase = Resting }
   the_whole = refl
 
--- what the word of a look is: before it is put, while a seat puts it, once it is put, while a seat takes it, and once it is taken
+-- what the word of a look is: before it is put, while a seat puts it, once it is put, while a seat takes it, and once
+-- it is taken
 module _ (window : Window) (ticket word : ℕ) (home : maybe.Option (maybe.Option BoardSlot)) where
   pub not_put : IsLookKept window ticket word home 0 0 0 0 → word ≡ 0
   not_put is = let sum = is.sum in omega arith

@@ -1,4 +1,5 @@
--- What the rule of a board says, in words, and which of its steps are events of the workers on its window (this project's own).
+-- What the rule of a board says, in words, and which of its steps are events of the workers on its window (this
+-- project's own).
 use Rattle.std.specs.Prelude.{◌≡◌, ◌≢◌, ◌⊎◌, ◌↔◌, ℕ, ◌+◌, ◌-◌, ◌<◌, ◌≤◌, Some, List, slice_index, slice_set}
 use mathlib.Core.Option as maybe
 use lib.ListN.{get_elem?}
@@ -52,8 +53,10 @@ pub record LookSays (key : Basis) (s : State BoardSlot View) (j : ℕ) : Type 0 
       HasHome (get_elem? s.homes (j + 1)) (OneLook (Some (look_for (window_for key) ((window_for key).from + j))))
   -- emptied exactly where a seat took it
   pub emptied : (word_of s j ≡ look_emptied) ↔ (takers s j ≡ 1)
-  -- in hand: nobody took it, one seat is between the two steps of a put or of a take, and it is put exactly where that is a take
-  pub in_hand : word_of s j ≡ look_in_hand → (takers s j ≡ 0) × (putting_now s j + taking_now s j ≡ 1) × (putters s j ≡ taking_now s j)
+  -- in hand: nobody took it, one seat is between the two steps of a put or of a take, and it is put exactly where that
+  -- is a take
+  pub in_hand : word_of s j ≡ look_in_hand
+      → (takers s j ≡ 0) × (putting_now s j + taking_now s j ≡ 1) × (putters s j ≡ taking_now s j)
   -- no look waits in a slot whose word says empty or emptied
   pub bare : (word_of s j ≡ look_empty) ⊎ (word_of s j ≡ look_emptied) → IsSpare (get_elem? s.homes (j + 1))
   -- a seat that drew its ticket and hasn't put it: the word says empty, or in hand while that seat puts it
@@ -63,13 +66,16 @@ pub record LookSays (key : Basis) (s : State BoardSlot View) (j : ℕ) : Type 0 
 -- what the rule says of the tickets, of the book and of each look
 pub record BoardsSay : Type 0 where
   pub tickets : (key : Basis) (s : State BoardSlot View) → IsKept key s → slice_index s.words 0 ≤ turns_of key + 17
-  pub book_home_stands : (key : Basis) (s : State BoardSlot View) → IsKept key s → summed has_opened s.views ≡ 1 → slice_index s.words 1 ≡ book_home →
+  pub book_home_stands : (key : Basis) (s : State BoardSlot View) → IsKept key s → summed has_opened s.views ≡ 1
+      → slice_index s.words 1 ≡ book_home →
       (holders s ≡ 0) × HasBook (get_elem? s.homes 0) (window_for key)
-  pub book_out_held : (key : Basis) (s : State BoardSlot View) → IsKept key s → summed has_opened s.views ≡ 1 → slice_index s.words 1 ≢ book_home →
+  pub book_out_held : (key : Basis) (s : State BoardSlot View) → IsKept key s → summed has_opened s.views ≡ 1
+      → slice_index s.words 1 ≢ book_home →
       (slice_index s.words 1 ≡ book_out) × (holders s ≡ 1)
   pub looks : (key : Basis) (s : State BoardSlot View) → IsKept key s → (j : ℕ) → j < turns_of key → LookSays key s j
   -- no look is put or taken but of a turn of the window
-  pub turns_alone : (key : Basis) (s : State BoardSlot View) → IsKept key s → (j : ℕ) → 1 ≤ putters s j + takers s j → j < turns_of key
+  pub turns_alone : (key : Basis) (s : State BoardSlot View) → IsKept key s → (j : ℕ) → 1 ≤ putters s j + takers s j
+      → j < turns_of key
 
 -- the workers on the window are where the board is: as many tickets are drawn, and the looks of the same turns were put
 pub record Mirrors (key : Basis) (s : State BoardSlot View) (m : machine.State) : Type 0 where
@@ -81,12 +87,19 @@ pub record BoardStepsAreEvents : Type 0 where
   pub draws : (key : Basis) (s : State BoardSlot View) (id : ℕ) (v : View) (m : machine.State) (hand : ℕ) →
       IsKept key s → get_elem? s.views id ≡ maybe.some v → Mirrors key s m →
       machine.IsLawful (window_for key) m (Draws hand)
-      × Mirrors key (record { words = slice_set s.words 0 (slice_index s.words 0 + 1); homes = s.homes; views = slice_set s.views id (drew v (slice_index s.words 0)) })
+      × Mirrors key (record {
+        words = slice_set s.words 0 (slice_index s.words 0 + 1);
+        homes = s.homes;
+        views = slice_set s.views id (drew v (slice_index s.words 0));
+      })
       (machine.happens (window_for key) m (Draws hand))
-  pub puts : (key : Basis) (s : State BoardSlot View) (id : ℕ) (v : View) (m : machine.State) (j word : ℕ) (homes : List (maybe.Option BoardSlot)) →
-      IsKept key s → get_elem? s.views id ≡ maybe.some v → v.phase ≡ Putting j → j < turns_of key → machine.AreDealt m.drawn m.hands → Mirrors key s m →
+  pub puts : (key : Basis) (s : State BoardSlot View) (id : ℕ) (v : View) (m : machine.State) (j word : ℕ)
+      (homes : List (maybe.Option BoardSlot)) →
+      IsKept key s → get_elem? s.views id ≡ maybe.some v → v.phase ≡ Putting j → j < turns_of key
+      → machine.AreDealt m.drawn m.hands → Mirrors key s m →
       (hand : ℕ) × machine.IsLawful (window_for key) m (Puts hand j)
-      × Mirrors key (record { words = slice_set s.words (j + 2) word; homes = homes; views = slice_set s.views id (has_put v j) })
+      × Mirrors key
+      (record { words = slice_set s.words (j + 2) word; homes = homes; views = slice_set s.views id (has_put v j) })
       (machine.happens (window_for key) m (Puts hand j))
 
 -- lawful events lead from the first state of the workers on a window to such a state
@@ -95,14 +108,17 @@ pub record Way (window : Window) (Is : machine.State → Type 0) : Type 0 where
   pub lawful : machine.AreLawful window (machine.first_state window) events
   pub there : Is (machine.run window (machine.first_state window) events)
 
--- wherever a board is, lawful events of workers lead to a state that is there too; and where the looks of all turns that a book has settled were put, to
--- one that is where the board is and where the book is
+-- wherever a board is, lawful events of workers lead to a state that is there too; and where the looks of all turns
+-- that a book has settled were put, to one that is where the board is and where the book is
 pub record BoardsAreReached : Type 0 where
   pub board : (key : Basis) (s : State BoardSlot View) → IsKept key s → Way (window_for key) (Mirrors key s)
-  pub book : (key : Basis) (s : State BoardSlot View) (book : BookValue) → IsKept key s → StandsFor (window_for key) book → book.next ≤ book.to →
-      ((j : ℕ) → j < book.next - book.from → 1 ≤ putters s j) → Way (window_for key) (λ m. Mirrors key s m × IsAt m book)
+  pub book : (key : Basis) (s : State BoardSlot View) (book : BookValue) → IsKept key s
+      → StandsFor (window_for key) book → book.next ≤ book.to →
+      ((j : ℕ) → j < book.next - book.from → 1 ≤ putters s j)
+      → Way (window_for key) (λ m. Mirrors key s m × IsAt m book)
 
--- the workers on a window are where a closed board is: so many tickets were drawn, and the looks of these tickets were put
+-- the workers on a window are where a closed board is: so many tickets were drawn, and the looks of these tickets were
+-- put
 pub record IsWhereClosed (window : Window) (count : ℕ) (tickets : List ℕ) (m : machine.State) : Type 0 where
   pub drawn : m.drawn ≡ count
   pub put : (j : ℕ) → machine.IsPut m j ↔ (1 ≤ times j tickets)

@@ -18,8 +18,8 @@ use Rattle.round_workers.specs.BoardView.{book_home, book_out, look_emptied, loo
 abbrev pub At : Type 0
 At = Me BoardSlot View
 
--- a step with these numbers, and one on this word with them. A load, and what writes one number, has 0 for the second; only a compare-exchange
--- has another number there
+-- a step with these numbers, and one on this word with them. A load, and what writes one number, has 0 for the second;
+-- only a compare-exchange has another number there
 abbrev pub Carries : Step BoardSlot → (first second : ℕ) → Type 0
 Carries step first second = (step.first ≡ first) × (step.second ≡ second)
 
@@ -32,7 +32,8 @@ drew v ticket = record v { drawn = v.drawn ++ ticket ∷ [] }
 
 -- the ticket is the seat's, above each that it drew, and small
 abbrev pub tells_draw : Step BoardSlot → At → ℕ → At → Type 0
-tells_draw step me found new = IsStep step 0 1 0 × (new ≡ (drew me.0 found, me.1)) × AllByRecursion (λ k. k < found) me.0.drawn × (found < 2 ^ 32)
+tells_draw step me found new =
+    IsStep step 0 1 0 × (new ≡ (drew me.0 found, me.1)) × AllByRecursion (λ k. k < found) me.0.drawn × (found < 2 ^ 32)
 
 -- the first seat after it made another
 abbrev pub made_one : View → View
@@ -57,7 +58,8 @@ newcomer v = record {
 
 -- a seat after another went into it
 abbrev pub views_joined : View → View → View
-views_joined v w = record v { parts = v.parts ++ w.parts; drawn = v.drawn ++ w.drawn; put = v.put ++ w.put; took = v.took ++ w.took }
+views_joined v w =
+    record v { parts = v.parts ++ w.parts; drawn = v.drawn ++ w.drawn; put = v.put ++ w.put; took = v.took ++ w.took }
 
 -- the seat is as it was, and drew no ticket twice
 abbrev pub tells_each_once : Step BoardSlot → At → ℕ → At → Type 0
@@ -99,14 +101,17 @@ has_taken v ticket = record v { phase = Resting; took = v.took ++ ticket ∷ [] 
 
 -- the book's slot was home, and is the seat's
 abbrev pub tells_open : Step BoardSlot → At → ℕ → At → Type 0
-tells_open step me found new = IsStep step 1 book_home book_out × (found ≡ book_home) × (new ≡ (opens_now me.0, (0, TheBook None) ∷ me.1))
+tells_open step me found new =
+    IsStep step 1 book_home book_out × (found ≡ book_home) × (new ≡ (opens_now me.0, (0, TheBook None) ∷ me.1))
 
 abbrev pub tells_opened : Step BoardSlot → At → ℕ → At → Type 0
 tells_opened step me found new = IsStep step 1 book_home 0 × (new ≡ (has_seen me.0, rest me.1))
 
 -- where the book was home it is the seat's, and stands for the window that the seat knows; else another seat has it
 pub record TellsTake (me : At) (found : ℕ) (new : At) : Type 0 where
-  pub home : found ≡ book_home → (book : BookValue) × StandsFor (window_about me.0.about) book × (new ≡ (with_book me.0, (0, TheBook (Some book)) ∷ me.1))
+  pub home : found ≡ book_home
+      → (book : BookValue) × StandsFor (window_about me.0.about) book
+      × (new ≡ (with_book me.0, (0, TheBook (Some book)) ∷ me.1))
   pub out : found ≢ book_home → (found ≡ book_out) × (new ≡ (after_try me.0 (OfBook book_out), me.1))
 
 abbrev pub tells_take_book : Step BoardSlot → At → ℕ → At → Type 0
@@ -117,10 +122,13 @@ tells_give_book step me found new = IsStep step 1 book_home 0 × (new ≡ (witho
 
 -- the look's slot was home, with no look waiting in it, and is the seat's
 abbrev pub tells_put : Step BoardSlot → At → ℕ → At → Type 0
-tells_put step me found new = Carries step look_empty look_in_hand × ((j : ℕ) → step.word ≡ j + 2 → (old : Option LookValue) × (new ≡ (puts_now me.0 j, (j + 1, Spare old) ∷ me.1)))
+tells_put step me found new =
+    Carries step look_empty look_in_hand
+    × ((j : ℕ) → step.word ≡ j + 2 → (old : Option LookValue) × (new ≡ (puts_now me.0 j, (j + 1, Spare old) ∷ me.1)))
 
 abbrev pub tells_has_put : Step BoardSlot → At → ℕ → At → Type 0
-tells_has_put step me found new = Carries step look_full 0 × ((j : ℕ) → step.word ≡ j + 2 → new ≡ (has_put me.0 j, rest me.1))
+tells_has_put step me found new =
+    Carries step look_full 0 × ((j : ℕ) → step.word ≡ j + 2 → new ≡ (has_put me.0 j, rest me.1))
 
 -- the look at a ticket's turn, in the window that the seat knows
 abbrev pub look_at_ticket : View → ℕ → LookValue
@@ -128,14 +136,17 @@ look_at_ticket v ticket = look_for (window_about v.about) ((window_about v.about
 
 -- where the look's word was full the look is the seat's, and it is that at its turn; else the seat keeps what it found
 pub record TellsTakeLook (ticket : ℕ) (me : At) (found : ℕ) (new : At) : Type 0 where
-  pub full : found ≡ look_full → new ≡ (takes_now me.0 ticket, (ticket + 1, OneLook (Some (look_at_ticket me.0 ticket))) ∷ me.1)
+  pub full : found ≡ look_full
+      → new ≡ (takes_now me.0 ticket, (ticket + 1, OneLook (Some (look_at_ticket me.0 ticket))) ∷ me.1)
   pub other : found ≢ look_full → new ≡ (after_try me.0 (OfLook ticket found), me.1)
 
 abbrev pub tells_take_look : Step BoardSlot → At → ℕ → At → Type 0
-tells_take_look step me found new = Carries step look_full look_in_hand × ((j : ℕ) → step.word ≡ j + 2 → TellsTakeLook j me found new)
+tells_take_look step me found new =
+    Carries step look_full look_in_hand × ((j : ℕ) → step.word ≡ j + 2 → TellsTakeLook j me found new)
 
 abbrev pub tells_has_taken : Step BoardSlot → At → ℕ → At → Type 0
-tells_has_taken step me found new = Carries step look_emptied 0 × ((j : ℕ) → step.word ≡ j + 2 → new ≡ (has_taken me.0 j, rest me.1))
+tells_has_taken step me found new =
+    Carries step look_emptied 0 × ((j : ℕ) → step.word ≡ j + 2 → new ≡ (has_taken me.0 j, rest me.1))
 
 -- a seat that tried for the look of a ticket, found its word full and took it
 abbrev pub took_look : View → ℕ → View

@@ -1,7 +1,8 @@
 -- What is true of a board between any two steps of its seats (this project's own).
 --
--- Word 0 is the number of tickets drawn. Word 1 is the book's: `book_home`, or `book_out`. Word j + 2 is that of the look of ticket j:
--- `look_empty`, `look_in_hand`, `look_full` or `look_emptied`. Slot 0 is the book's, and slot j + 1 that of the look of ticket j.
+-- Word 0 is the number of tickets drawn. Word 1 is the book's: `book_home`, or `book_out`. Word j + 2 is that of the
+-- look of ticket j: `look_empty`, `look_in_hand`, `look_full` or `look_emptied`. Slot 0 is the book's, and slot j + 1
+-- that of the look of ticket j.
 use Rattle.std.specs.Prelude.{◌≡◌, ◌≢◌, ◌⊎◌, ℕ, zero, suc, ◌+◌, ◌-◌, ◌<◌, ◌≤◌, Bool, true, false, nat_eq, List, length, slice_index, Option, Some, None}
 use mathlib.Core.Option as maybe
 use lib.ListN.{get_elem?}
@@ -64,9 +65,10 @@ taking x Opening = 0
 taking x (Putting j) = 0
 taking x (Taking j) = one_if (nat_eq j x)
 
--- what is true of each seat that didn't go into another: it knows the board's window; its own number is among its parts; the first seat alone
--- makes others; it drew at most as many tickets behind the window as it has parts; what it put, or is about to put, it drew; what it put and
--- took are looks of turns alone; and the first seat alone opens the book
+-- what is true of each seat that didn't go into another: it knows the board's window; its own number is among its
+-- parts; the first seat alone makes others; it drew at most as many tickets behind the window as it has parts; what it
+-- put, or is about to put, it drew; what it put and took are looks of turns alone; and the first seat alone opens the
+-- book
 pub record IsSeated (key : Basis) (v : View) : Type 0 where
   pub same : v.about ≡ Some key
   pub own : 1 ≤ times v.number v.parts
@@ -84,15 +86,16 @@ Sits key v = (v ≡ spent_seat) ⊎ IsSeated key v
 abbrev pub made_by : List View → ℕ
 made_by views = summed (λ v. v.made) views
 
--- the parts of all seats are the numbers from 0 to the count of seats that were made, each once; that count is at most that of a crew; there is one
--- first seat
+-- the parts of all seats are the numbers from 0 to the count of seats that were made, each once; that count is at most
+-- that of a crew; there is one first seat
 pub record AreParts (views : List View) : Type 0 where
   pub each : (x : ℕ) → summed (λ v. times x v.parts) views ≡ once_below x (made_by views + 1)
   pub count : summed (λ v. length v.parts) views ≡ made_by views + 1
   pub few : made_by views ≤ most_workers
   pub first : summed is_first views ≡ 1
 
--- the tickets of all seats are the numbers below the ticket word, each once; at most as many as are behind the window were drawn beyond it
+-- the tickets of all seats are the numbers below the ticket word, each once; at most as many as are behind the window
+-- were drawn beyond it
 pub record AreDealt (turns word : ℕ) (views : List View) : Type 0 where
   pub each : (x : ℕ) → summed (λ v. times x v.drawn) views ≡ once_below x word
   pub within : word ≤ turns + summed (λ v. late_among turns v.drawn) views
@@ -109,8 +112,10 @@ HasBook home window = (book : BookValue) × HasHome home (TheBook (Some book)) �
 abbrev pub IsSpare : maybe.Option (maybe.Option BoardSlot) → Type 0
 IsSpare home = (old : Option LookValue) × HasHome home (Spare old)
 
--- the book, by its word and what its slot has at home: so many seats hold it, are opening it, opened it, and have seen it opened
-pub record IsBookKept (window : Window) (word : ℕ) (home : maybe.Option (maybe.Option BoardSlot)) (held opens opened seen : ℕ) : Type 0 where
+-- the book, by its word and what its slot has at home: so many seats hold it, are opening it, opened it, and have seen
+-- it opened
+pub record IsBookKept (window : Window) (word : ℕ) (home : maybe.Option (maybe.Option BoardSlot))
+    (held opens opened seen : ℕ) : Type 0 where
   pub out : word ≡ held + opens
   pub bit : word ≤ 1
   pub once : opens + opened ≤ 1
@@ -119,10 +124,12 @@ pub record IsBookKept (window : Window) (word : ℕ) (home : maybe.Option (maybe
   pub bare : opens + opened ≡ 0 → HasHome home (TheBook None)
   pub stands : opened ≡ 1 → held ≡ 0 → HasBook home window
 
--- the look of a ticket, by its word and what its slot has at home: so many seats put it, took it, are putting it and are taking it. The word
--- says how far the look is: in hand while a seat puts it, full once it is put, emptied once it is taken; while a seat takes it, it is in hand
--- again. So it is 1 for a put that is under way, 2 for one that is done, 1 more for a take that is done, and 1 less for one that is under way
-pub record IsLookKept (window : Window) (ticket word : ℕ) (home : maybe.Option (maybe.Option BoardSlot)) (put took puts takes : ℕ) : Type 0 where
+-- the look of a ticket, by its word and what its slot has at home: so many seats put it, took it, are putting it and
+-- are taking it. The word says how far the look is: in hand while a seat puts it, full once it is put, emptied once it
+-- is taken; while a seat takes it, it is in hand again. So it is 1 for a put that is under way, 2 for one that is done,
+-- 1 more for a take that is done, and 1 less for one that is under way
+pub record IsLookKept (window : Window) (ticket word : ℕ) (home : maybe.Option (maybe.Option BoardSlot))
+    (put took puts takes : ℕ) : Type 0 where
   pub sum : word + takes ≡ puts + (put + put) + took
   pub once : puts + put ≤ 1
   pub back : takes + took ≤ put
@@ -131,7 +138,8 @@ pub record IsLookKept (window : Window) (ticket word : ℕ) (home : maybe.Option
 
 abbrev pub IsBookKeptBy : Window → ℕ → maybe.Option (maybe.Option BoardSlot) → List View → Type 0
 IsBookKeptBy window word home views =
-    IsBookKept window word home (summed (λ v. one_if v.holds) views) (summed (λ v. phase_opening v.phase) views) (summed has_opened views)
+    IsBookKept window word home (summed (λ v. one_if v.holds) views) (summed (λ v. phase_opening v.phase) views)
+    (summed has_opened views)
     (summed (λ v. one_if v.opened) views)
 
 abbrev pub IsLookKeptBy : Window → ℕ → ℕ → maybe.Option (maybe.Option BoardSlot) → List View → Type 0
@@ -148,4 +156,5 @@ pub record IsKept (key : Basis) (s : State BoardSlot View) : Type 0 where
   pub parts : AreParts s.views
   pub tickets : AreDealt (turns_of key) (slice_index s.words 0) s.views
   pub book : IsBookKeptBy (window_for key) (slice_index s.words 1) (get_elem? s.homes 0) s.views
-  pub looks : (j : ℕ) → j < turns_of key → IsLookKeptBy (window_for key) j (slice_index s.words (j + 2)) (get_elem? s.homes (j + 1)) s.views
+  pub looks : (j : ℕ) → j < turns_of key
+      → IsLookKeptBy (window_for key) j (slice_index s.words (j + 2)) (get_elem? s.homes (j + 1)) s.views

@@ -26,7 +26,19 @@ window_for basis = record {
 
 -- a window of which nothing is known
 abbrev pub no_window : Window
-no_window = record { minds = contest_minds [] []; seed = 0; base = record { width = 0; height = 0; ids = 0; cells = λ p. rock }; place = 0; from = 0; to = 0 }
+no_window = record {
+  minds = contest_minds [] [];
+  seed = 0;
+  base = record {
+    width = 0;
+    height = 0;
+    ids = 0;
+    cells = λ p. rock;
+  };
+  place = 0;
+  from = 0;
+  to = 0;
+}
 
 abbrev pub window_about : Option Basis → Window
 window_about None = no_window

@@ -20,8 +20,9 @@ ascends least (x ∷ xs) = nat_le least x && ascends (x + 1) xs
 abbrev pub turns_in : Window → ℕ
 turns_in window = window.to - window.from
 
--- what a worker's seat knows, and the turns whose looks the worker made: the seat isn't the first, doesn't hold the book and took no other in;
--- it drew its tickets in order, and put the look of each that is a turn's; and those are the turns, in order
+-- what a worker's seat knows, and the turns whose looks the worker made: the seat isn't the first, doesn't hold the
+-- book and took no other in; it drew its tickets in order, and put the look of each that is a turn's; and those are the
+-- turns, in order
 pub record IsWorker (v : View) (made : List ℕ) : Type 0 where
   pub other : v.number ≢ 0
   pub free : v.holds ≡ false
@@ -41,7 +42,8 @@ pub record IsSameButTook (old new : View) : Type 0 where
   pub holds : new.holds ≡ old.holds
   pub opened : new.opened ≡ old.opened
 
--- a worker's seat drew one more ticket: it is a turn's, or the last; it put the looks of its turns, and tried at least once for each
+-- a worker's seat drew one more ticket: it is a turn's, or the last; it put the looks of its turns, and tried at least
+-- once for each
 pub record HasServed (turns : ℕ) (old new : View) (more : Bool) : Type 0 where
   pub about : new.about ≡ old.about
   pub number : new.number ≡ old.number

@@ -36,10 +36,11 @@ pub use view::{Basis, BoardSlot, Phase, Try, View};
 pub use worker::Worker;
 
 impl Board {
-    /// A board for the window of the turns of the ids from `from` up to, and not including, `to`, of a field, and its first seat. The seat
-    /// knows the window. No ticket is drawn, no look is put, and the book isn't there yet. The field is whole, `from` is at most `to`, `to`
-    /// at most the number of ids, and the place with the number of turns is below 2^63. It is refused only when out of memory; it takes
-    /// the room of all looks, and of the list of those that are left in the end.
+    /// A board for the window of the turns of the ids from `from` up to, and not including, `to`, of a field, and its
+    /// first seat. The seat knows the window. No ticket is drawn, no look is put, and the book isn't there yet. The
+    /// field is whole, `from` is at most `to`, `to` at most the number of ids, and the place with the number of turns
+    /// is below 2^63. It is refused only when out of memory; it takes the room of all looks, and of the list of those
+    /// that are left in the end.
     pub fn new(
         alloc: Global,
         field: &Field<'_>,
@@ -79,9 +80,9 @@ impl Board {
         self.from + ticket
     }
 
-    /// Draws the next ticket: the tickets of a board are the numbers from 0, each drawn once, by one seat or another. Ticket k stands for
-    /// the turn that is number k in the window; a ticket that is no turn's says that all turns are drawn. The seat drew no such ticket yet.
-    /// The answer is above all that the seat drew.
+    /// Draws the next ticket. The tickets of a board are the numbers from 0, and each is drawn once, by one of the
+    /// seats. Ticket k is for turn number k of the window; a ticket beyond the last turn says that all turns are drawn.
+    /// The seat has drawn no such ticket yet. The ticket is higher than all that the seat drew before.
     #[inline]
     pub fn draw(&self, seat: &mut Seat) -> u32
         requires board { IsSeatOf self.now seat.old }
@@ -94,8 +95,9 @@ impl Board {
         ticket as u32
     }
 
-    /// Makes another seat of this board. It knows the same window, and has seen the book opened where the first seat has. Its number, which
-    /// is its one part, is the count of the seats that were made, from 1. The seat is the first one, and made fewer than 16.
+    /// Makes another seat of this board. It knows the same window, and has seen the book opened where the first seat
+    /// has. Its number, which is its one part, is the count of the seats that were made, from 1. The seat is the first
+    /// one, and made fewer than 16.
     pub fn split(&self, seat: &mut Seat) -> Seat
         requires board { IsSeatOf self.now seat.old }
         requires first { (known seat.old).number ≡ 0 }
@@ -109,8 +111,8 @@ impl Board {
         Seat { hand }
     }
 
-    /// Joins another seat of this board into one: its parts, and the tickets that it drew, put and took, come behind the seat's own; no
-    /// ticket is in both lists. The other one isn't the first seat, and doesn't hold the book.
+    /// Joins another seat of this board into one: its parts, and the tickets that it drew, put and took, are added
+    /// after the seat's own; no ticket is in both lists. The other one isn't the first seat, and doesn't hold the book.
     pub fn join(&self, seat: &mut Seat, other: Seat)
         requires board { IsSeatOf self.now seat.old }
         requires other_board { IsSeatOf self.now other }

@@ -17,8 +17,8 @@ use std::alloc::Global;
 use std::marker::Model;
 use std::thread::Threads;
 
-/// A crew of workers that make the looks of a window at the same time, each those of a contiguous piece of its turns; they are settled in
-/// order on the caller's thread. It keeps the rooms of its looks from one window to the next.
+/// A crew of workers that make the looks of a window at the same time, each those of a contiguous piece of its turns;
+/// they are settled in order on the caller's thread. It keeps the rooms of its looks from one window to the next.
 #[derive(Drop)]
 pub struct PieceCrew<'c, R: Threads + Sync, G: Gate> {
     team: Team<'c, R, G>,
@@ -37,8 +37,8 @@ impl<'c, R: Threads + Sync, G: Gate> Model for PieceCrew<'c, R, G> {
 }
 
 impl<'c, R: Threads + Sync, G: Gate> PieceCrew<'c, R, G> {
-    /// A crew of 1 to 16 workers, which has played no turn yet. Each worker, from 0, calls the gate before each look that it makes. It
-    /// takes no memory.
+    /// A crew of 1 to 16 workers, which has played no turn yet. Each worker, from 0, calls the gate before each look
+    /// that it makes. It takes no memory.
     pub fn new(rt: &'c R, workers: u32, gate: &'c G) -> PieceCrew<'c, R, G>
         requires workers { IsCrewSize workers }
         ensures { result ≡ record { workers = workers; turns = 0 } }
@@ -58,14 +58,16 @@ impl<'c, R: Threads + Sync, G: Gate> PieceCrew<'c, R, G> {
         self.turns
     }
 
-    /// Plays the turns of the ids from `from` up to, and not including, `to`. The field is whole, `from` is at most `to`,
-    /// `to` at most the number of ids, and the place with the number of turns is below 2^63. The field is whole afterwards, its world and
-    /// place are those to which the turns lead in order, and the answer counts the looks that were taken and the turns that were executed
-    /// anew. It is refused only when out of memory; the field and the count of turns are as before then.
+    /// Plays the turns of the ids from `from` up to, and not including, `to`. The field is whole, `from` is at most
+    /// `to`, `to` is at most the number of ids, and the place plus the number of turns is below 2^63. Afterwards the
+    /// field is whole, and its world and place are those to which the turns lead in order. The result counts the looks
+    /// that were used and the turns that were executed again. It fails only if memory runs out; the field and the count
+    /// of turns are then unchanged.
     ///
-    /// Of n turns worker k of W makes the looks of those from `from` + k * n / W up to, and not including, `from` + (k + 1) * n / W, and
-    /// calls the gate with its number and the id before each. A worker that has no turn starts no thread. All looks are made before the
-    /// field is lent; but where no second worker has a turn, each look is settled as soon as it is made.
+    /// Of n turns, worker k of W makes the looks of those from `from` + k * n / W up to, and not including, `from` + (k
+    /// + 1) * n / W, and calls the gate with its number and the id before each. A worker without a turn starts no
+    /// thread. All looks are made before the field is lent, unless no second worker has a turn: then each look is
+    /// settled as soon as it is made.
     pub fn window(
         &mut self,
         alloc: Global,

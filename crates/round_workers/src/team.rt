@@ -2,7 +2,8 @@
 use ant_base::Gate;
 use std::thread::Threads;
 
-// The workers of a crew: the runtime of their threads, the gate that they call before each look, and how many there are.
+// The workers of a crew: the runtime of their threads, the gate that they call before each look, and how many there
+// are.
 #[derive(Drop)]
 pub struct Team<'c, R: Threads + Sync, G: Gate> {
     pub rt: &'c R,

@@ -1,4 +1,5 @@
--- What comes of a file: it is fetched once, and its bytes are those of a world or of a brain, or it is refused (this project's own).
+-- What comes of a file: it is fetched once, and its bytes are those of a world or of a brain, or it is refused (this
+-- project's own).
 use Rattle.std.specs.Prelude.{◌≡◌, ℕ, ◌≤◌, List, [], ◌∷◌, ◌++◌, length, Result, Ok, Err, Vec, codes}
 use Rattle.ant_base.specs.Fetched.{Fetched}
 use Rattle.ant_base.specs.FaultText.{fetch_fault_text}
@@ -50,9 +51,13 @@ IsNamed name (Err stop) (Err refusal) = (refusal.name.now ≡ name) × (refusal.
 IsNamed name opened result = ⊥
 
 -- what comes of a file: it was not fetched, or its bytes were opened
-pub data ReadsFile {V : Type 0} (Is : List ℕ → V → Type 0) (Wrong : List ℕ → TextFault → Type 0) (log new_log : List Fetched) (name : List ℕ) : Result V Refusal → Type 0 where
-  Unfetched : (refusal : Refusal) → IsUnfetched log new_log name refusal → ReadsFile Is Wrong log new_log name (Err refusal)
-  Opened : (bytes : List ℕ) (opened : Result V TextStop) (result : Result V Refusal) → IsFetched log new_log name (Ok bytes) → Opens Is Wrong bytes opened → IsNamed name opened result → ReadsFile Is Wrong log new_log name result
+pub data ReadsFile {V : Type 0} (Is : List ℕ → V → Type 0) (Wrong : List ℕ → TextFault → Type 0)
+    (log new_log : List Fetched) (name : List ℕ) : Result V Refusal → Type 0 where
+  Unfetched : (refusal : Refusal) → IsUnfetched log new_log name refusal
+      → ReadsFile Is Wrong log new_log name (Err refusal)
+  Opened : (bytes : List ℕ) (opened : Result V TextStop) (result : Result V Refusal)
+      → IsFetched log new_log name (Ok bytes) → Opens Is Wrong bytes opened → IsNamed name opened result
+      → ReadsFile Is Wrong log new_log name result
 
 -- of the file of a world, and of a brain
 abbrev pub ReadsWorld : List Fetched → List Fetched → List ℕ → Result Grid Refusal → Type 0

@@ -16,17 +16,24 @@ use Rattle.sample_caller.specs.Files.{ReadsBrain, ReadsWorld, refusal_text}
 abbrev pub sample_seed : ℕ
 sample_seed = 12345
 
--- what comes of a game of the files of a world, a red brain and a black one: they are fetched and read in this order, each only where those
--- before it were opened. The first that is refused ends it; else the score is that of the world after so many rounds by the contest's rules
-pub data PlaysFiles (log new_log : List Fetched) (world red black : List ℕ) (rounds : ℕ) : Result Score Refusal → Type 0 where
-  WorldRefused : (refusal : Refusal) → ReadsWorld log new_log world (Err refusal) → PlaysFiles log new_log world red black rounds (Err refusal)
+-- what comes of a game of the files of a world, a red brain and a black one: they are fetched and read in this order,
+-- each only where those before it were opened. The first that is refused ends it; else the score is that of the world
+-- after so many rounds by the contest's rules
+pub data PlaysFiles (log new_log : List Fetched) (world red black : List ℕ)
+    (rounds : ℕ) : Result Score Refusal → Type 0 where
+  WorldRefused : (refusal : Refusal) → ReadsWorld log new_log world (Err refusal)
+      → PlaysFiles log new_log world red black rounds (Err refusal)
   RedRefused : (log_red : List Fetched) (grid : Grid) (refusal : Refusal) → ReadsWorld log log_red world (Ok grid)
       → ReadsBrain log_red new_log red (Err refusal) → PlaysFiles log new_log world red black rounds (Err refusal)
-  BlackRefused : (log_red log_black : List Fetched) (grid : Grid) (first : List Instr) (refusal : Refusal) → ReadsWorld log log_red world (Ok grid)
-      → ReadsBrain log_red log_black red (Ok first) → ReadsBrain log_black new_log black (Err refusal) → PlaysFiles log new_log world red black rounds (Err refusal)
-  Played : (log_red log_black : List Fetched) (grid : Grid) (first second : List Instr) (score : Score) → ReadsWorld log log_red world (Ok grid)
+  BlackRefused : (log_red log_black : List Fetched) (grid : Grid) (first : List Instr) (refusal : Refusal)
+      → ReadsWorld log log_red world (Ok grid)
+      → ReadsBrain log_red log_black red (Ok first) → ReadsBrain log_black new_log black (Err refusal)
+      → PlaysFiles log new_log world red black rounds (Err refusal)
+  Played : (log_red log_black : List Fetched) (grid : Grid) (first second : List Instr) (score : Score)
+      → ReadsWorld log log_red world (Ok grid)
       → ReadsBrain log_red log_black red (Ok first) → ReadsBrain log_black new_log black (Ok second)
-      → score ≡ score_of (world_after (contest_minds first second) sample_seed (world_of grid) rounds) → PlaysFiles log new_log world red black rounds (Ok score)
+      → score ≡ score_of (world_after (contest_minds first second) sample_seed (world_of grid) rounds)
+      → PlaysFiles log new_log world red black rounds (Ok score)
 
 -- what is printed of it: the score, or the line of the file that was refused
 abbrev pub outcome_text : Result Score Refusal → List ℕ

@@ -25,4 +25,5 @@ MeetsNone test n = (round : ℕ) → 1 ≤ round → round ≤ n → test round 
 -- the first of the rounds from 1 to the last that meets a test, or that there is none
 abbrev pub IsFirstRound : (ℕ → Bool) → ℕ → Option ℕ → Type 0
 IsFirstRound test last None = MeetsNone test last
-IsFirstRound test last (Some first) = (1 ≤ first) × (first ≤ last) × (test first ≡ true) × ((round : ℕ) → 1 ≤ round → round < first → test round ≡ false)
+IsFirstRound test last (Some first) =
+    (1 ≤ first) × (first ≤ last) × (test first ≡ true) × ((round : ℕ) → 1 ≤ round → round < first → test round ≡ false)

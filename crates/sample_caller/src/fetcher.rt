@@ -36,7 +36,8 @@ const FETCHER: [Instr; 6] = [
     Instr::Move { yes: 0, no: 4 },
 ];
 
-/// A brain of six states, which takes food and brings it home where the way is a corridor. It is refused only when out of memory.
+/// A brain of six states, which takes food and brings it home where the way is a corridor. It is refused only when out
+/// of memory.
 pub fn fetcher(alloc: Global) -> Result<Brain, OutOfMemory>
     ensures { IfOk result (λ brain. brain ≡ fetcher) }
 {
@@ -52,8 +53,9 @@ pub fn small_fetcher(alloc: Global) -> Result<Minimised, OutOfMemory>
     minimise(alloc, &brain)
 }
 
-/// The score after so many rounds, at most 1,000,000, by the contest's rules and with seed 12345, where both sides play by this minimised
-/// fetcher: it is that of the game where both play by the fetcher itself. The world is one with which a game begins. It takes no memory.
+/// The score after so many rounds, at most 1,000,000, by the contest's rules and with seed 12345, where both sides play
+/// by this minimised fetcher: it is that of the game where both play by the fetcher itself. The world is one with which
+/// a game begins. It takes no memory.
 pub fn play_fetchers(small: &Minimised, world: World, rounds: u32) -> Score
     requires minimised { IsMinimised fetcher small.now.brain small.now.map }
     requires opening { IsOpeningWorld world }

@@ -31,7 +31,8 @@ fn named<'n, T>(name: &'n str, opened: Result<T, TextStop>) -> Result<T, Refusal
     })
 }
 
-/// The world of a file, which is fetched once. It is refused where the file wasn't fetched, and where its bytes are those of no world.
+/// The world of a file, which is fetched once. It is refused where the file wasn't fetched, and where its bytes are
+/// those of no world.
 pub fn world_in<'n, S: Shelf>(
     alloc: Global,
     shelf: &mut S,
@@ -43,7 +44,8 @@ pub fn world_in<'n, S: Shelf>(
     named(name, open_world(alloc, &bytes))
 }
 
-/// The brain of a file, which is fetched once. It is refused where the file wasn't fetched, and where its bytes are those of no brain.
+/// The brain of a file, which is fetched once. It is refused where the file wasn't fetched, and where its bytes are
+/// those of no brain.
 pub fn brain_in<'n, S: Shelf>(
     alloc: Global,
     shelf: &mut S,

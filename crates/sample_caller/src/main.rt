@@ -1,8 +1,10 @@
-//! Callers of the library, a page each: a game of three files, a brain that is made of instructions, and a look at the world after each round.
+//! Callers of the library, a page each: a game of three files, a brain that is made of instructions, and a look at the
+//! world after each round.
 //!
-//! The words are those of some games, `WORLD RED BLACK ROUNDS` of each. The program prints the score of each game, or which file was refused and
-//! why; and then what the two other callers come to, which need no file. What they promise are the clauses of [`play`], [`play_fetchers`]
-//! and [`first_laden`], in the words of the crates that they stand on. It is this project's own.
+//! The words are those of some games, `WORLD RED BLACK ROUNDS` of each. The program prints the score of each game, or
+//! which file was refused and why; and then what the two other callers come to, which need no file. What they promise
+//! are the clauses of [`play`], [`play_fetchers`] and [`first_laden`], in the words of the crates that they stand on.
+//! It is this project's own.
 #![tactic(auto)]
 
 mod fetcher;

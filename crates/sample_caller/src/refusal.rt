@@ -11,7 +11,8 @@ pub enum FileFault {
     Text(TextStop),
 }
 
-/// A file that was refused: its name, and what is wrong with it. Its text is the name, a colon, and the fault's own words.
+/// A file that was refused: its name, and what is wrong with it. Its text is the name, a colon, and the fault's own
+/// words.
 #[derive(Clone, Copy, Debug)]
 pub struct Refusal<'n> {
     /// The name of the file.

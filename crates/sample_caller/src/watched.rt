@@ -30,9 +30,9 @@ fn is_laden(world: &World, id: u32) -> bool
     }
 }
 
-/// The first of so many rounds, at most 1,000,000, after which the ant of this id, counted from 0, carries food; None where it carries none
-/// after any of them, as where it was never made. Rounds are counted from 1. The game is that of seed 12345, and the world one with which a
-/// game begins. It is refused only when out of memory.
+/// The first of so many rounds, at most 1,000,000, after which the ant of this id, counted from 0, carries food; None
+/// where it carries none after any of them, as where it was never made. Rounds are counted from 1. The game is that of
+/// seed 12345, and the world one with which a game begins. It is refused only when out of memory.
 pub fn first_laden(
     alloc: Global,
     world: World,

@@ -1,4 +1,5 @@
--- Looks at PickUp, Unmark, Turn and Mark, at an ant that rests before its Mark, and guesses of a window that begins later, worked out.
+-- Looks at PickUp, Unmark, Turn and Mark, at an ant that rests before its Mark, and guesses of a window that begins
+-- later, worked out.
 use Rattle.std.proofs.Common.{◌≡◌, ℕ, [], ◌∷◌, refl}
 use Rattle.hex_geometry.specs.Direction.{directions}
 use Rattle.hex_geometry.specs.Neighbourhood.{adjacent_pos, neighbours_of}

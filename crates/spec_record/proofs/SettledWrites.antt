@@ -1,4 +1,5 @@
--- The writes of a look that holds may be set one after another: first those that don't raise the weight of their cell, then the others.
+-- The writes of a look that holds may be set one after another: first those that don't raise the weight of their cell,
+-- then the others.
 use Rattle.std.proofs.Common.{◌≡◌, ◌≢◌, inl, inr, ℕ, ◌≤◌, true, false, nat_lt, List, [], ◌∷◌, refl, sym, ◌∙◌, ap, subst, arith}
 use Rattle.std.specs.List.{AllByRecursion}
 use Rattle.std.proofs.Math.Path.{fun_ext}
@@ -78,7 +79,8 @@ lighter_can w room wanted write left valid eases light =
       can_set = subst (λ c. CanSet w room (seen_place write) c) (sym eases.makes.makes) (CanSet-replaces w room (seen_place write) (wanted (seen_place write)) valid left eases.clear (eases.replaces wanted_light) eases.six);
     }
 
--- what comes of the writes that don't raise their cell's weight: each of these cells is as wanted, and all others are as they were
+-- what comes of the writes that don't raise their cell's weight: each of these cells is as wanted, and all others are
+-- as they were
 pub record Eased (w : World) (wanted : Cells) (writes : List Sighting) (now : World) : Type 0 where
   pub valid : Valid now
   pub sizes : with_cells now w.cells ≡ w
@@ -190,7 +192,8 @@ heavier_one room q (write ∷ writes) w once light can =
       )
     ]
 
--- what comes of the writes that raise their cell's weight: each of these cells is as wanted, and all others are as they were
+-- what comes of the writes that raise their cell's weight: each of these cells is as wanted, and all others are as they
+-- were
 record Raised (w : World) (wanted : Cells) (writes : List Sighting) (now : World) : Type 0 where
   sizes : with_cells now w.cells ≡ w
   others : (p : Pos) → AllByRecursion (λ q. q ≢ p) (seen_positions writes) → now.cells p ≡ w.cells p

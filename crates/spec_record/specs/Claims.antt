@@ -19,7 +19,8 @@ claim p parts = record { at = p; parts = parts }
 -- one claim more: where the position is claimed already the parts go there, else it comes last
 abbrev pub with_claim : List Claim → Claim → List Claim
 with_claim [] new = new ∷ []
-with_claim (old ∷ claims) new = if same_pos old.at new.at then claim old.at (union old.parts new.parts) ∷ claims else old ∷ with_claim claims new
+with_claim (old ∷ claims) new =
+    if same_pos old.at new.at then claim old.at (union old.parts new.parts) ∷ claims else old ∷ with_claim claims new
 
 -- these claims, and then more
 abbrev pub merged_onto : List Claim → List Claim → List Claim

@@ -9,8 +9,8 @@ use Rattle.spec_record.specs.Guess.{flips}
 use Rattle.spec_record.specs.Look.{LookValue}
 use Rattle.spec_record.specs.Reads.{reads}
 
--- a look at turn t on the base holds in the world of now at this place: base and now are equal in every part that the turn reads in the
--- base, and where it executes a Flip there, the place is the guess
+-- a look at turn t on the base holds in the world of now at this place: base and now are equal in every part that the
+-- turn reads in the base, and where it executes a Flip there, the place is the guess
 pub record Holds (minds : Minds) (base : World) (guess : ℕ) (now : World) (place t : ℕ) : Type 0 where
   pub unchanged : AllByRecursion (λ read. Agree read.parts (base.cells read.at) (now.cells read.at)) (reads minds base t)
   pub guessed : flips minds base t ≡ true → place ≡ guess

@@ -19,10 +19,12 @@ use Rattle.spec_record.specs.Writes.{writes}
 
 -- merged claims have each position once, with all parts that are claimed there
 abbrev pub LooksAreMerged : Type 0
-LooksAreMerged = (claims : List Claim) → AllPairs ◌≢◌ (map (λ c. c.at) (merged claims)) × ((p : Pos) → parts_at (merged claims) p ≡ parts_at claims p)
+LooksAreMerged =
+    (claims : List Claim)
+    → AllPairs ◌≢◌ (map (λ c. c.at) (merged claims)) × ((p : Pos) → parts_at (merged claims) p ≡ parts_at claims p)
 
--- the world `now` goes on from a base, as far as the turn of id t depends on it: it has the same sizes, rocks and hills, the ant is dead
--- in it if it was dead in the base, and it is on no two cells
+-- the world `now` goes on from a base, as far as the turn of id t depends on it: it has the same sizes, rocks and
+-- hills, the ant is dead in it if it was dead in the base, and it is on no two cells
 pub record GoesOn (base now : World) (t : ℕ) : Type 0 where
   pub width : now.width ≡ base.width
   pub height : now.height ≡ base.height
@@ -31,7 +33,8 @@ pub record GoesOn (base now : World) (t : ℕ) : Type 0 where
   pub dead : place_in base t ≡ None → place_in now t ≡ None
   pub once : (p q : Pos) → holds_id t (now.cells p) ≡ true → holds_id t (now.cells q) ≡ true → p ≡ q
 
--- both are worlds that the brains fit, of the same sizes, number of ids, rocks and hills, and who is dead in the base is dead in `now`
+-- both are worlds that the brains fit, of the same sizes, number of ids, rocks and hills, and who is dead in the base
+-- is dead in `now`
 pub record IsLater (minds : Minds) (base now : World) : Type 0 where
   pub valid_base : Valid base
   pub valid : Valid now
@@ -50,22 +53,29 @@ pub record IsLookedAt (look : LookValue) (cells : Cells) (outcome : Outcome) : T
   pub drew : outcome.drew ≡ look.drew
   pub killed : outcome.killed ≡ look.killed
   -- each part that it writes is as in the look
-  pub written : AllByRecursion (λ write. Agree (seen_parts write) (outcome.cells (seen_place write)) (seen_cell write)) look.writes
+  pub written :
+      AllByRecursion (λ write. Agree (seen_parts write) (outcome.cells (seen_place write)) (seen_cell write))
+      look.writes
   -- every part that it doesn't write stays, with the ground and the hill of each cell
-  pub others : (p : Pos) (k : Part) → AllByRecursion (λ write. seen_place write ≡ p → has_part (seen_parts write) k ≡ false) look.writes →
+  pub others : (p : Pos) (k : Part)
+      → AllByRecursion (λ write. seen_place write ≡ p → has_part (seen_parts write) k ≡ false) look.writes →
       Alike k (outcome.cells p) (cells p)
   pub rocks : (p : Pos) → (outcome.cells p).rocky ≡ (cells p).rocky
   pub hills : (p : Pos) → (outcome.cells p).hill ≡ (cells p).hill
 
--- a turn depends on no more than what a look at it in a base reads: where that is the same, and the random number too if it draws one, the
--- turn is what was looked at
+-- a turn depends on no more than what a look at it in a base reads: where that is the same, and the random number too
+-- if it draws one, the turn is what was looked at
 abbrev pub TurnsAreLocal : Type 0
-TurnsAreLocal = (minds : Minds) (seed : ℕ) (base : World) (guess : ℕ) (now : World) (place t : ℕ) → IsLater minds base now → Holds minds base guess now place t →
+TurnsAreLocal =
+    (minds : Minds) (seed : ℕ) (base : World) (guess : ℕ) (now : World) (place t : ℕ) → IsLater minds base now
+    → Holds minds base guess now place t →
     IsLookedAt (look_of minds seed base guess t) now.cells (turn minds seed now place t)
 
 -- the same, from no more premises than are needed
 abbrev pub TurnsAreLocalAlone : Type 0
-TurnsAreLocalAlone = (minds : Minds) (seed : ℕ) (base : World) (guess : ℕ) (now : World) (place t : ℕ) → GoesOn base now t → Holds minds base guess now place t →
+TurnsAreLocalAlone =
+    (minds : Minds) (seed : ℕ) (base : World) (guess : ℕ) (now : World) (place t : ℕ) → GoesOn base now t
+    → Holds minds base guess now place t →
     IsLookedAt (look_of minds seed base guess t) now.cells (turn minds seed now place t)
 
 -- the outcome that a look gives in these cells: its writes are set, and it draws and kills as it did
@@ -74,7 +84,9 @@ outcome_by look cells = record { cells = patched_cells cells look.writes; drew =
 
 -- such a turn is made by setting the writes of the look
 abbrev pub TurnsArePatches : Type 0
-TurnsArePatches = (minds : Minds) (seed : ℕ) (base : World) (guess : ℕ) (now : World) (place t : ℕ) → GoesOn base now t → Holds minds base guess now place t →
+TurnsArePatches =
+    (minds : Minds) (seed : ℕ) (base : World) (guess : ℕ) (now : World) (place t : ℕ) → GoesOn base now t
+    → Holds minds base guess now place t →
     turn minds seed now place t ≡ outcome_by (look_of minds seed base guess t) now.cells
 
 -- a look in hand that holds tells what its turn does
@@ -95,16 +107,19 @@ TurnsWriteAlone = (minds : Minds) (seed : ℕ) (w : World) (place t : ℕ) → V
 
 -- a turn reads at most 19 positions and writes at most 7
 abbrev pub TurnsAreSmall : Type 0
-TurnsAreSmall = (minds : Minds) (w : World) (t : ℕ) → Valid w → (length (reads minds w t) ≤ 19) × (length (writes minds w t) ≤ 7)
+TurnsAreSmall =
+    (minds : Minds) (w : World) (t : ℕ) → Valid w → (length (reads minds w t) ≤ 19) × (length (writes minds w t) ≤ 7)
 
 -- a turn draws a random number exactly where its ant is alive, not resting and at a Flip
 abbrev pub TurnsDrawAtFlips : Type 0
-TurnsDrawAtFlips = (minds : Minds) (seed : ℕ) (w : World) (place t : ℕ) → (turn minds seed w place t).drew ≡ flips minds w t
+TurnsDrawAtFlips =
+    (minds : Minds) (seed : ℕ) (w : World) (place t : ℕ) → (turn minds seed w place t).drew ≡ flips minds w t
 
--- the writes of a look that holds may be set in `now`, first those that don't raise the weight of their cell and then the others, and that
--- makes the turn
+-- the writes of a look that holds may be set in `now`, first those that don't raise the weight of their cell and then
+-- the others, and that makes the turn
 abbrev pub LooksSettle : Type 0
 LooksSettle = (minds : Minds) (seed : ℕ) (base : World) (guess : ℕ) (now : World) (place t room : ℕ) →
     AreSound minds → IsLater minds base now → Holds minds base guess now place t → 1 ≤ room →
     let written = (look_of minds seed base guess t).writes in
-    CanSetWrites now room written × (after_heavier (after_lighter now written) written ≡ with_cells now (turn minds seed now place t).cells)
+    CanSetWrites now room written
+    × (after_heavier (after_lighter now written) written ≡ with_cells now (turn minds seed now place t).cells)

@@ -23,11 +23,20 @@ pub record IsListedOnce (seen left : List Sighting) : Type 0 where
 
 -- the look of an outcome: what is read as it was, what is written as it is then
 abbrev pub look_with : ℕ → ℕ → Outcome → List Sighting → List Sighting → LookValue
-look_with t guess outcome seen left = record { turn = t; guess = guess; drew = outcome.drew; reads = seen; writes = left; killed = outcome.killed }
+look_with t guess outcome seen left = record {
+  turn = t;
+  guess = guess;
+  drew = outcome.drew;
+  reads = seen;
+  writes = left;
+  killed = outcome.killed;
+}
 
--- the look at the turn of id t on a base, its random number guessed at this place: whether it draws and whom it kills, the positions that
--- it reads with their parts and their cells in the base, and the positions that it writes with their parts and their cells after the turn
+-- the look at the turn of id t on a base, its random number guessed at this place: whether it draws and whom it kills,
+-- the positions that it reads with their parts and their cells in the base, and the positions that it writes with their
+-- parts and their cells after the turn
 unfoldable pub look_of : Minds → ℕ → World → ℕ → ℕ → LookValue
 look_of minds seed base guess t =
     let outcome = turn minds seed base guess t in
-    look_with t guess outcome (with_cells_at base.cells (reads minds base t)) (with_cells_at outcome.cells (writes minds base t))
+    look_with t guess outcome (with_cells_at base.cells (reads minds base t))
+    (with_cells_at outcome.cells (writes minds base t))

@@ -62,12 +62,14 @@ after_heavier w (write ∷ writes) = after_heavier (with_heavier w write) writes
 -- those writes that don't raise their cell's weight may be set, one after another
 abbrev pub CanSetLighter : World → ℕ → List Sighting → Type 0
 CanSetLighter w room [] = ⊤
-CanSetLighter w room (write ∷ writes) = (raises w.cells write ≡ false → CanWrite w room write) × CanSetLighter (with_lighter w write) room writes
+CanSetLighter w room (write ∷ writes) =
+    (raises w.cells write ≡ false → CanWrite w room write) × CanSetLighter (with_lighter w write) room writes
 
 -- and those that do
 abbrev pub CanSetHeavier : World → ℕ → List Sighting → Type 0
 CanSetHeavier w room [] = ⊤
-CanSetHeavier w room (write ∷ writes) = (raises w.cells write ≡ true → CanWrite w room write) × CanSetHeavier (with_heavier w write) room writes
+CanSetHeavier w room (write ∷ writes) =
+    (raises w.cells write ≡ true → CanWrite w room write) × CanSetHeavier (with_heavier w write) room writes
 
 -- all writes may be set: first those that don't raise their cell's weight, then the others
 pub record CanSetWrites (w : World) (room : ℕ) (writes : List Sighting) : Type 0 where

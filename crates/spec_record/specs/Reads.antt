@@ -56,7 +56,8 @@ asked FoeHome colour = no_parts
 -- the cells whose ants are killed by checks of cells in order, in that order
 abbrev pub emptied : Sheet → Cells → List Pos → List Pos
 emptied sheet cells [] = []
-emptied sheet cells (p ∷ places) = (if is_surrounded sheet cells p then p ∷ [] else []) ++ emptied sheet (check_at sheet cells p) places
+emptied sheet cells (p ∷ places) =
+    (if is_surrounded sheet cells p then p ∷ [] else []) ++ emptied sheet (check_at sheet cells p) places
 
 -- the neighbours of a cell that holds an ant; of another none
 abbrev pub neighbours_if_manned : Cells → Pos → List Pos
@@ -66,7 +67,8 @@ neighbours_if_manned cells p = if has_ant (cells p).ant then neighbours_of p els
 abbrev pub seen_around : Cells → Pos → List Pos
 seen_around cells q = places_around q ++ flat_map (neighbours_if_manned cells) (neighbours_of q)
 
--- what the ant of p reads besides when it goes to q: what it carries, whose ants decide the checks, and what the killed leave
+-- what the ant of p reads besides when it goes to q: what it carries, whose ants decide the checks, and what the killed
+-- leave
 abbrev pub reads_going : Sheet → Cells → Pos → Ant → Pos → ℕ → List Claim
 reads_going sheet cells p ant q next =
     let after = stepped sheet cells p ant q next in
@@ -76,7 +78,8 @@ reads_going sheet cells p ant q next =
 
 -- what the ant of p reads besides by its instruction
 abbrev pub reads_besides : Sheet → Cells → Pos → Ant → Instr → List Claim
-reads_besides sheet cells p ant (Sense sight met unmet condition) = claim (sensed_pos p ant.facing sight) (asked condition ant.colour) ∷ []
+reads_besides sheet cells p ant (Sense sight met unmet condition) =
+    claim (sensed_pos p ant.facing sight) (asked condition ant.colour) ∷ []
 reads_besides sheet cells p ant (Mark i next) = claim p (only (marks_part ant.colour)) ∷ []
 reads_besides sheet cells p ant (Unmark i next) = claim p (only (marks_part ant.colour)) ∷ []
 reads_besides sheet cells p ant (PickUp met unmet) = claim p load_and_food ∷ []
@@ -91,7 +94,8 @@ reads_besides sheet cells p ant (Flip bound met unmet) = []
 
 -- what an ant reads besides its own cell: nothing while it rests
 abbrev pub reads_acting : ℕ → Minds → Cells → Pos → Ant → List Claim
-reads_acting zero minds cells p ant = reads_besides minds.sheet cells p ant (instruction_at (mind_of minds ant.colour) ant.state)
+reads_acting zero minds cells p ant =
+    reads_besides minds.sheet cells p ant (instruction_at (mind_of minds ant.colour) ant.state)
 reads_acting (suc left) minds cells p ant = []
 
 -- what the ant of p reads, if there is one: who it is and what it is about, and what its turn reads besides

@@ -15,8 +15,9 @@ use Rattle.spec_record.specs.Reads.{reads}
 abbrev pub SameAt : Cells → Cells → List Claim → Type 0
 SameAt v w claims = AllByRecursion (λ p. v p ≡ w p) (map (λ c. c.at) claims)
 
--- as far as a look at turn t goes, one of these brains on v is the same as one of the others on w: the rules are; who is dead in v is dead in
--- w; the cells that the turn reads in v are the same in w; and an ant that is alive has the same instruction
+-- as far as a look at turn t goes, one of these brains on v is the same as one of the others on w: the rules are; who
+-- is dead in v is dead in w; the cells that the turn reads in v are the same in w; and an ant that is alive has the
+-- same instruction
 pub record SameForLook (minds others : Minds) (v w : World) (t : ℕ) : Type 0 where
   pub valid : Valid w
   pub sheet : others.sheet ≡ minds.sheet
@@ -25,7 +26,9 @@ pub record SameForLook (minds others : Minds) (v w : World) (t : ℕ) : Type 0 w
   pub instruction : (p : Pos) (ant : Ant) → place_in v t ≡ Some p → (v.cells p).ant ≡ Some ant
       → instruction_at (mind_of others ant.colour) ant.state ≡ instruction_at (mind_of minds ant.colour) ant.state
 
--- then the looks are the same: what they read and write, whom they kill, and whether they draw. Nothing is asked of the rest of the worlds, of
--- their sizes, or of the other instructions
+-- then the looks are the same: what they read and write, whom they kill, and whether they draw. Nothing is asked of the
+-- rest of the worlds, of their sizes, or of the other instructions
 abbrev pub LooksAgree : Type 0
-LooksAgree = (minds others : Minds) (seed : ℕ) (v w : World) (guess t : ℕ) → SameForLook minds others v w t → look_of others seed w guess t ≡ look_of minds seed v guess t
+LooksAgree =
+    (minds others : Minds) (seed : ℕ) (v w : World) (guess t : ℕ) → SameForLook minds others v w t
+    → look_of others seed w guess t ≡ look_of minds seed v guess t

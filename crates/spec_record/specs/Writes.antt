@@ -35,7 +35,8 @@ writes_besides sheet cells p ant (Flip bound met unmet) = []
 
 -- what an ant writes besides its own state, resting count and direction: nothing while it rests
 abbrev pub writes_acting : ℕ → Minds → Cells → Pos → Ant → List Claim
-writes_acting zero minds cells p ant = writes_besides minds.sheet cells p ant (instruction_at (mind_of minds ant.colour) ant.state)
+writes_acting zero minds cells p ant =
+    writes_besides minds.sheet cells p ant (instruction_at (mind_of minds ant.colour) ant.state)
 writes_acting (suc left) minds cells p ant = []
 
 -- what the ant of p writes, if there is one

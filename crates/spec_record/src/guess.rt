@@ -29,11 +29,11 @@ pub fn at_flip(base: &World, brains: Brains<'_>, id: u32) -> bool
     acts(&ant) && is_flip(instruction(brains, &ant))
 }
 
-/// The guess of each turn from `from` to `to - 1`, in order: at which random number the turn stands if each turn before it draws as it
-/// would in the base.
+/// The guess of each turn from `from` to `to - 1`, in order: at which random number the turn stands if each turn before
+/// it draws as it would in the base.
 ///
-/// Each ant's state is below the length of its colour's brain, `from` is at most `to`, `to` at most the number of ids, and place + to -
-/// from is below 2^63. The one refusal is out of memory.
+/// Each ant's state is below the length of its colour's brain, `from` is at most `to`, `to` at most the number of ids,
+/// and place + to - from is below 2^63. The one refusal is out of memory.
 pub fn guesses(
     alloc: Global,
     base: &World,
@@ -57,11 +57,11 @@ pub fn guesses(
     Ok(all)
 }
 
-/// The guess of turn `t` alone: at which random number it stands if each turn from `from` on before it draws as it would in the base.
-/// Whoever looks at the turns from `t` on begins there. It takes no memory.
+/// The guess of turn `t` alone: at which random number it stands if each turn from `from` on before it draws as it
+/// would in the base. Whoever looks at the turns from `t` on begins there. It takes no memory.
 ///
-/// Each ant's state is below the length of its colour's brain, `from` is at most `t`, `t` at most the number of ids, and place + t - from
-/// is below 2^63.
+/// Each ant's state is below the length of its colour's brain, `from` is at most `t`, `t` at most the number of ids,
+/// and place + t - from is below 2^63.
 pub fn guess_at(base: &World, brains: Brains<'_>, place: u64, from: u32, t: u32) -> u64
     requires fit { Fits (world_of base.now) (minds_of brains) }
     requires order { from ≤ t }

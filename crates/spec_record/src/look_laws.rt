@@ -13,71 +13,76 @@ ghost use Rattle.spec_record.specs.Locality.{
 ghost use Rattle.spec_record.specs.SameLooks.{LooksAgree};
 ghost use Rattle.spec_record.specs.Places.{PlacesCountFlips};
 
-/// A look names each position once, with all parts that the turn reads or writes there. The call does nothing: its clause is the law.
+/// A look names each position once, with all parts that the turn reads or writes there. The call does nothing: its
+/// clause is the law.
 pub fn looks_are_merged()
     ensures { LooksAreMerged }
 {}
 
-/// The law of locality: what a turn reads is all that it depends on. Where a world `now` is the same as an earlier base in every part that
-/// the turn reads there, and the random number is at the same place if the turn draws one, the turn in `now` draws and kills as on the base
-/// and leaves in each part that it writes what it leaves there; every other part of every cell of `now` stays as it is. Both are worlds
-/// that the brains fit, of the same sizes, number of ids, rocks and hills, and who is dead in the base is dead in `now`. The call does
-/// nothing: its clause is the law.
+/// The law of locality: a turn depends on nothing except what it reads. Take a base and a later world `now` that agree
+/// in every part that the turn reads, with the random number at the same place if the turn draws one. Then the turn in
+/// `now` draws and kills as on the base. In each part that it writes it leaves what it leaves there on the base, and
+/// every other part of every cell of `now` stays unchanged. The brains fit both worlds, which have the same sizes,
+/// number of ids, rocks and hills, and an ant that is dead in the base is dead in `now`. The call does nothing: its
+/// clause is the law.
 pub fn turns_are_local()
     ensures { TurnsAreLocal }
 {}
 
-/// The law of locality from no more premises than it needs: `now` has the sizes, rocks and hills of the base; the ant whose turn it is is
-/// dead in it where it is in the base, and on no two cells. The call does nothing: its clause is the law.
+/// The law of locality with the weakest premises: `now` has the sizes, rocks and hills of the base; if the ant whose
+/// turn it is is dead in the base, it is dead in `now`; and it is on no two cells. The call does nothing: its clause is
+/// the law.
 pub fn turns_are_local_alone()
     ensures { TurnsAreLocalAlone }
 {}
 
-/// The law of locality as one equation: the outcome of the turn in `now` is made by setting the writes of the look, each the named parts of
-/// its cell, in the cells of `now`, and it draws and kills as the look says. The call does nothing: its clause is the law.
+/// The law of locality as one equation: the outcome of the turn in `now` is made by setting the writes of the look,
+/// each the named parts of its cell, in the cells of `now`, and it draws and kills as the look says. The call does
+/// nothing: its clause is the law.
 pub fn turns_are_patches()
     ensures { TurnsArePatches }
 {}
 
-/// A look in hand that holds tells what its turn does: where each read cell is the same in the parts that were read and, if the turn draws,
-/// the random number is at the guess, the turn's outcome is made of the look alone. The call does nothing: its clause is the law.
+/// A look in hand that holds tells what its turn does: where each read cell is the same in the parts that were read
+/// and, if the turn draws, the random number is at the guess, the turn's outcome is made of the look alone. The call
+/// does nothing: its clause is the law.
 pub fn looks_tell()
     ensures { LooksTell }
 {}
 
-/// The writes of a look that holds may be set one after another, first those that don't raise the weight of their cell and then the others,
-/// and that makes the turn. The call does nothing: its clause is the law.
+/// The writes of a look that holds may be set one after another, first those that don't raise the weight of their cell
+/// and then the others, and that makes the turn. The call does nothing: its clause is the law.
 pub fn looks_settle()
     ensures { LooksSettle }
 {}
 
-/// A turn changes no part of a cell but those that it writes, and no ground or hill (the task's kinetics). The call does nothing: its
-/// clause is the law.
+/// A turn changes no part of a cell but those that it writes, and no ground or hill (the task's kinetics). The call
+/// does nothing: its clause is the law.
 pub fn turns_write_alone()
     ensures { TurnsWriteAlone }
 {}
 
-/// A turn reads at most 19 positions and writes at most 7 (the task's martial arts: the six around the cell that is entered, and the six
-/// around each of them). The call does nothing: its clause is the law.
+/// A turn reads at most 19 positions and writes at most 7 (the task's martial arts: the six around the cell that is
+/// entered, and the six around each of them). The call does nothing: its clause is the law.
 pub fn turns_are_small()
     ensures { TurnsAreSmall }
 {}
 
-/// A turn draws a random number exactly where its ant is alive, doesn't rest and is at a Flip (the task's kinetics). The call does nothing:
-/// its clause is the law.
+/// A turn draws a random number if its ant is alive, doesn't rest and is at a Flip, and in no other case (the task's
+/// kinetics). The call does nothing: its clause is the law.
 pub fn turns_draw_at_flips()
     ensures { TurnsDrawAtFlips }
 {}
 
-/// After any turns or rounds the place in the stream is the one before and one more for each Flip that was executed (the task's number
-/// generation). The call does nothing: its clause is the law.
+/// After any turns or rounds the place in the stream is the one before and one more for each Flip that was executed
+/// (the task's number generation). The call does nothing: its clause is the law.
 pub fn places_count_flips()
     ensures { PlacesCountFlips }
 {}
 
-/// A look depends on what its turn reads and on one instruction alone: on two worlds that hold the same, all of it, at each position that the
-/// turn reads, under the same rules, with the same instruction for its ant, the looks are the same, whatever else the worlds and the brains
-/// have. The call does nothing: its clause is the law.
+/// A look depends on what its turn reads and on one instruction alone: on two worlds that hold the same, all of it, at
+/// each position that the turn reads, under the same rules, with the same instruction for its ant, the looks are the
+/// same, whatever else the worlds and the brains have. The call does nothing: its clause is the law.
 pub fn looks_agree()
     ensures { LooksAgree }
 {}

@@ -27,8 +27,8 @@ pub(crate) struct Step {
     pub(crate) to: Pos,
 }
 
-// Notes that it is read whose ants decide the checks around `q`, when the ant of `p`, which alone is noted, went there. A mark for each cell near
-// `q` tells those that are noted, so that nothing is searched.
+// Notes that it is read whose ants decide the checks around `q`, when the ant of `p`, which alone is noted, went there.
+// A mark for each cell near `q` tells those that are noted, so that nothing is searched.
 #[inline]
 pub(crate) fn note_checks(list: &mut ArrayVec<Sighting, 19>, base: &World, p: Pos, q: Pos)
     requires inner { IsInner base.now.width base.now.height q }
@@ -170,7 +170,8 @@ fn has_ant(cell: &Cell) -> bool
     cell.ant.is_some()
 }
 
-// Notes what is read and written of the killed around the cell to which an ant went, when its turn was executed on the trail.
+// Notes what is read and written of the killed around the cell to which an ant went, when its turn was executed on the
+// trail.
 pub(crate) fn note_fallen(
     reads: &mut ArrayVec<Sighting, 19>,
     writes: &mut ArrayVec<Sighting, 7>,

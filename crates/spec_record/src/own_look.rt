@@ -13,11 +13,13 @@ use ant_random::Stream;
 use ant_turn::Brains;
 use cell_world::World;
 
-/// The look at the turn of the ant of this id in `base`, its random number guessed at a place of the seed's stream: the positions that the
-/// turn reads, each once, with their parts and their cells in `base`; those that it writes, each once, with their parts and their cells
-/// after the turn; whether it draws; and whom it kills. The base stays as it is. It takes no memory.
+/// The look at the turn of the ant of this id in `base`, with its random number guessed at a place of the seed's
+/// stream. It has the positions that the turn reads, each once, with their parts and their cells in `base`; those that
+/// it writes, each once, with their parts and their cells after the turn; whether it draws; and which ants it kills.
+/// The base stays unchanged. It takes no memory.
 ///
-/// Each ant's state is below the length of its colour's brain, the id is below the number of ids, and the guess is below 2^63 - 1.
+/// Each ant's state is below the length of its colour's brain, the id is below the number of ids, and the guess is
+/// below 2^63 - 1.
 pub fn look(base: &World, brains: Brains<'_>, seed: u32, guess: u64, id: u32) -> Look
     requires fit { Fits (world_of base.now) (minds_of brains) }
     requires id { id < base.now.ids }
@@ -30,10 +32,11 @@ pub fn look(base: &World, brains: Brains<'_>, seed: u32, guess: u64, id: u32) ->
     look
 }
 
-/// The same look, its random number guessed at the place of a stream that stands there already. The stream goes on by one number where the
-/// turn draws one, so that looks at one turn after another are made at the guesses. It takes no memory.
+/// The same look, with its random number guessed at the current place of a stream. The stream advances by one number if
+/// the turn draws one, so that looks at consecutive turns are made at their guesses. It takes no memory.
 ///
-/// Each ant's state is below the length of its colour's brain, the id is below the number of ids, and the stream stands below 2^63 - 1.
+/// Each ant's state is below the length of its colour's brain, the id is below the number of ids, and the stream is
+/// below 2^63 - 1.
 #[inline]
 pub fn look_by(base: &World, brains: Brains<'_>, stream: &mut Stream, id: u32) -> Look
     requires fit { Fits (world_of base.now) (minds_of brains) }
@@ -47,10 +50,12 @@ pub fn look_by(base: &World, brains: Brains<'_>, stream: &mut Stream, id: u32) -
     look
 }
 
-/// The same look, put into a list: in place of the look with this number, or behind the last one, where the list has room. The other looks
-/// stay. It takes no memory, so that the looks of one window are made in the rooms of those of another.
+/// The same look, put into a list: it replaces the look with this number, or is added after the last one if the list
+/// has room. The other looks stay. It takes no memory: the looks of one window use the rooms of those of an earlier
+/// one.
 ///
-/// Each ant's state is below the length of its colour's brain, the id is below the number of ids, and the stream stands below 2^63 - 1.
+/// Each ant's state is below the length of its colour's brain, the id is below the number of ids, and the stream is
+/// below 2^63 - 1.
 #[inline]
 pub fn look_into(
     looks: &mut Vec<Look>,
@@ -88,8 +93,8 @@ pub fn look_into(
     }
 }
 
-// A stream of the seed on which the turn of this id draws what it draws at the guess. It stands there only where the turn draws, since
-// the way there is long.
+// A stream of the seed on which the turn of this id draws what it draws at the guess. It stands there only where the
+// turn draws, since the way there is long.
 #[inline]
 fn stream_for(base: &World, brains: Brains<'_>, seed: u32, guess: u64, id: u32) -> Stream
     requires fit { Fits (world_of base.now) (minds_of brains) }

@@ -9,8 +9,8 @@ use std::marker::Model;
 
 mod fill;
 
-/// A position that a turn reads or writes, the parts of its cell that it reads or writes, and the cell: of the base where it is read, after
-/// the turn where it is written.
+/// A position that a turn reads or writes, the parts of its cell that it reads or writes, and the cell: the base's if
+/// it is read, the one after the turn if it is written.
 pub type Sighting = (Pos, Parts, Cell);
 
 /// A look at the turn of one ant.

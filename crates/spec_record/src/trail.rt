@@ -12,8 +12,8 @@ use cell_world::{Cell, Ground, World};
 use hex_geometry::Pos;
 use std::marker::Model;
 
-/// A world on which a turn is tried out: it begins as a world that is lent, which stays as it is, and keeps the cells that are set, at most
-/// 9, in a list.
+/// A world on which a turn is tried out. It starts as a borrowed world, which stays unchanged, and keeps the cells that
+/// are set, at most 9, in a list.
 #[derive(Drop)]
 pub struct Trail<'w> {
     base: &'w World,

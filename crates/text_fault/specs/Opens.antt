@@ -33,8 +33,10 @@ IsProgramOf text made = IsAssembledText text made.brain made.places
 abbrev pub IsSaveWithin : ℕ → List ℕ → SavedValue → Type 0
 IsSaveWithin rounds text saved = IsSaveText text saved × (saved.round ≤ rounds)
 
--- what the opening of a text answers: its value, or a fault for which it is refused; out of memory says nothing of the text
-abbrev pub Opens : {V : Type 0} → (List ℕ → V → Type 0) → (List ℕ → TextFault → Type 0) → List ℕ → Result V TextStop → Type 0
+-- what the opening of a text answers: its value, or a fault for which it is refused; out of memory says nothing of the
+-- text
+abbrev pub Opens : {V : Type 0} → (List ℕ → V → Type 0) → (List ℕ → TextFault → Type 0) → List ℕ → Result V TextStop
+    → Type 0
 Opens Is Wrong text (Ok value) = Gives Is text value
 Opens Is Wrong text (Err OutOfMemory) = Unit {0}
 Opens Is Wrong text (Err (Refused fault)) = IsRefusal Wrong text fault

@@ -10,7 +10,8 @@ use Rattle.text_fault.specs.declared.fault.TextFault.{TextFault}
 use Rattle.text_fault.specs.declared.fault.TextFault.TheVariants.{TooLong, World, Brain, Labelled, Save, AlreadyAt}
 
 -- the fault is one that the text's reader tells
-pub record IsReadersFault {F : Type 0} (wrap : F → TextFault) (IsFault : List ℕ → F → Type 0) (text : List ℕ) (fault : TextFault) : Type 0 where
+pub record IsReadersFault {F : Type 0} (wrap : F → TextFault) (IsFault : List ℕ → F → Type 0) (text : List ℕ)
+    (fault : TextFault) : Type 0 where
   pub why : F
   pub is : IsFault text why
   pub told : fault ≡ wrap why

@@ -8,13 +8,15 @@ use Rattle.text_fault.specs.Opens.{IsProgramOf, IsSaveWithin}
 use Rattle.text_fault.specs.Refusals.{IsNoBrain, IsNoProgram, IsNoSave, IsNoWorld}
 
 -- a text has exactly one value, or exactly one fault, and never both
-pub record HasOneVerdict {V : Type 0} (Is : List ℕ → V → Type 0) (Wrong : List ℕ → TextFault → Type 0) (text : List ℕ) : Type 0 where
+pub record HasOneVerdict {V : Type 0} (Is : List ℕ → V → Type 0) (Wrong : List ℕ → TextFault → Type 0)
+    (text : List ℕ) : Type 0 where
   pub some : ((value : V) × Is text value) ⊎ ((fault : TextFault) × Wrong text fault)
   pub one_value : (a b : V) → Is text a → Is text b → a ≡ b
   pub one_fault : (a b : TextFault) → Wrong text a → Wrong text b → a ≡ b
   pub never_both : (value : V) (fault : TextFault) → Is text value → Wrong text fault → ⊥
 
--- as a world's, a brain's, a labelled program's with its brain or with where its labels and states stand, and as that of a save of which at most so many rounds are done
+-- as a world's, a brain's, a labelled program's with its brain or with where its labels and states stand, and as that
+-- of a save of which at most so many rounds are done
 pub record EveryTextHasOneVerdict : Type 0 where
   pub of_world : (text : List ℕ) → HasOneVerdict OpensAs IsNoWorld text
   pub of_brain : (text : List ℕ) → HasOneVerdict IsBrainText IsNoBrain text

@@ -18,7 +18,7 @@ pub enum TextFault {
     Labelled(AsmFault),
     /// It is no save.
     Save(SaveFault),
-    /// It is a save of which this many rounds are done, more than are to be played in all.
+    /// It is a save with this many rounds done, more than are to be played in all.
     AlreadyAt(u32),
 }
 

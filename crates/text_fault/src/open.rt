@@ -30,7 +30,8 @@ fn check_length(text: &[u8]) -> Result<(), TextStop>
     Ok(())
 }
 
-/// The world of a text, as a game begins with it (the task's world files). Rows and columns of a fault are counted from 0.
+/// The world of a text, as a game begins with it (the task's world files). Rows and columns of a fault are counted from
+/// 0.
 pub fn open_world(alloc: Global, text: &[u8]) -> Result<World, TextStop>
     ensures opening { IfOk result IsOpeningWorld }
     ensures opens { Opens OpensAs IsNoWorld text.now result }
@@ -55,7 +56,8 @@ pub fn open_brain(alloc: Global, text: &[u8]) -> Result<Brain, TextStop>
     }
 }
 
-/// The brain that a labelled program becomes, with the address of each of its instructions. Lines of a fault are counted from 1.
+/// The brain that a labelled program becomes, with the address of each of its instructions. Lines of a fault are
+/// counted from 1.
 pub fn open_program(alloc: Global, text: &[u8]) -> Result<Assembled, TextStop>
     ensures { Opens IsProgramOf IsNoProgram text.now result }
 {
@@ -79,8 +81,8 @@ pub fn open_source(alloc: Global, text: &[u8]) -> Result<Source, TextStop>
     }
 }
 
-/// The save of a text, where at most so many of its rounds are done. Lines of a fault are counted from 1; a save of which more rounds are done
-/// is `AlreadyAt` their number.
+/// The save of a text, with at most this number of rounds done. Lines of a fault are counted from 1. A save with more
+/// rounds done is `AlreadyAt` with their number.
 pub fn open_save(alloc: Global, text: &[u8], rounds: u32) -> Result<Saved, TextStop>
     ensures { Opens (IsSaveWithin rounds) (IsNoSave rounds) text.now result }
 {

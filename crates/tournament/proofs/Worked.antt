@@ -1,4 +1,5 @@
--- Cups, worked out. Two players on one world: a has the number 0 and b the number 1. The game with b as red ends 3 to 0, the other one 0 to 0.
+-- Cups, worked out. Two players on one world: a has the number 0 and b the number 1. The game with b as red ends 3 to
+-- 0, the other one 0 to 0.
 use Rattle.std.proofs.Common.{◌≡◌, ℕ, zero, suc, true, false, ◌==◌, List, [], ◌∷◌, ◌++◌, map, codes, cond, refl, sym, subst, arith, IsPermutation}
 use Rattle.std.specs.Fmt.{digits}
 use Rattle.std.specs.List.{AllAdjacentBelow}
@@ -118,7 +119,8 @@ pub added_by_world : added_up (line_of (world_played false 2 0 two_worlds) 0) (l
 unfolding each_pair_on games_with above line_of
 added_by_world = refl
 
--- a gauntlet of three players on one world: the games of player 0, with player 1 before player 2, and none between these two
+-- a gauntlet of three players on one world: the games of player 0, with player 1 before player 2, and none between
+-- these two
 gauntlet_of_three : games_of true 3 1 ≡ game 0 0 1 ∷ game 0 1 0 ∷ game 0 0 2 ∷ game 0 2 0 ∷ []
 unfolding games_of each_pair_on games_with above
 gauntlet_of_three = refl
@@ -151,7 +153,8 @@ thousand = record { gauntlet = false; leads = false; seeds = record { first = 7;
 thousand_seeds : (world_at thousand.seeds 999 ≡ 0) × (seed_at thousand.seeds 999 ≡ 1006) × (world_at thousand.seeds 1000 ≡ 1) × (seed_at thousand.seeds 1000 ≡ 7) × (world_at thousand.seeds 15999 ≡ 15) × (seed_at thousand.seeds 15999 ≡ 1006)
 thousand_seeds = (refl, refl, refl, refl, refl, refl)
 
--- three players on two worlds with two seeds: world by world, within a world seed by seed, and within a seed pair by pair
+-- three players on two worlds with two seeds: world by world, within a world seed by seed, and within a seed pair by
+-- pair
 three_by_two : games_text wrapped (codes "w" ∷ codes "v" ∷ []) (codes "a" ∷ codes "b" ∷ codes "c" ∷ []) (first_played wrapped (codes "a" ∷ codes "b" ∷ codes "c" ∷ []) 2 (λ world red black. record { red = red; black = world })) 1
     ≡ codes "game 1: red 0 black 0, seed 4294967295, w, a, b\ngame 2: red 1 black 0, seed 4294967295, w, b, a\ngame 3: red 0 black 0, seed 4294967295, w, a, c\n"
     ++ codes "game 4: red 2 black 0, seed 4294967295, w, c, a\ngame 5: red 1 black 0, seed 4294967295, w, b, c\ngame 6: red 2 black 0, seed 4294967295, w, c, b\n"

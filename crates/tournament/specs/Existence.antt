@@ -6,4 +6,6 @@ use Rattle.tournament.specs.declared.standing.Line.{Line}
 
 -- each cup has a standing, whatever its scores are
 abbrev pub HasStanding : Type 0
-HasStanding = (gauntlet : Bool) (players worlds : ℕ) (score : ℕ → ℕ → ℕ → Score) → (lines : List Line) × IsStandingOf gauntlet players worlds score lines
+HasStanding =
+    (gauntlet : Bool) (players worlds : ℕ) (score : ℕ → ℕ → ℕ → Score)
+    → (lines : List Line) × IsStandingOf gauntlet players worlds score lines

@@ -42,7 +42,8 @@ games_of gauntlet players worlds = flat_map (games_on gauntlet players) (below w
 -- the games on some worlds that follow one another: the first of them, and how many they are
 abbrev pub games_between : Bool → ℕ → ℕ → ℕ → List Pairing
 games_between gauntlet players first zero = []
-games_between gauntlet players first (suc count) = games_between gauntlet players first count ++ games_on gauntlet players (first + count)
+games_between gauntlet players first (suc count) =
+    games_between gauntlet players first count ++ games_on gauntlet players (first + count)
 
 -- a game with its score, where scores are given by world, red player and black player
 abbrev pub played_by : (ℕ → ℕ → ℕ → Score) → Pairing → Played

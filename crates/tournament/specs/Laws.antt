@@ -10,24 +10,29 @@ use Rattle.tournament.specs.Standing.{IsStandingOf, line_of}
 -- the points of all players together are twice the games
 abbrev pub PointsAddUp : Type 0
 PointsAddUp =
-    (gauntlet : Bool) (players worlds : ℕ) (score : ℕ → ℕ → ℕ → Score) (lines : List Line) → IsStandingOf gauntlet players worlds score lines
+    (gauntlet : Bool) (players worlds : ℕ) (score : ℕ → ℕ → ℕ → Score) (lines : List Line)
+    → IsStandingOf gauntlet players worlds score lines
     → sum_by (λ line. line.points) lines ≡ 2 * length (games_of gauntlet players worlds)
 
 -- over all players there are as many wins as losses
 abbrev pub WinsAreLosses : Type 0
 WinsAreLosses =
-    (gauntlet : Bool) (players worlds : ℕ) (score : ℕ → ℕ → ℕ → Score) (lines : List Line) → IsStandingOf gauntlet players worlds score lines
+    (gauntlet : Bool) (players worlds : ℕ) (score : ℕ → ℕ → ℕ → Score) (lines : List Line)
+    → IsStandingOf gauntlet players worlds score lines
     → sum_by (λ line. line.won) lines ≡ sum_by (λ line. line.lost) lines
 
 -- a cup has one standing
 abbrev pub OneStanding : Type 0
 OneStanding =
-    (gauntlet : Bool) (players worlds : ℕ) (score : ℕ → ℕ → ℕ → Score) (lines others : List Line) → IsStandingOf gauntlet players worlds score lines
+    (gauntlet : Bool) (players worlds : ℕ) (score : ℕ → ℕ → ℕ → Score) (lines others : List Line)
+    → IsStandingOf gauntlet players worlds score lines
     → IsStandingOf gauntlet players worlds score others → lines ≡ others
 
 -- the games of a cup are those on its worlds, one world after another
 abbrev pub WorldsInOrder : Type 0
-WorldsInOrder = (gauntlet : Bool) (players worlds : ℕ) (score : ℕ → ℕ → ℕ → Score) → all_played gauntlet players worlds score ≡ flat_map (λ world. world_played gauntlet players world score) (below worlds)
+WorldsInOrder =
+    (gauntlet : Bool) (players worlds : ℕ) (score : ℕ → ℕ → ℕ → Score) → all_played gauntlet players worlds score
+    ≡ flat_map (λ world. world_played gauntlet players world score) (below worlds)
 
 -- two lines of a player, added up
 abbrev pub added_up : Line → Line → Line
@@ -43,4 +48,5 @@ added_up x y = record {
 
 -- a player's line after some games and then more is the line after the former and that after the latter, added up
 abbrev pub GamesAddUp : Type 0
-GamesAddUp = (games more : List Played) (p : ℕ) → line_of (games ++ more) p ≡ added_up (line_of games p) (line_of more p)
+GamesAddUp =
+    (games more : List Played) (p : ℕ) → line_of (games ++ more) p ≡ added_up (line_of games p) (line_of more p)

@@ -23,9 +23,15 @@ pub record CanBePlayedBy (workers : ℕ) (knows : ℕ → ℕ → ℕ → Type 0
 abbrev pub ArePlayed : {A : Type 0} → (ℕ → ℕ → ℕ → Score) → List Pairing → Result (Vec Played A) OutOfMemory → Type 0
 ArePlayed score games result = IfOk result (λ played. played.items ≡ map (played_by score) games)
 
-module _ {P F A : Type 0} (g : Shared P (Bor F × (Bor (List Pairing) × (ℕ × Unit {0}))) (Result (Vec Played A) OutOfMemory)) (knows : F → ℕ → ℕ → ℕ → Type 0) (score : F → ℕ → ℕ → ℕ → Score) where
-  -- a function may be asked for all games that can be played by so many workers, and each answer has them with their scores
+module _ {P F A : Type 0}
+    (g : Shared P (Bor F × (Bor (List Pairing) × (ℕ × Unit {0}))) (Result (Vec Played A) OutOfMemory))
+    (knows : F → ℕ → ℕ → ℕ → Type 0) (score : F → ℕ → ℕ → ℕ → Score) where
+  -- a function may be asked for all games that can be played by so many workers, and each answer has them with their
+  -- scores
   pub record PlaysGames (play : P) : Type 0 where
-    pub may : (referee : Bor F) (games : Bor (List Pairing)) (workers : ℕ) → CanBePlayedBy workers (knows referee.now) games.now → g.pre play (referee, (games, (workers, tt)))
-    pub plays : (referee : Bor F) (games : Bor (List Pairing)) (workers : ℕ) (result : Result (Vec Played A) OutOfMemory) → CanBePlayedBy workers (knows referee.now) games.now
+    pub may : (referee : Bor F) (games : Bor (List Pairing)) (workers : ℕ)
+        → CanBePlayedBy workers (knows referee.now) games.now → g.pre play (referee, (games, (workers, tt)))
+    pub plays : (referee : Bor F) (games : Bor (List Pairing)) (workers : ℕ)
+        (result : Result (Vec Played A) OutOfMemory)
+        → CanBePlayedBy workers (knows referee.now) games.now
         → g.post play (referee, (games, (workers, tt))) result → ArePlayed (score referee.now) games.now result

@@ -2,7 +2,8 @@
 use Rattle.std.specs.Prelude.{ℕ, ◌+◌, ◌/◌, ◌%◌, ◌^◌}
 use Rattle.tournament.specs.declared.format.Seeds.{Seeds}
 
--- A world with a seed counts as a world of its own, world by world, and within a world seed by seed. So number n is this world with this seed.
+-- A world with a seed counts as a world of its own, world by world, and within a world seed by seed. So number n is
+-- this world with this seed.
 abbrev pub world_at : Seeds → ℕ → ℕ
 world_at seeds n = n / seeds.count
 

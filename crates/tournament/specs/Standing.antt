@@ -26,7 +26,8 @@ food_for p it = if it.game.red == p then it.score.red else if it.game.black == p
 abbrev pub food_against : ℕ → Played → ℕ
 food_against p it = if it.game.red == p then it.score.black else if it.game.black == p then it.score.red else 0
 
--- the line of player p: how many of these games it won, drew and lost, 2 points for a win and 1 for a draw, its own food and its opponents'
+-- the line of player p: how many of these games it won, drew and lost, 2 points for a win and 1 for a draw, its own
+-- food and its opponents'
 unfoldable pub line_of : List Played → ℕ → Line
 line_of games p = record {
   player = p;
@@ -48,6 +49,7 @@ pub record Ranks (players : ℕ) (games : List Played) (lines : List Line) : Typ
   pub each : IsPermutation (map (line_of games) (below players)) lines
   pub order : AllAdjacentBelow StandsAbove lines (length lines)
 
--- the standing of a cup, or of a gauntlet, of so many players and worlds, where the scores are given by world, red player and black player
+-- the standing of a cup, or of a gauntlet, of so many players and worlds, where the scores are given by world, red
+-- player and black player
 abbrev pub IsStandingOf : Bool → ℕ → ℕ → (ℕ → ℕ → ℕ → Score) → List Line → Type 0
 IsStandingOf gauntlet players worlds score lines = Ranks players (all_played gauntlet players worlds score) lines

@@ -2,8 +2,8 @@
 ghost use Rattle.std.specs.Prelude.{◌≡◌, ◌<◌};
 ghost use Rattle.tournament.specs.Seeds.{seed_at, world_at};
 
-/// The seeds with which each game of a cup is played. A world with a seed counts as a world of its own: world by world, and within a world
-/// seed by seed.
+/// The seeds with which each game of a cup is played. A world with a seed counts as a world of its own: world by world,
+/// and within a world seed by seed.
 #[derive(Clone, Copy, Debug, PartialEq, Eq)]
 pub struct Seeds {
     /// The first seed.

@@ -20,10 +20,11 @@ use ant_base::{Failed, Layout, PushFault, Sink, layout};
 use hex_geometry::OutOfMemory;
 use std::alloc::Global;
 
-/// Pushes the line of each of these games, in their order, the first with this number, as `game 17: red 3 black 0, w, a, b`: the score, and
-/// the names of the world, of the red player and of the black player; where the format shows seeds as `game 17: red 3 black 0, seed 5, w, a, b`.
-/// Each world and player has a name, and the numbers are below 2^32. A game's world is a world with a seed, as in [`Seeds`]. Where the sink
-/// failed, a prefix of the lines was pushed, and its count of faults rose. It takes no memory.
+/// Pushes the line of each of these games, in their order, the first with this number, as `game 17: red 3 black 0, w,
+/// a, b`: the score, and the names of the world, of the red player and of the black player; where the format shows
+/// seeds as `game 17: red 3 black 0, seed 5, w, a, b`. Each world and player has a name, and the numbers are below
+/// 2^32. A game's world is a world with a seed, as in [`Seeds`]. Where the sink failed, a prefix of the lines was
+/// pushed, and its count of faults rose. It takes no memory.
 pub fn push_games<K: Sink>(
     games: &[Played],
     first: u32,
@@ -108,15 +109,17 @@ impl Layout for SeedPart {
     }
 }
 
-/// Plays all games of a cup of the players of these names, 2 to 16, on the worlds of these names, 1 to 16, with each of 1 to 1000 seeds, and
-/// pushes its text: the line of each game in the order of the cup, numbered from 1, and then the standing. Of a gauntlet these are the games of
-/// the first player. `play` plays the games on a world, as in [`play_all_by`](crate::play_all_by): the text is the same. Their lines are pushed
-/// once all of them were played, and before the first game on the next world: the referee has to know a game only where there is a sink that has
-/// the lines of all games on the worlds before it, and nothing else. Only the games on one world are kept at a time. What the referee gets as a
-/// world is a world with a seed, as in [`Seeds`].
+/// Plays all games of a cup of the players of these names, 2 to 16, on the worlds of these names, 1 to 16, with each of
+/// 1 to 1000 seeds, and pushes its text: the line of each game in the order of the cup, numbered from 1, and then the
+/// standing. Of a gauntlet these are the games of the first player. `play` plays the games on a world, as in
+/// [`play_all_by`](crate::play_all_by): the text is the same. Their lines are pushed once all of them were played, and
+/// before the first game on the next world: the referee has to know a game only where there is a sink that has the
+/// lines of all games on the worlds before it, and nothing else. Only the games on one world are kept at a time. What
+/// the referee gets as a world is a world with a seed, as in [`Seeds`].
 ///
-/// It is refused where the sink failed, whose count of faults rose then: a prefix of the text was pushed. Or it is out of memory, its own or
-/// that of `play`: the lines of all games on the first worlds, on none or on all, were pushed, and nothing else.
+/// It is refused where the sink failed, whose count of faults rose then: a prefix of the text was pushed. Or it is out
+/// of memory, its own or that of `play`: the lines of all games on the first worlds, on none or on all, were pushed,
+/// and nothing else.
 pub fn play_and_print<
     F: Referee,
     K: Sink,
@@ -156,7 +159,8 @@ pub fn play_and_print<
     Ok(())
 }
 
-// A cup whose games are printed: who makes the scores, the names of its worlds and of its players, and how many workers play.
+// A cup whose games are printed: who makes the scores, the names of its worlds and of its players, and how many workers
+// play.
 #[derive(Drop)]
 struct Cup<'c, F: Referee> {
     referee: &'c F,
@@ -166,8 +170,8 @@ struct Cup<'c, F: Referee> {
     workers: u32,
 }
 
-// Plays the games on a world with each seed, adds them to the tally of those on the worlds before, and pushes their lines. All memory is taken
-// before the first line is pushed.
+// Plays the games on a world with each seed, adds them to the tally of those on the worlds before, and pushes their
+// lines. All memory is taken before the first line is pushed.
 fn print_world<F: Referee, K: Sink, P: Fn(&F, &[Pairing], u32) -> Result<Vec<Played>, OutOfMemory>>(
     alloc: Global,
     cup: &Cup<'_, F>,

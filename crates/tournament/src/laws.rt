@@ -16,8 +16,9 @@ pub fn one_standing()
     ensures { OneStanding }
 {}
 
-/// Two laws: the games of a cup are those on its worlds, one world after another; and a player's line after some games and then more is the
-/// line after the former and that after the latter, added up. So the standing is the sum of the games.
+/// Two laws: the games of a cup are those on its worlds, one world after another; and a player's line after some games
+/// and then more is the line after the former and that after the latter, added up. So the standing is the sum of the
+/// games.
 #[tactic(auto, using(crate::proofs::PrintedLemmas::games_added_up, crate::proofs::PrintedLemmas::worlds_in_order))]
 pub fn games_add_up()
     ensures worlds { WorldsInOrder }

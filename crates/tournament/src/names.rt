@@ -44,8 +44,8 @@ impl Names {
         }
     }
 
-    /// Adds a name last, unless it is there: `Known` comes exactly where it is, and changes nothing. It is refused only when out
-    /// of memory, and then changes nothing.
+    /// Adds a name at the end. If the name is there already, it returns `Known` and changes nothing. It fails only if
+    /// memory runs out, and then changes nothing.
     pub fn add(&mut self, name: &str) -> Result<Added, OutOfMemory>
         ensures answer { IfOk result (λ added. added ≡ (if has_name self.old name.now then Known else New)) }
         ensures names { OnOk result (self.new ≡ with_name self.old name.now) }

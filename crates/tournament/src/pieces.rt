@@ -58,8 +58,8 @@ pub fn add_played<F: Referee>(
     Ok(())
 }
 
-// The games in as many pieces as there are workers, piece k from game k * n / workers on, where n is the number of games. Pieces
-// without a game are left out.
+// The games in as many pieces as there are workers, piece k from game k * n / workers on, where n is the number of
+// games. Pieces without a game are left out.
 pub fn deal(alloc: Global, games: &[Pairing], workers: usize) -> Result<Vec<Piece>, OutOfMemory>
     requires workers { (0 < workers) × (workers ≤ 16) }
     requires few { length games.now < 2 ^ 30 }

@@ -11,9 +11,9 @@ use hex_geometry::OutOfMemory;
 use std::alloc::Global;
 use std::cmp::Reverse;
 
-/// The standing of the players of the numbers below `players` after these games, fewer than 2^30, in whatever order they are: a line for each
-/// player, by points falling, equal points by player number rising (the task's game play). After all games of a cup it is the cup's. It is
-/// refused only when out of memory.
+/// The standing of the players of the numbers below `players` after these games, fewer than 2^30, in whatever order
+/// they are: a line for each player, by points falling, equal points by player number rising (the task's game play).
+/// After all games of a cup it is the cup's. It is refused only when out of memory.
 pub fn standing_of(alloc: Global, players: u32, games: &[Played]) -> Result<Standing, OutOfMemory>
     requires few { length games.now < 2 ^ 30 }
     ensures { IfOk result (λ standing. Ranks players games.now standing) }

@@ -93,9 +93,10 @@ impl Layout for Lead {
     }
 }
 
-/// Pushes a line for each player, the best first, as `3 points: b (1 won, 1 drawn, 0 lost)`; with leads as `3 points: b (1 won, 1 drawn, 0 lost),
-/// lead 3`, the player's own food minus its opponents', as a whole number. Each player of the standing has a name. Where the sink failed, a
-/// prefix of the lines was pushed, and its count of faults rose. It takes no memory.
+/// Pushes a line for each player, the best first, as `3 points: b (1 won, 1 drawn, 0 lost)`; with leads as `3 points: b
+/// (1 won, 1 drawn, 0 lost), lead 3`, the player's own food minus its opponents', as a whole number. Each player of the
+/// standing has a name. Where the sink failed, a prefix of the lines was pushed, and its count of faults rose. It takes
+/// no memory.
 pub fn push_standing<K: Sink>(
     standing: &Standing,
     leads: bool,

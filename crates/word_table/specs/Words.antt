@@ -15,7 +15,8 @@ are_distinct (word ∷ words) = not (list_any (str_eq_ignore_ascii_case word) wo
 -- the place, counted from 0, of the first word that is the text in some ASCII case
 abbrev pub word_place : List (List ℕ) → List ℕ → Option ℕ
 word_place [] text = None
-word_place (word ∷ words) text = if str_eq_ignore_ascii_case word text then Some 0 else option_map suc (word_place words text)
+word_place (word ∷ words) text =
+    if str_eq_ignore_ascii_case word text then Some 0 else option_map suc (word_place words text)
 
 -- the text is the word at this place of a table, in some ASCII case
 pub record IsWordAt (words : List (List ℕ)) (i : ℕ) (text : List ℕ) : Type 0 where
@@ -25,4 +26,6 @@ pub record IsWordAt (words : List (List ℕ)) (i : ℕ) (text : List ℕ) : Type
 
 -- in a table whose words differ in any ASCII case, a word is found at the place where it stands
 abbrev pub WordIsFound : Type 0
-WordIsFound = (words : List (List ℕ)) (i : ℕ) (word : List ℕ) → IsTrue (are_distinct words) → slice_get words i ≡ Some word → word_place words word ≡ Some i
+WordIsFound =
+    (words : List (List ℕ)) (i : ℕ) (word : List ℕ) → IsTrue (are_distinct words) → slice_get words i ≡ Some word
+    → word_place words word ≡ Some i

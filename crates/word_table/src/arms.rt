@@ -1,8 +1,9 @@
 // From a word's place to what it stands for.
 ghost use Rattle.std.specs.Prelude.{◌≡◌, ◌<◌};
 
-/// The match from a word's place in its table, counted from 0, to what the word stands for: `word_arms!(i; Side::Left, Side::Right)` is
-/// `Side::Left` at 0, and at each other place `Side::Right`. Used in a function's body, for up to 12 words.
+/// The match from a word's place in its table, counted from 0, to what the word means: `word_arms!(i; Side::Left,
+/// Side::Right)` is `Side::Left` at 0, and `Side::Right` at every other place. Use it in a function's body, for up to
+/// 12 words.
 #[macro_export]
 macro_rules! word_arms {
     (@match $place:expr; [$($number:tt $value:expr;)*]; $last:expr) => {

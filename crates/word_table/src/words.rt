@@ -27,8 +27,8 @@ impl<T: AsStr, const N: usize> Model for Words<T, N> {
 }
 
 impl<T: AsStr, const N: usize> Words<T, N> {
-    /// The table of these words, in this order. It takes no memory. Words that differ in ASCII case alone are refused when the program is
-    /// checked.
+    /// The table of these words, in this order. It takes no memory. The check refuses a program in which two words of a
+    /// table differ in ASCII case alone.
     pub fn new(words: [T; N]) -> Words<T, N>
         requires { IsTrue (are_distinct (map T.text words)) }
         ensures { result ≡ map T.text words }
@@ -36,7 +36,8 @@ impl<T: AsStr, const N: usize> Words<T, N> {
         Words { words }
     }
 
-    /// The place, counted from 0, of the word that the text is in some ASCII case; `None` exactly where it is no word.
+    /// The place, counted from 0, of the word that the text is in some ASCII case; `None` if it is no word of the
+    /// table.
     pub fn find(&self, text: &[u8]) -> Option<usize>
         ensures place { result ≡ word_place self.now text.now }
         ensures below { IfSome result (λ i. i < N) }

@@ -1,7 +1,7 @@
-//! How work is shared out: what is to do stands in a row, and each worker gets a piece of it.
+//! How work is shared out: the tasks are a row, and each worker gets a piece of it.
 //!
-//! The pieces follow one another, are the whole row together, and differ in size by one at most. The crate stands on no other. This is this
-//! project's own.
+//! The pieces follow one another, are together the whole row, and differ in size by at most one. The crate depends on
+//! no other. This is this project's own.
 #![tactic(auto)]
 
 ghost use Rattle.std.specs.Prelude.{◌≡◌, ◌≤◌, ◌<◌, ◌^◌};
@@ -24,8 +24,8 @@ pub fn border(workers: usize, count: usize, worker: usize) -> usize
     worker * count / workers
 }
 
-/// The pieces are the row: the first begins where it does, each begins where the one before ends, none ends before it begins, and the last ends
-/// where the row does. The call does nothing: its clause is the law.
+/// The pieces are the row: the first begins at its start, each begins where the previous one ends, none ends before it
+/// begins, and the last ends at the row's end. The call does nothing: its clause is the law.
 pub fn pieces_are_the_row()
     ensures { PiecesAreTheRow }
 {}

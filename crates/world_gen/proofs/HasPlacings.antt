@@ -1,5 +1,5 @@
--- Each element goes somewhere, or has no room: whether it fits at a spot can be told, since its cells and those of the elements before it are
--- finitely many, and the first try or place at which it does is found by going over them.
+-- Each element goes somewhere, or has no room: whether it fits at a spot can be told, since its cells and those of the
+-- elements before it are finitely many, and the first try or place at which it does is found by going over them.
 use native.Mathlib.Decide.{dec_le, dec_lt, map_dec}
 use mathlib.Core.Logic.Dec
 use Rattle.cell_world.proofs.Puts.{cases_pos}

@@ -28,7 +28,8 @@ elements_lie_apart_used law =
     let separated = law 12345 shape (first ∷ second ∷ third ∷ []) three_placed in
     ((λ q cell. separated.off_rim first q (0, omega arith, refl) cell), separated.apart 0 2 first (omega arith) (omega arith))
 
--- that placing is the only one of its seed and shape; and where the red hill has no room there is none, and it is the one without room
+-- that placing is the only one of its seed and shape; and where the red hill has no room there is none, and it is the
+-- one without room
 pub placing_is_one_used : PlacingIsOne →
     ((placed : List Spot) → IsPlacing 12345 shape placed → placed ≡ first ∷ second ∷ third ∷ [])
     × ((placed : List Spot) → IsPlacing 1 twelve placed → ⊥)

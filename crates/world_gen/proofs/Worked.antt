@@ -1,4 +1,5 @@
--- Elements of a world whose numbers are known: the stream of seed 12345 begins 7193, 2932, 10386, 5575, 100, 15976, 430.
+-- Elements of a world whose numbers are known: the stream of seed 12345 begins 7193, 2932, 10386, 5575, 100, 15976,
+-- 430.
 use Rattle.ant_random.specs.Stream.{drawn, random_at, state_at}
 use Rattle.cell_world.specs.declared.ant.Colour.TheVariants.{Red, Black}
 use Rattle.hex_geometry.specs.Neighbourhood.{adjacent_point}
@@ -34,7 +35,8 @@ pub blob : try_of 12345 64 64 (figure_begun 12345 4 element.Blob) (after_begun 4
 unfolding state_at random_at drawn
 blob = refl
 
--- a rock that is begun at place 0 of the stream has radius 2 in all its tries, the first of which draws from place 1 on and the next from 3
+-- a rock that is begun at place 0 of the stream has radius 2 in all its tries, the first of which draws from place 1 on
+-- and the next from 3
 pub rock_tries : map (try_of 12345 150 150 (figure_begun 12345 0 element.Rock) (after_begun 0 element.Rock)) (0 ∷ 1 ∷ []) ≡ record { figure = Rock 2; place = place 82 36 } ∷ record { figure = Rock 2; place = place 25 100 } ∷ []
 unfolding state_at random_at drawn
 rock_tries = refl

@@ -7,4 +7,6 @@ use Rattle.world_gen.specs.declared.shape.Shape.{Shape}
 
 -- each seed and shape has a world, whose elements are all placed, or an element without room
 abbrev pub HasOutcome : Type 0
-HasOutcome = (seed : ℕ) (shape : Shape) → IsShape shape → ((world : Grid) × IsGenerated seed shape world) ⊎ ((number : ℕ) × HasNoRoom seed shape number)
+HasOutcome =
+    (seed : ℕ) (shape : Shape) → IsShape shape
+    → ((world : Grid) × IsGenerated seed shape world) ⊎ ((number : ℕ) × HasNoRoom seed shape number)

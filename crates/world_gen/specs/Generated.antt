@@ -33,8 +33,10 @@ paint_of (Blob first) = kind.Food 5
 pub record IsPainted (width height : ℕ) (placed : List Spot) (kinds : List Kind) : Type 0 where
   pub full : length kinds ≡ width * height
   pub rim : (p : Pos) → IsInside width height p → (IsInner width height p → ⊥) → kind_at width kinds p ≡ kind.Rock
-  pub cell : (p : Pos) (spot : Spot) → Contains placed spot → IsCell spot (point_of p) → kind_at width kinds p ≡ paint_of spot.figure
-  pub floor : (p : Pos) → IsInner width height p → ((spot : Spot) → Contains placed spot → IsCell spot (point_of p) → ⊥) → kind_at width kinds p ≡ kind.Clear
+  pub cell : (p : Pos) (spot : Spot) → Contains placed spot → IsCell spot (point_of p)
+      → kind_at width kinds p ≡ paint_of spot.figure
+  pub floor : (p : Pos) → IsInner width height p → ((spot : Spot) → Contains placed spot → IsCell spot (point_of p) → ⊥)
+      → kind_at width kinds p ≡ kind.Clear
 
 -- the sizes of a shape are those of a world
 pub record IsShape (shape : Shape) : Type 0 where

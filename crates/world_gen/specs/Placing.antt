@@ -41,7 +41,13 @@ tried_figure seed i (Blob first) = Blob (dir_of (drawn seed i 3))
 
 -- the spot of a try that draws from place i on
 abbrev pub tried_at : ℕ → ℕ → ℕ → Figure → ℕ → Spot
-tried_at seed width height figure i = record { figure = tried_figure seed (i + 2) figure; place = record { x = drawn seed i width; y = drawn seed (i + 1) height } }
+tried_at seed width height figure i = record {
+  figure = tried_figure seed (i + 2) figure;
+  place = record {
+    x = drawn seed i width;
+    y = drawn seed (i + 1) height;
+  };
+}
 
 -- try k of those that begin at place g
 abbrev pub try_of : ℕ → ℕ → ℕ → Figure → ℕ → ℕ → Spot
@@ -56,7 +62,8 @@ abbrev pub NoTryFits : (Spot → Type 0) → ℕ → ℕ → ℕ → Figure → 
 NoTryFits fits seed width height figure g n = (k : ℕ) → k < n → fits (try_of seed width height figure g k) → ⊥
 
 -- a try below 50 is the first that fits
-pub record IsChosenSpot (fits : Spot → Type 0) (seed width height : ℕ) (figure : Figure) (g : ℕ) (spot : Spot) (after : ℕ) : Type 0 where
+pub record IsChosenSpot (fits : Spot → Type 0) (seed width height : ℕ) (figure : Figure) (g : ℕ) (spot : Spot)
+    (after : ℕ) : Type 0 where
   pub try : ℕ
   pub below : try < 50
   pub is : spot ≡ try_of seed width height figure g try
@@ -65,7 +72,8 @@ pub record IsChosenSpot (fits : Spot → Type 0) (seed width height : ℕ) (figu
   pub drew : after ≡ g + (try + 1) * draws_of figure
 
 -- none of 50 tries fits, and the place is the first of the grid, in row order, at which it fits
-pub record IsFound (fits : Spot → Type 0) (seed width height : ℕ) (figure : Figure) (g : ℕ) (spot : Spot) (after : ℕ) : Type 0 where
+pub record IsFound (fits : Spot → Type 0) (seed width height : ℕ) (figure : Figure) (g : ℕ) (spot : Spot)
+    (after : ℕ) : Type 0 where
   pub no_try : NoTryFits fits seed width height figure g 50
   pub place : Pos
   pub inside : IsInside width height place
@@ -87,13 +95,15 @@ Goes fits seed width height element g spot after =
 
 -- an element has no room
 abbrev pub HasNone : (Spot → Type 0) → ℕ → ℕ → ℕ → Element → ℕ → Type 0
-HasNone fits seed width height element g = IsBarred fits seed width height (figure_begun seed g element) (after_begun g element)
+HasNone fits seed width height element g =
+    IsBarred fits seed width height (figure_begun seed g element) (after_begun g element)
 
 -- after these elements, at place g, the next ones go to these spots in turn, and the place is then `after`
 abbrev pub Follow : ℕ → Shape → List Spot → ℕ → List Spot → ℕ → Type 0
 Follow seed shape placed g [] after = g ≡ after
 Follow seed shape placed g (spot ∷ rest) after =
-    (next : ℕ) × Goes (IsFreeSpot shape.width shape.height placed) seed shape.width shape.height (element_of shape (length placed)) g spot next
+    (next : ℕ) × Goes (IsFreeSpot shape.width shape.height placed) seed shape.width shape.height
+    (element_of shape (length placed)) g spot next
     × Follow seed shape (placed ++ spot ∷ []) next rest after
 
 -- all elements are placed so, one after another
@@ -109,4 +119,5 @@ pub record HasNoRoom (seed : ℕ) (shape : Shape) (number : ℕ) : Type 0 where
   pub follow : Follow seed shape [] 0 placed after
   pub before : length placed ≡ number
   pub low : number < count_of shape
-  pub none : HasNone (IsFreeSpot shape.width shape.height placed) seed shape.width shape.height (element_of shape number) after
+  pub none :
+      HasNone (IsFreeSpot shape.width shape.height placed) seed shape.width shape.height (element_of shape number) after

@@ -20,15 +20,21 @@ pub record IsSeparated (width height : ℕ) (placed : List Spot) : Type 0 where
 
 -- placed elements are separated
 abbrev pub ElementsLieApart : Type 0
-ElementsLieApart = (seed : ℕ) (shape : Shape) (placed : List Spot) → IsPlacing seed shape placed → IsSeparated shape.width shape.height placed
+ElementsLieApart =
+    (seed : ℕ) (shape : Shape) (placed : List Spot) → IsPlacing seed shape placed
+    → IsSeparated shape.width shape.height placed
 
 -- a seed and a shape have one outcome
 pub record PlacingIsOne : Type 0 where
   -- there is one placing at most
-  pub one : (seed : ℕ) (shape : Shape) (first second : List Spot) → IsPlacing seed shape first → IsPlacing seed shape second → first ≡ second
+  pub one : (seed : ℕ) (shape : Shape) (first second : List Spot) → IsPlacing seed shape first
+      → IsPlacing seed shape second → first ≡ second
   -- none where an element has no room
-  pub none : (seed : ℕ) (shape : Shape) (placed : List Spot) (number : ℕ) → IsPlacing seed shape placed → HasNoRoom seed shape number → ⊥
+  pub none : (seed : ℕ) (shape : Shape) (placed : List Spot) (number : ℕ) → IsPlacing seed shape placed
+      → HasNoRoom seed shape number → ⊥
   -- and no more than one element has none
-  pub number : (seed : ℕ) (shape : Shape) (first second : ℕ) → HasNoRoom seed shape first → HasNoRoom seed shape second → first ≡ second
+  pub number : (seed : ℕ) (shape : Shape) (first second : ℕ) → HasNoRoom seed shape first → HasNoRoom seed shape second
+      → first ≡ second
   -- a seed and a shape have one world
-  pub world : (seed : ℕ) (shape : Shape) (first second : Grid) → IsGenerated seed shape first → IsGenerated seed shape second → first ≡ second
+  pub world : (seed : ℕ) (shape : Shape) (first second : Grid) → IsGenerated seed shape first
+      → IsGenerated seed shape second → first ≡ second

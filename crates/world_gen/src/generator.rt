@@ -19,7 +19,8 @@ use std::fmt;
 /// Why no world was generated.
 #[derive(Clone, Copy, Debug, PartialEq, Eq)]
 pub enum GenFault {
-    /// This element fits at no place of the grid: 0 is the red hill, 1 the black hill, then come the rocks, then the blobs.
+    /// This element fits at no place of the grid: 0 is the red hill, 1 the black hill, then come the rocks, then the
+    /// blobs.
     NoRoom {
         /// The number of the element.
         element: u32,
@@ -64,14 +65,15 @@ impl From<OutOfMemory> for GenFault {
     }
 }
 
-/// The world of a seed, from 0 to 4,294,967,295, and a shape, whose width and height are from 3 to 512. The rim and the rocks are rocky,
-/// each cell of a blob has 5 food particles, all else but the hills is clear, and an ant begins on each hill cell. An element goes to
-/// the first of its 50 tries that fits, else to the first place that fits in row order; `NoRoom` comes exactly where there is none for an
-/// element, the first such. Apart from that it is refused only when out of memory.
+/// The world of a seed, from 0 to 4,294,967,295, and a shape, whose width and height are from 3 to 512. The rim and the
+/// rocks are rocky, each cell of a blob has 5 food particles, every other cell outside the hills is clear, and an ant
+/// begins on each hill cell. An element is put at the first of its 50 tries that fits, otherwise at the first place
+/// that fits in row order. `NoRoom` is returned exactly if an element has no place, and names the first such element.
+/// Otherwise it fails only if memory runs out.
 ///
-/// Given seed 12345 and 64 by 64 cells without rocks and with one blob it answers the world whose red hill is round (25, 52) and whose
-/// black hill is round (18, 7), with the blob's corner at (36, 40). Given 12 by 12 cells it answers `NoRoom { element: 0 }` with every
-/// seed, since a hill is 13 cells wide.
+/// Given seed 12345 and 64 by 64 cells without rocks and with one blob it returns the world whose red hill is around
+/// (25, 52) and whose black hill is around (18, 7), with the blob's corner at (36, 40). Given 12 by 12 cells it returns
+/// `NoRoom { element: 0 }` with every seed, since a hill is 13 cells wide.
 pub fn generate(alloc: Global, seed: u32, shape: Shape) -> Result<World, GenFault>
     requires { IsShape shape }
     ensures { IsAnswer seed shape result }

@@ -6,8 +6,8 @@ pub fn elements_lie_apart()
     ensures { ElementsLieApart }
 {}
 
-/// A law: a seed and a shape have one outcome: at most one placing of all elements, so at most one world, and none where an element has no
-/// room, which is one element.
+/// A law: a seed and a shape have one outcome: at most one placing of all elements, so at most one world, and none
+/// where an element has no room, which is one element.
 pub fn placing_is_one()
     ensures { PlacingIsOne }
 {}

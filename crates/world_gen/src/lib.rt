@@ -1,10 +1,10 @@
-//! Worlds made from a number: the contest's shape, and others like it.
+//! Worlds generated from a number: the contest's shape, and others like it.
 //!
-//! The generator makes worlds in the manner of the contest's: two hills, then rocks, then blobs of food, each placed at random where it
-//! touches neither the rim nor what was placed before. [`generate`] gives the opening world of exactly the placed elements, or says which
-//! element has no room; the laws say that placed elements lie apart, and that a seed and a shape have one outcome. No place that is tried
-//! takes memory. What names no section of the contest's task is this project's own. This crate stands on `hex_geometry`, `ant_random` and
-//! `cell_world`.
+//! The generator works in the manner of the contest's: two hills, then rocks, then blobs of food, each placed at random
+//! where it touches neither the rim nor anything placed before. [`generate`] returns the opening world of exactly the
+//! placed elements, or the element that has no room. The laws say that placed elements lie apart, and that a seed and a
+//! shape have one outcome. Trying a place takes no memory. What names no section of the contest's task is this
+//! project's own. This crate depends on `hex_geometry`, `ant_random` and `cell_world`.
 #![tactic(auto)]
 
 mod cells;

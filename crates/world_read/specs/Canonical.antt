@@ -15,8 +15,11 @@ cell_text x byte = space_if (nat_lt 0 x) +++ (byte ∷ [])
 
 -- row y: a space if its number is odd, the cells with one space between them, and LF
 unfoldable pub line_of_row : ℕ → List Kind → ℕ → List ℕ
-line_of_row width kinds y = space_if (y % 2 == 1) +++ numbered (λ x. cell_text x (byte_of (slice_index_or kinds (y * width + x) Rock))) width +++ codes "\n"
+line_of_row width kinds y =
+    space_if (y % 2 == 1) +++ numbered (λ x. cell_text x (byte_of (slice_index_or kinds (y * width + x) Rock))) width
+    +++ codes "\n"
 
 -- the canonical text of a world of these sizes and kinds: the width, the height and the rows, each a line
 unfoldable pub canonical_text : ℕ → ℕ → List Kind → List ℕ
-canonical_text width height kinds = decimal width +++ codes "\n" +++ decimal height +++ codes "\n" +++ numbered (line_of_row width kinds) height
+canonical_text width height kinds =
+    decimal width +++ codes "\n" +++ decimal height +++ codes "\n" +++ numbered (line_of_row width kinds) height

@@ -13,14 +13,16 @@ pub record Plan : Type 0 where
   pub height : ℕ
   pub kinds : List Kind
 
--- the lines of rows spell these kinds: the first line, without its separators, is the bytes of the first `width` kinds, and the other lines spell the rest
+-- the lines of rows spell these kinds: the first line, without its separators, is the bytes of the first `width` kinds,
+-- and the other lines spell the rest
 abbrev pub AreRows : ℕ → List (List ℕ) → List Kind → Type 0
 AreRows width [] kinds = kinds ≡ []
 AreRows width (line ∷ lines) kinds =
-    (row : List Kind) × (rest : List Kind) × (kinds ≡ row ++ rest) × (length row ≡ width) × (spelled line ≡ map byte_of row) × AreRows width lines rest
+    (row : List Kind) × (rest : List Kind) × (kinds ≡ row ++ rest) × (length row ≡ width)
+    × (spelled line ≡ map byte_of row) × AreRows width lines rest
 
--- a text is the world of these sizes and kinds: a line with the width alone, but for separators around it, one with the height, a line for each row,
--- and then blank lines alone; and the kinds are those of a world
+-- a text is the world of these sizes and kinds: a line with the width alone, but for separators around it, one with the
+-- height, a line for each row, and then blank lines alone; and the kinds are those of a world
 pub record IsWorldText (text : List ℕ) (width height : ℕ) (kinds : List Kind) : Type 0 where
   pub first : List ℕ
   pub second : List ℕ

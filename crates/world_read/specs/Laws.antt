@@ -17,8 +17,11 @@ EveryTextHasOneVerdict =
 
 -- the canonical text of the kinds of a world is a text of that world
 abbrev pub CanonicalTextIsReadBack : Type 0
-CanonicalTextIsReadBack = (width height : ℕ) (kinds : List Kind) → IsPlan width height kinds → IsWorldText (canonical_text width height kinds) width height kinds
+CanonicalTextIsReadBack =
+    (width height : ℕ) (kinds : List Kind) → IsPlan width height kinds
+    → IsWorldText (canonical_text width height kinds) width height kinds
 
 -- what is written of an opening world is a text of that very world
 abbrev pub WrittenWorldsAreReadBack : Type 0
-WrittenWorldsAreReadBack = (world : Grid) → IsOpeningWorld world → OpensAs (canonical_text world.width world.height (kinds_of world)) world
+WrittenWorldsAreReadBack =
+    (world : Grid) → IsOpeningWorld world → OpensAs (canonical_text world.width world.height (kinds_of world)) world

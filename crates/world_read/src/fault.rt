@@ -19,7 +19,7 @@ pub enum WorldFault {
         /// the row, from 0
         row: u16,
     },
-    /// A byte of this row is no cell; so many cells of the row stand before it.
+    /// A byte of this row is no cell; `column` cells of the row precede it.
     BadCell {
         /// the row, from 0
         row: u16,
@@ -45,7 +45,7 @@ pub enum WorldFault {
         /// the row, from 0
         y: u16,
     },
-    /// There are so many hill cells, and more than 16,384.
+    /// The number of hill cells, which is more than 16,384.
     TooManyAnts {
         /// how many hill cells there are
         count: u32,

@@ -1,11 +1,12 @@
 //! World texts, read and written.
 //!
-//! A world file as the contest's tools write it is accepted, with its rows indented or not; every other text has exactly one fault, the
-//! first in a fixed order. The grammar and what is wrong with a text are stated as relations, apart from the function that reads: each
-//! text is that of exactly one world or has exactly one fault, and the canonical text of an opening world is read as that world.
+//! A world file as the contest's tools write it is accepted, whether its rows are indented or not. Every other text has
+//! exactly one fault, the first in a fixed order. The grammar and the faults are stated as relations, separately from
+//! the function that reads. Each text is that of exactly one world or has exactly one fault, and the canonical text of
+//! an opening world is read as that world.
 //!
-//! The grammar and the faults are this project's own statement of the task's world files. This crate stands on `ant_base` and
-//! `cell_world`.
+//! The grammar and the faults are this project's own statement of the task's world files. This crate depends on
+//! `ant_base` and `cell_world`.
 #![tactic(auto)]
 
 mod fault;

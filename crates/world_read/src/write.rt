@@ -12,9 +12,9 @@ use ant_base::{Each, Failed, Layout, NumberedTexts, Sink, layout};
 use cell_world::{Cell, Colour, World};
 use hex_geometry::Pos;
 
-/// Pushes the canonical text of an opening world: a line with the width, one with the height, and one for each row, in which the cells
-/// have one space between them and the rows of odd number one before them, counted from 0 (the task's world files). Where the sink
-/// failed, a prefix of the text was pushed.
+/// Pushes the canonical text of an opening world: a line with the width, one with the height, and one for each row, in
+/// which the cells have one space between them and the rows of odd number one before them, counted from 0 (the task's
+/// world files). Where the sink failed, a prefix of the text was pushed.
 #[tactic(auto, unfolding(crate::specs::Canonical::canonical_text))]
 pub fn write_world<K: Sink>(world: &World, sink: &mut K) -> Result<(), Failed>
     requires { IsOpeningWorld world.now }

@@ -15,7 +15,8 @@ offset (suc k) End = 0
 offset (suc k) (Do action others) = suc (offset k others)
 offset (suc k) (Use handed block others) = size_of block + offset k others
 
--- the numbers of a body that is put in place: of its first instruction, of what follows it, and of what is handed for its parameters
+-- the numbers of a body that is put in place: of its first instruction, of what follows it, and of what is handed for
+-- its parameters
 pub record Numbers : Type 0 where
   pub base : ℕ
   pub after : ℕ
@@ -23,7 +24,8 @@ pub record Numbers : Type 0 where
 
 -- the number of the first instruction from the k-th item on
 abbrev pub number_first : Items → Numbers → ℕ → ℕ
-number_first items numbers k = if size_of (from_place k items) == 0 then numbers.after else numbers.base + offset k items
+number_first items numbers k =
+    if size_of (from_place k items) == 0 then numbers.after else numbers.base + offset k items
 
 -- the number to which a label of the k-th item leads
 abbrev pub number_target : Items → Numbers → ℕ → Label → ℕ
@@ -42,20 +44,23 @@ inner_numbers items numbers k handed = record {
 -- the instructions of some items of a body, the first of which is its k-th
 abbrev pub emitted : Items → Items → Numbers → ℕ → List Instr
 emitted End body numbers k = []
-emitted (Do action others) body numbers k = instruction_by (number_target body numbers k) action ∷ emitted others body numbers (suc k)
-emitted (Use handed block others) body numbers k = emitted block block (inner_numbers body numbers k handed) 0 ++ emitted others body numbers (suc k)
+emitted (Do action others) body numbers k =
+    instruction_by (number_target body numbers k) action ∷ emitted others body numbers (suc k)
+emitted (Use handed block others) body numbers k =
+    emitted block block (inner_numbers body numbers k handed) 0 ++ emitted others body numbers (suc k)
 
 -- the numbers of main
 abbrev pub main_numbers : Numbers
 main_numbers = record { base = 0; after = 0; given = [] }
 
--- the number of an address in a body of these items, by the way that leads to it: the first number is a place, the items from it are these,
--- and so many instructions stand before them
+-- the number of an address in a body of these items, by the way that leads to it: the first number is a place, the
+-- items from it are these, and so many instructions stand before them
 abbrev pub number_walk : Address → ℕ → Items → ℕ
 number_walk [] before items = before
 number_walk (k ∷ address) before End = before
 number_walk (k ∷ address) before (Do action others) = before
-number_walk (k ∷ address) before (Use handed block others) = number_walk address (before + offset k block) (from_place k block)
+number_walk (k ∷ address) before (Use handed block others) =
+    number_walk address (before + offset k block) (from_place k block)
 
 -- the number of an address of a program
 abbrev pub number_of : Items → Address → ℕ

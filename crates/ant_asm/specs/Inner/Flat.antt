@@ -44,25 +44,29 @@ IsGoodLabel parameters items (Parameter i) = i < parameters
 
 -- so do all labels of an instruction
 abbrev pub IsGoodAction : ℕ → ℕ → Action Label → Type 0
-IsGoodAction parameters items (Sense sight met unmet condition) = IsGoodLabel parameters items met × IsGoodLabel parameters items unmet
+IsGoodAction parameters items (Sense sight met unmet condition) =
+    IsGoodLabel parameters items met × IsGoodLabel parameters items unmet
 IsGoodAction parameters items (Mark i on) = IsGoodLabel parameters items on
 IsGoodAction parameters items (Unmark i on) = IsGoodLabel parameters items on
 IsGoodAction parameters items (PickUp met unmet) = IsGoodLabel parameters items met × IsGoodLabel parameters items unmet
 IsGoodAction parameters items (Drop on) = IsGoodLabel parameters items on
 IsGoodAction parameters items (Turn side on) = IsGoodLabel parameters items on
 IsGoodAction parameters items (Move met unmet) = IsGoodLabel parameters items met × IsGoodLabel parameters items unmet
-IsGoodAction parameters items (Flip bound met unmet) = IsGoodLabel parameters items met × IsGoodLabel parameters items unmet
+IsGoodAction parameters items (Flip bound met unmet) =
+    IsGoodLabel parameters items met × IsGoodLabel parameters items unmet
 
 -- an item of the body of this number is good: a use is of a body before it, with a label for each of its parameters
 abbrev pub IsGoodItem : List Body → ℕ → ℕ → ℕ → Item → Type 0
 IsGoodItem bodies number parameters items (Item.Do action) = IsGoodAction parameters items action
 IsGoodItem bodies number parameters items (Item.Use block handed) =
-    (block < number) × AllByRecursion (IsGoodLabel parameters items) handed.items × ((body : Body) → slice_get bodies block ≡ Some body → length handed.items ≡ body.parameters)
+    (block < number) × AllByRecursion (IsGoodLabel parameters items) handed.items
+    × ((body : Body) → slice_get bodies block ≡ Some body → length handed.items ≡ body.parameters)
 
 -- the body of this number is good, and knows where its items start
 pub record IsGood (bodies : List Body) (number : ℕ) (body : Body) : Type 0 where
   pub items : AllByRecursion (IsGoodItem bodies number body.parameters (length body.items.items)) body.items.items
-  pub starts : (k : ℕ) → k ≤ length body.items.items → slice_get body.starts.items k ≡ Some (offset k (tree_at bodies number))
+  pub starts : (k : ℕ) → k ≤ length body.items.items
+      → slice_get body.starts.items k ≡ Some (offset k (tree_at bodies number))
   pub counted : length body.starts.items ≡ suc (length body.items.items)
   pub short : length body.items.items ≤ most
   pub few : size_of (tree_at bodies number) ≤ most
@@ -77,23 +81,29 @@ IsPlace bodies number place = (body : Body) → slice_get bodies number ≡ Some
 
 -- a number is the place of an item of the body of this number
 abbrev pub IsPlaceOfItem : List Body → ℕ → ℕ → Type 0
-IsPlaceOfItem bodies number place = (body : Body) → slice_get bodies number ≡ Some body → place < length body.items.items
+IsPlaceOfItem bodies number place =
+    (body : Body) → slice_get bodies number ≡ Some body → place < length body.items.items
 
 -- a label is one of the body of this number
 abbrev pub IsLabelOf : List Body → ℕ → Label → Type 0
-IsLabelOf bodies number label = (body : Body) → slice_get bodies number ≡ Some body → IsGoodLabel body.parameters (length body.items.items) label
+IsLabelOf bodies number label =
+    (body : Body) → slice_get bodies number ≡ Some body → IsGoodLabel body.parameters (length body.items.items) label
 
 -- so are all labels of an instruction
 abbrev pub IsActionOf : List Body → ℕ → Action Label → Type 0
-IsActionOf bodies number action = (body : Body) → slice_get bodies number ≡ Some body → IsGoodAction body.parameters (length body.items.items) action
+IsActionOf bodies number action =
+    (body : Body) → slice_get bodies number ≡ Some body → IsGoodAction body.parameters (length body.items.items) action
 
 -- labels are
 abbrev pub AreLabelsOf : List Body → ℕ → List Label → Type 0
-AreLabelsOf bodies number labels = (body : Body) → slice_get bodies number ≡ Some body → AllByRecursion (IsGoodLabel body.parameters (length body.items.items)) labels
+AreLabelsOf bodies number labels =
+    (body : Body) → slice_get bodies number ≡ Some body
+    → AllByRecursion (IsGoodLabel body.parameters (length body.items.items)) labels
 
 -- a frame has a number for each parameter of the body
 abbrev pub HasGiven : List Body → ℕ → Frame → Type 0
-HasGiven bodies number frame = (body : Body) → slice_get bodies number ≡ Some body → length frame.given.now ≡ body.parameters
+HasGiven bodies number frame =
+    (body : Body) → slice_get bodies number ≡ Some body → length frame.given.now ≡ body.parameters
 
 -- the numbers of a frame
 abbrev pub numbers_of : Frame → Numbers

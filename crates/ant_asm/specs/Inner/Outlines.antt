@@ -33,7 +33,8 @@ most_size = 65535
 abbrev pub line_before : List Outline → NamedLine → Outline → Outline
 line_before blocks (NamedLine.Label name) others = Labelled name.items others
 line_before blocks (NamedLine.Instruction line) others = Instructed line others
-line_before blocks (NamedLine.Use line name block) others = Used line name.items (slice_index_or blocks block Closed) others
+line_before blocks (NamedLine.Use line name block) others =
+    Used line name.items (slice_index_or blocks block Closed) others
 
 -- lines before others
 abbrev pub lines_before : List Outline → List NamedLine → Outline → Outline
@@ -70,7 +71,8 @@ counted_from place (NamedLine.Label name ∷ lines) = counted_from (suc place) l
 counted_from place (NamedLine.Instruction line ∷ lines) = place ∷ counted_from (suc place) lines
 counted_from place (NamedLine.Use line name block ∷ lines) = place ∷ counted_from (suc place) lines
 
--- a body behind blocks of these outlines uses these alone, and tells its size, where that is at most so much, and the places of its items
+-- a body behind blocks of these outlines uses these alone, and tells its size, where that is at most so much, and the
+-- places of its items
 pub record IsGoodNamed (blocks : List Outline) (body : NamedBody) : Type 0 where
   pub uses : AllByRecursion (IsUseBelow (length blocks)) body.lines.items
   pub counted : body.counted.items ≡ counted_from 0 body.lines.items
@@ -79,7 +81,8 @@ pub record IsGoodNamed (blocks : List Outline) (body : NamedBody) : Type 0 where
 -- so does each of some bodies
 abbrev pub AreGoodNamed : List Outline → List NamedBody → Type 0
 AreGoodNamed blocks [] = Unit {0}
-AreGoodNamed blocks (body ∷ bodies) = IsGoodNamed blocks body × AreGoodNamed (blocks ++ outline_in blocks body ∷ []) bodies
+AreGoodNamed blocks (body ∷ bodies) =
+    IsGoodNamed blocks body × AreGoodNamed (blocks ++ outline_in blocks body ∷ []) bodies
 
 -- how many instructions a line of a body expands to, as the bodies tell it
 abbrev pub size_in : Option NamedBody → ℕ
@@ -100,14 +103,20 @@ abbrev pub blocks_named : List NamedBody → List (Bor (List ℕ) × ℕ) → Li
 blocks_named bodies entries name = outline_in_map (outlines_of bodies) (known_as entries name)
 
 -- main, where these lines are left: what was read of it and of the block that has begun stands before them
-abbrev pub rest_around : List NamedBody → Option Around → NamedBody → (List ℕ → Option Outline) → List NumberedLine → Outline
-rest_around bodies None current blocks lines = lines_before (outlines_of bodies) current.lines.items (main_outline lines false blocks)
+abbrev pub rest_around : List NamedBody → Option Around → NamedBody → (List ℕ → Option Outline) → List NumberedLine
+    → Outline
+rest_around bodies None current blocks lines =
+    lines_before (outlines_of bodies) current.lines.items (main_outline lines false blocks)
 rest_around bodies (Some around) current blocks lines =
     lines_before (outlines_of bodies) around.main.lines.items
-    (main_outline lines true (with_name around.name.now (lines_before (outlines_of bodies) current.lines.items (block_outline lines blocks)) blocks))
+    (main_outline lines true
+    (with_name around.name.now
+    (lines_before (outlines_of bodies) current.lines.items (block_outline lines blocks)) blocks))
 
 abbrev pub rest_of : Outlines → List NumberedLine → Outline
-rest_of outlines lines = rest_around outlines.bodies.items outlines.around outlines.current (blocks_named outlines.bodies.items outlines.blocks.entries) lines
+rest_of outlines lines =
+    rest_around outlines.bodies.items outlines.around outlines.current
+    (blocks_named outlines.bodies.items outlines.blocks.entries) lines
 
 -- what the lines of a text say that have a token
 abbrev pub said_before : ℕ → Read Line → List NumberedLine → List NumberedLine
@@ -134,7 +143,8 @@ IsGoodAround blocks (Some around) = IsGoodNamed blocks around.main
 pub record IsGoodOutlines (outlines : Outlines) : Type 0 where
   pub bodies : AreGoodNamed [] outlines.bodies.items
   pub few : length outlines.bodies.items ≤ most_blocks
-  pub blocks : (name : List ℕ) (n : ℕ) → known_as outlines.blocks.entries name ≡ Some n → n < length outlines.bodies.items
+  pub blocks : (name : List ℕ) (n : ℕ) → known_as outlines.blocks.entries name ≡ Some n
+      → n < length outlines.bodies.items
   pub current : IsGoodNamed (outlines_of outlines.bodies.items) outlines.current
   pub around : IsGoodAround (outlines_of outlines.bodies.items) outlines.around
 
@@ -153,10 +163,13 @@ pub record AreOutlinesOf (lines : List NumberedLine) (bodies : List NamedBody) :
 abbrev pub state_at : ℕ → ℕ → ℕ → ℕ
 state_at left at after = if left == 0 then after else at
 
--- the labels of a body itself, of which these lines are left, by the numbers of its next instruction and of what follows the body
+-- the labels of a body itself, of which these lines are left, by the numbers of its next instruction and of what
+-- follows the body
 abbrev pub own_states : Outline → ℕ → ℕ → List WayStep → List LabelState
 own_states Closed at after way = []
-own_states (Labelled name others) at after way = (record { way = way; name = name; state = state_at (outline_size others) at after }) ∷ own_states others at after way
+own_states (Labelled name others) at after way =
+    (record { way = way; name = name; state = state_at (outline_size others) at after })
+    ∷ own_states others at after way
 own_states (Instructed line others) at after way = own_states others (at + 1) after way
 own_states (Used line name block others) at after way = own_states others (at + outline_size block) after way
 
@@ -182,12 +195,17 @@ all_states outline at after way = own_states outline at after way ++ inner_state
 abbrev pub told_lines : Outline → ℕ → List WayStep → List StateLine
 told_lines Closed at way = []
 told_lines (Labelled name others) at way = told_lines others at way
-told_lines (Instructed line others) at way = (record { state = at; line = line; way = way }) ∷ told_lines others (at + 1) way
-told_lines (Used line name block others) at way = told_lines block at (further way name line) ++ told_lines others (at + outline_size block) way
+told_lines (Instructed line others) at way =
+    (record { state = at; line = line; way = way }) ∷ told_lines others (at + 1) way
+told_lines (Used line name block others) at way =
+    told_lines block at (further way name line) ++ told_lines others (at + outline_size block) way
 
 -- the labels of main and of all that it puts in place, and where their instructions stand
 abbrev pub source_seen : List NamedBody → ReadSource
-source_seen bodies = record { labels = all_states (outline_at bodies (main_of bodies)) 0 0 []; lines = told_lines (outline_at bodies (main_of bodies)) 0 [] }
+source_seen bodies = record {
+  labels = all_states (outline_at bodies (main_of bodies)) 0 0 [];
+  lines = told_lines (outline_at bodies (main_of bodies)) 0 [];
+}
 
 -- the label of a line, if it is one
 abbrev pub label_of : NamedLine → ℕ → List WayStep → List LabelState

@@ -35,7 +35,8 @@ main_of (Some outer) current = outer.main
 -- the block that has begun
 abbrev pub begun_seen : List Items → Option Outer → OpenBody → Option Begun
 begun_seen trees None current = None
-begun_seen trees (Some outer) current = Some (record { name = outer.name.now; line = outer.line; draft = open_seen trees current })
+begun_seen trees (Some outer) current =
+    Some (record { name = outer.name.now; line = outer.line; draft = open_seen trees current })
 
 -- what stands above a line
 abbrev pub standing_of : List Body → Option Outer → OpenBody → List (Bor (List ℕ) × ℕ) → Option ℕ → Standing
@@ -48,7 +49,8 @@ standing_of bodies outer current blocks unknown = record {
 }
 
 abbrev pub program_seen : Program → Standing
-program_seen program = standing_of program.bodies.items program.outer program.current program.blocks.entries program.unknown
+program_seen program =
+    standing_of program.bodies.items program.outer program.current program.blocks.entries program.unknown
 
 -- main is good, and there is room for the block that has begun
 abbrev pub IsGoodOuter : List Body → Option Outer → Type 0
@@ -93,7 +95,8 @@ then_lines (Err fault) later = Err fault
 -- the lines that are left, one after another
 abbrev pub reading : Standing → List TokenLine → Result Standing AsmFault
 reading above [] = Ok above
-reading above (line ∷ lines) = then_lines (stepped above line.number (read_line line.tokens)) (λ under. reading under lines)
+reading above (line ∷ lines) =
+    then_lines (stepped above line.number (read_line line.tokens)) (λ under. reading under lines)
 
 -- the same of lines of which some have no token, and the first has this number
 unfoldable pub reading_from : Standing → ℕ → List (List ℕ) → Result Standing AsmFault

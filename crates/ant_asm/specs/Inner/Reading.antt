@@ -218,4 +218,5 @@ read_by None None token rest = read_mark token rest
 -- a line
 unfoldable pub read_line : List (List ℕ) → Read Line
 read_line [] = Err MissingToken
-read_line (token ∷ rest) = good_token token (read_by (word_place form_words token) (word_place keyword_words token) token rest)
+read_line (token ∷ rest) =
+    good_token token (read_by (word_place form_words token) (word_place keyword_words token) token rest)

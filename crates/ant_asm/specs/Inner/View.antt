@@ -38,7 +38,12 @@ open_items trees items = map (open_item trees) items
 
 -- a body that is being read
 abbrev pub open_seen : List Items → OpenBody → Draft
-open_seen trees draft = record { parameters = draft.parameters; meaning = known_as draft.names.entries; items = open_items trees draft.items.items; size = draft.size }
+open_seen trees draft = record {
+  parameters = draft.parameters;
+  meaning = known_as draft.names.entries;
+  items = open_items trees draft.items.items;
+  size = draft.size;
+}
 
 -- an item, whose use names a block by its number
 pub data Flat : Type 0 where
@@ -65,21 +70,26 @@ abbrev pub parameters_in : Option Body → ℕ
 parameters_in None = 0
 parameters_in (Some body) = body.parameters
 
--- an item is of a block that there is, with a label for each parameter, or an instruction whose numbers are in their ranges, and expands to so many instructions
+-- an item is of a block that there is, with a label for each parameter, or an instruction whose numbers are in their
+-- ranges, and expands to so many instructions
 abbrev pub IsGoodKind : List Body → ℕ → OpenKind → Type 0
 IsGoodKind bodies size (OpenKind.Do action) = IsInRange (instruction_by (λ label. 0) (mapped seen action)) × (size ≡ 1)
 IsGoodKind bodies size (OpenKind.Use block handed) =
-    (block < length bodies) × (length handed.items ≡ parameters_in (slice_get bodies block)) × (size ≡ size_of (tree_at bodies block)) × (1 ≤ size)
+    (block < length bodies) × (length handed.items ≡ parameters_in (slice_get bodies block))
+    × (size ≡ size_of (tree_at bodies block)) × (1 ≤ size)
 
 -- items are good, and start one after another, where so many instructions stand before them; all are so many
 abbrev pub AreGoodItems : List Body → ℕ → List OpenItem → ℕ → Type 0
 AreGoodItems bodies before [] all = before ≡ all
-AreGoodItems bodies before (item ∷ items) all = (size : ℕ) × IsGoodKind bodies size item.kind × (item.start ≡ before) × AreGoodItems bodies (before + size) items all
+AreGoodItems bodies before (item ∷ items) all =
+    (size : ℕ) × IsGoodKind bodies size item.kind × (item.start ≡ before)
+    × AreGoodItems bodies (before + size) items all
 
 -- a body that is being read is good
 pub record IsGoodOpen (bodies : List Body) (draft : OpenBody) : Type 0 where
   pub items : AreGoodItems bodies 0 draft.items.items draft.size
-  pub names : (name : List ℕ) (label : Label) → known_as draft.names.entries name ≡ Some label → IsGoodLabel draft.parameters (length draft.items.items) label
+  pub names : (name : List ℕ) (label : Label) → known_as draft.names.entries name ≡ Some label
+      → IsGoodLabel draft.parameters (length draft.items.items) label
   pub few : draft.size ≤ most
 
 -- a body has these parameters and nothing else
@@ -92,5 +102,6 @@ pub record IsNew (named : List (List ℕ)) (draft : OpenBody) : Type 0 where
 -- a body that was read is closed: its labels stand for what they stand for in it, and it knows where its items start
 pub record IsClosedAs (draft : OpenBody) (body : Body) : Type 0 where
   pub parameters : body.parameters ≡ draft.parameters
-  pub items : map flat_of body.items.items ≡ map (flat_resolved (way_or_next (known_as draft.names.entries))) draft.items.items
+  pub items : map flat_of body.items.items
+      ≡ map (flat_resolved (way_or_next (known_as draft.names.entries))) draft.items.items
   pub starts : body.starts.items ≡ map start_of draft.items.items ++ draft.size ∷ []

@@ -68,7 +68,8 @@ steps_after bodies (level ∷ levels) = steps_in (rest_at bodies level.spot) + s
 abbrev pub steps_left : Walk → ℕ
 steps_left walk = steps_in (rest_at walk.bodies.now walk.spot) + steps_after walk.bodies.now walk.outer.items
 
--- a spot in one of these bodies, on the way to which there are so many others: each has a lesser number than the one round it
+-- a spot in one of these bodies, on the way to which there are so many others: each has a lesser number than the one
+-- round it
 pub record IsSpotIn (bodies : List NamedBody) (depth : ℕ) (spot : Spot) : Type 0 where
   pub known : depth + spot.number < length bodies
   pub ends : spot.at + outline_size (rest_at bodies spot) ≡ spot.end
@@ -108,7 +109,8 @@ met_labels bodies (Body spot) way = own_states (outline_at bodies spot.number) s
 abbrev pub FitsMet : List NamedBody → Met → Type 0
 FitsMet bodies Nothing = Unit {0}
 FitsMet bodies (Instruction at line) = Unit {0}
-FitsMet bodies (Body spot) = (spot.number < length bodies) × (spot.at + outline_size (outline_at bodies spot.number) ≤ most)
+FitsMet bodies (Body spot) =
+    (spot.number < length bodies) × (spot.at + outline_size (outline_at bodies spot.number) ≤ most)
 
 -- a step of a walk, and its end
 pub record IsStep (old new : Walk) (met : Met) : Type 0 where

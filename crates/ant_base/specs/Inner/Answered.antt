@@ -30,7 +30,8 @@ abbrev pub given_of : Result ℕ Error → Result (Option ℕ) FetchFault
 given_of (Ok given) = Ok (Some given)
 given_of (Err error) = given_at (error_kind error)
 
--- a read of a reader that is sure: it is done or wants memory, and where there is more, one byte at least was taken; as many less are sure as were taken
+-- a read of a reader that is sure: it is done or wants memory, and where there is more, one byte at least was taken; as
+-- many less are sure as were taken
 abbrev pub ReadsOn : (sure new_sure taken new_taken : ℕ) → Result Bool FetchFault → Type 0
 ReadsOn sure new_sure taken new_taken (Ok true) = ⊤
 ReadsOn sure new_sure taken new_taken (Ok false) = (taken < new_taken) × (sure + taken ≤ new_sure + new_taken)

@@ -30,7 +30,8 @@ pub record Opens (world : Grid) : Type 0 where
   pub kinds : List Kind
   pub opened : world ≡ opening world.width world.height kinds
 
--- the worlds and the players of a cup: as many as a cup may have, worlds at the start of a game, and brains with a state at least
+-- the worlds and the players of a cup: as many as a cup may have, worlds at the start of a game, and brains with a
+-- state at least
 pub record AreReady (worlds : List Grid) (players : List (List Instr)) : Type 0 where
   pub some_worlds : fewest_names Worlds ≤ length worlds
   pub few_worlds : length worlds ≤ most_names
@@ -40,7 +41,8 @@ pub record AreReady (worlds : List Grid) (players : List (List Instr)) : Type 0 
   pub sound : AllByRecursion (λ (player : List Instr). 1 ≤ length player) players
 
 -- a game that can be played, where n is a world with one of the seeds: its world and its players are there, and fit
-pub record CanBePlayed (worlds : List Grid) (players : List (List Instr)) (seeds : Seeds) (rounds n red black : ℕ) : Type 0 where
+pub record CanBePlayed (worlds : List Grid) (players : List (List Instr)) (seeds : Seeds)
+    (rounds n red black : ℕ) : Type 0 where
   pub some_seeds : 1 ≤ seeds.count
   pub world_there : world_at seeds n < length worlds
   pub red_there : red < length players
@@ -55,7 +57,8 @@ CanPlay workers games = CanBePlayedBy workers (CanBePlayed games.worlds.now game
 abbrev pub GivesScores : {A : Type 0} → Games → List Pairing → Result (Vec Played A) OutOfMemory → Type 0
 GivesScores games = ArePlayed (score_in_cup games.worlds.now games.players.now games.seeds games.rounds)
 
-module _ {P A : Type 0} (g : Shared P (Bor Games × (Bor (List Pairing) × (ℕ × Unit {0}))) (Result (Vec Played A) OutOfMemory)) where
+module _ {P A : Type 0}
+    (g : Shared P (Bor Games × (Bor (List Pairing) × (ℕ × Unit {0}))) (Result (Vec Played A) OutOfMemory)) where
   -- a function plays the games of cups that can be played, each with its score
   abbrev pub PlaysCup : P → Type 0
   PlaysCup play = PlaysGames g (λ games. CanBePlayed games.worlds.now games.players.now games.seeds games.rounds)

@@ -81,4 +81,5 @@ minds_in setting game = record { red = setting.red; black = setting.black; sheet
 -- the text of a game by its plan
 abbrev pub text_in : Setting → PlannedGame → List ℕ
 text_in setting game =
-    whole_text (minds_in setting game) game.plan.seed game.plan.rounds (chooses game.plan.dumps) game.plan.window game.plan.stats (world_of setting.world)
+    whole_text (minds_in setting game) game.plan.seed game.plan.rounds
+    (chooses game.plan.dumps) game.plan.window game.plan.stats (world_of setting.world)

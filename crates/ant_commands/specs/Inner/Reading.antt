@@ -34,7 +34,8 @@ outcome_of contents_of (Ok value) = Contents (contents_of value)
 outcome_of contents_of (Err stop) = Stopped (reason_of stop)
 
 -- a file of these was not read, and the shelf's count of faults rose
-pub record FailsAt (shelf new_shelf : ShelfState) (files : List File) (fetches : List Fetched) (name : List ℕ) : Type 0 where
+pub record FailsAt (shelf new_shelf : ShelfState) (files : List File) (fetches : List Fetched)
+    (name : List ℕ) : Type 0 where
   pub stopped : StopsAt (IsUnsure shelf name) files fetches
   pub rose : Rose shelf.faults new_shelf.faults
 
@@ -60,7 +61,8 @@ pub record ReadsFiles (shelf new_shelf : ShelfState) (files : List File) (outcom
 -- a file of any kind was fetched, or its reading stops at that
 abbrev pub FetchesFile : {A : Type 0} → ShelfState → ShelfState → List ℕ → Result (Vec ℕ A) CommandStop → Type 0
 FetchesFile {A} shelf new_shelf name (Ok bytes) = Fetches {A = A} shelf new_shelf name (Ok bytes)
-FetchesFile shelf new_shelf name (Err stop) = (kind : FileKind) → ReadsFiles shelf new_shelf (record { name = name; kind = kind } ∷ []) (Stopped (reason_of stop))
+FetchesFile shelf new_shelf name (Err stop) =
+    (kind : FileKind) → ReadsFiles shelf new_shelf (record { name = name; kind = kind } ∷ []) (Stopped (reason_of stop))
 
 -- why a command stops at a fetch
 abbrev pub fetch_reason : List ℕ → FetchFault → Reason
@@ -112,13 +114,17 @@ EndsBy command before after fetches None = IsDone command before after fetches
 EndsBy command before after fetches (Some reason) = StopsFor command before after fetches reason
 
 -- a command was carried out, and ended so; it sees the shelf and the output alone, so whatever the errors hold
-pub record CarriesOut (command : Job) (shelf new_shelf : ShelfState) (out new_out : SinkState) (stop : Option Reason) : Type 0 where
+pub record CarriesOut (command : Job) (shelf new_shelf : ShelfState) (out new_out : SinkState)
+    (stop : Option Reason) : Type 0 where
   pub fetches : List Fetched
   pub fetched : FetchesEach shelf new_shelf fetches
-  pub ends : (err new_err : SinkState) → EndsBy command (outside_of shelf out err) (outside_of new_shelf new_out new_err) fetches stop
+  pub ends : (err new_err : SinkState)
+      → EndsBy command (outside_of shelf out err) (outside_of new_shelf new_out new_err) fetches stop
 
 -- words were carried out, and it ended so, whatever the errors hold
-pub record CarriesOutWords (words : List (List ℕ)) (shelf new_shelf : ShelfState) (out new_out : SinkState) (ending : Ending) : Type 0 where
+pub record CarriesOutWords (words : List (List ℕ)) (shelf new_shelf : ShelfState) (out new_out : SinkState)
+    (ending : Ending) : Type 0 where
   pub fetches : List Fetched
   pub fetched : FetchesEach shelf new_shelf fetches
-  pub ends : (err new_err : SinkState) → Ends words (outside_of shelf out err) (outside_of new_shelf new_out new_err) fetches ending
+  pub ends : (err new_err : SinkState)
+      → Ends words (outside_of shelf out err) (outside_of new_shelf new_out new_err) fetches ending

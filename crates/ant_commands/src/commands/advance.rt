@@ -11,8 +11,9 @@ use match_save::write_saved;
 use round_book::Crew;
 use std::alloc::Global;
 
-/// Goes on with the game of a save by a crew until so many rounds are done in all, and writes its save there. A save of which more rounds are done
-/// is refused. Nothing is written before the last round is played; the crew may have any number of workers.
+/// Goes on with the game of a save by a crew until this number of rounds is done in all, and writes its save there. A
+/// save with more rounds done is refused. Nothing is written before the last round is played; the crew may have any
+/// number of workers.
 pub fn advance<'w, C: Crew, S: Shelf, K: Sink>(
     alloc: Global,
     crew: &mut C,

@@ -12,8 +12,8 @@ use ant_base::{Failed, Layout, Shelf, Sink, layout};
 use brain_read::write_brain;
 use std::alloc::Global;
 
-/// Writes the canonical text of the brain that a labelled program becomes; or, where they are wanted, a line for each of its labels and then one
-/// for each of its states.
+/// Writes the canonical text of the brain of a labelled program; or, if requested, a line for each of its labels and
+/// then one for each of its states.
 pub fn asm<'w, S: Shelf, K: Sink>(
     alloc: Global,
     name: &'w str,

@@ -162,8 +162,8 @@ fn names_of(alloc: Global, words: &[String]) -> Result<Names, OutOfMemory>
     Ok(names)
 }
 
-/// Plays all games of a cup by the contest's rules, and writes its standing; where the games are wanted, their lines before it. All files are
-/// read before the first game.
+/// Plays all games of a cup by the contest's rules, and writes its standing; where the games are wanted, their lines
+/// before it. All files are read before the first game.
 pub fn cup<
     'w,
     S: Shelf,

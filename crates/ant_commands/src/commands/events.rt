@@ -40,7 +40,8 @@ fn push_events<K: Sink>(
     game_reports::events(world, brains, plan, food, out)
 }
 
-/// Plays a game turn by turn, and writes who died in it, how the score went and, if that is asked for, who took and dropped food, from a round on.
+/// Plays a game turn by turn, and writes who died in it, how the score went and, if that is asked for, who took and
+/// dropped food, from a round on.
 pub fn events<'w, S: Shelf, K: Sink>(
     alloc: Global,
     game: GameWords<'w>,

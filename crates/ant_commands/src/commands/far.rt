@@ -66,8 +66,8 @@ fn take_back<T>(x: &mut T)
     ensures { x.new ≡ x.old }
 {}
 
-/// Plays the game that the words ask for, by as many workers as they say, which stand by from before the first file is fetched to the last
-/// round. The call may wait for a worker.
+/// Plays the game that the words ask for, by as many workers as they say, which stand by from before the first file is
+/// fetched to the last round. The call may wait for a worker.
 pub fn run_far<'w, R: Threads + Wait + Sync, S: Shelf, K: Sink, G: Gate>(
     rt: &R,
     alloc: Global,

@@ -113,8 +113,8 @@ pub struct Setting {
     pub black: Brain,
 }
 
-// The files of a game, in the order in which its words name them. Each is read before the next one is fetched, and both brains are
-// fetched even if they have the same name.
+// The files of a game, in the order in which its words name them. Each is read before the next one is fetched, and both
+// brains are fetched even if they have the same name.
 pub fn setting_of<'w, S: Shelf>(
     alloc: Global,
     names: FileNames<'w>,

@@ -11,7 +11,7 @@ use brain_minimise::{Minimised, push_minimised};
 use brain_read::Brain;
 use std::alloc::Global;
 
-/// Writes what is told of a brain, minimised; or, where the states are wanted, a line for each of them.
+/// Writes the text of a brain, minimised; or, if the states are requested, a line for each of them.
 pub fn minimise<'w, S: Shelf, K: Sink>(
     alloc: Global,
     name: &'w str,

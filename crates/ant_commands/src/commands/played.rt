@@ -7,7 +7,8 @@ use match_run::{Game, OutOfMemory};
 use round_book::{Crew, Field};
 use std::alloc::Global;
 
-/// The game on a field after so many rounds, played in windows of so many turns. The field is whole and at place 0.
+/// The game on a field after this number of rounds, played in windows of this number of turns. The field is whole and
+/// at place 0.
 pub fn play_game<'b, C: Crew>(
     alloc: Global,
     crew: &mut C,

@@ -32,7 +32,7 @@ fn read_save<'w>(
     named(name, open_save(alloc, bytes, rounds))
 }
 
-/// The save of a file, of which at most so many rounds are done.
+/// The save of a file, with at most this number of rounds done.
 pub fn saved_in<'w, S: Shelf>(
     alloc: Global,
     shelf: &mut S,
@@ -45,8 +45,8 @@ pub fn saved_in<'w, S: Shelf>(
     read_save(alloc, name, rounds, &bytes)
 }
 
-/// Goes on with the game of a save until so many rounds are done in all, and writes the rest of its text: turn by turn where one worker is to play
-/// and no counts are asked for, else by a crew. A save of which more rounds are done is refused.
+/// Goes on with the game of a save until this number of rounds is done in all, and writes the rest of its text: turn by
+/// turn if one worker plays and no counts are requested, otherwise by a crew. A save with more rounds done is refused.
 pub fn resume<'w, C: Crew, S: Shelf, K: Sink>(
     alloc: Global,
     crew: &mut C,

@@ -56,8 +56,8 @@ pub fn dumps_of(alloc: Global, word: DumpRounds<'_>) -> Result<Dumps, OutOfMemor
     }
 }
 
-/// What a game is asked to do, and by which sheet. The chosen rounds become a list, which takes memory, before any file is fetched: its lack
-/// leaves all untouched then.
+/// What a game has to do, and by which sheet. The selected rounds become a list, which takes memory, before any file is
+/// fetched: if memory runs out there, nothing was touched.
 pub fn planned_game<'w>(alloc: Global, words: RunWords<'_>) -> Result<PlannedGame, CommandStop<'w>>
     ensures { IsPlanned (plain_setup words.entry) result }
 {
@@ -78,7 +78,8 @@ pub fn planned_game<'w>(alloc: Global, words: RunWords<'_>) -> Result<PlannedGam
     })
 }
 
-// Plays a game, and pushes its text: turn by turn where one worker is to play and no counts are asked for, else by a crew.
+// Plays a game, and pushes its text: turn by turn where one worker is to play and no counts are asked for, else by a
+// crew.
 fn play_setting<C: Crew, K: Sink>(
     alloc: Global,
     crew: &mut C,
@@ -106,8 +107,8 @@ fn play_setting<C: Crew, K: Sink>(
     }
 }
 
-// Plays a game that asks for no counts turn by turn, and pushes its text. It makes no looks, since nobody asked for their counts, and takes
-// no memory for a second world.
+// Plays a game that asks for no counts turn by turn, and pushes its text. It makes no looks, since nobody asked for
+// their counts, and takes no memory for a second world.
 fn play_setting_alone<K: Sink>(
     setting: Setting,
     game: &PlannedGame,

@@ -34,8 +34,8 @@ fn pair_of<'w, S: Shelf>(
     Ok(Pair { first, second })
 }
 
-/// Writes whether two brains are the same but for the numbers of their states, or where they first differ; where the way is wanted, with a line
-/// for each answer that leads there.
+/// Writes whether two brains are the same except for the numbers of their states, or where they first differ; if the
+/// way is requested, with a line for each answer that leads there.
 pub fn same<'w, S: Shelf, K: Sink>(
     alloc: Global,
     first: &'w str,

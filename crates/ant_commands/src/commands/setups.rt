@@ -114,7 +114,7 @@ impl<'w> RunWords<'w> {
 }
 
 impl<'w> CupEntry<'w> {
-    /// The cup that is asked for.
+    /// The requested cup.
     pub fn of(asked: Asked<'w>) -> Self
         requires kind { asked.kind ≡ Cup }
         requires within { AskedWithin (plain asked) }
@@ -169,7 +169,7 @@ impl<'w> ResumeOptions<'w> {
 }
 
 impl GenShape {
-    /// The shape that `gen` asks for.
+    /// The shape that `gen` requests.
     pub fn of(asked: Asked<'_>) -> Self
         requires { asked.kind ≡ Gen }
         ensures { result ≡ shape_of (plain asked.entry) }

@@ -130,8 +130,8 @@ fn push_end<K: Sink>(summary: Summary, out: &mut K) -> Result<(), Failed>
     push_stats(summary.totals, out)
 }
 
-/// Makes the world of the contest's shape from a seed, plays so many rounds of it by the contest's rules, the task's sample brain on both
-/// sides, and writes what came of it. The crew may have any number of workers.
+/// Generates the world of the contest's shape from a seed, plays this number of rounds of it by the contest's rules,
+/// with the task's sample brain on both sides, and writes the result. The crew may have any number of workers.
 pub fn workload<'w, C: Crew, S: Shelf, K: Sink>(
     alloc: Global,
     crew: &mut C,

@@ -7,14 +7,18 @@ use Rattle.brain_minimise.specs.Equivalence.{Relation, IsBisimulation}
 
 -- two states do alike: they have one shape, and their successors are of the same classes
 abbrev pub DoAlike : List Instr → List ℕ → ℕ → ℕ → Type 0
-DoAlike brain classes a b = redirected (slice_index classes) (instruction_at brain a) ≡ redirected (slice_index classes) (instruction_at brain b)
+DoAlike brain classes a b =
+    redirected (slice_index classes) (instruction_at brain a)
+    ≡ redirected (slice_index classes) (instruction_at brain b)
 
 -- each state has a class, which is named by its least member, and equivalent states are of one class
 pub record AreClasses (brain : List Instr) (classes : List ℕ) : Type 0 where
   pub each : length classes ≡ length brain
   pub low : (state : ℕ) → state < length brain → slice_index classes state ≤ state
-  pub own : (state : ℕ) → state < length brain → slice_index classes (slice_index classes state) ≡ slice_index classes state
-  pub all : (related : Relation) → IsBisimulation brain brain related → (a b : ℕ) → related a b ≡ true → slice_index classes a ≡ slice_index classes b
+  pub own : (state : ℕ) → state < length brain
+      → slice_index classes (slice_index classes state) ≡ slice_index classes state
+  pub all : (related : Relation) → IsBisimulation brain brain related → (a b : ℕ) → related a b ≡ true
+      → slice_index classes a ≡ slice_index classes b
 
 -- each state does as its class's least member
 abbrev pub AreStable : List Instr → List ℕ → Type 0
@@ -25,9 +29,11 @@ abbrev pub slack : ℕ → List ℕ → ℕ
 slack state [] = 0
 slack state (class ∷ classes) = state - class + slack (state + 1) classes
 
--- the new class of a state: the old one where the state does as its least member, and else that of the first state of the old
--- class which doesn't
+-- the new class of a state: the old one where the state does as its least member, and else that of the first state of
+-- the old class which doesn't
 pub data IsNewClass (brain : List Instr) (classes : List ℕ) (heirs : List (Option ℕ)) (state class : ℕ) : Type 0 where
-  Stays : DoAlike brain classes state (slice_index classes state) → class ≡ slice_index classes state → IsNewClass brain classes heirs state class
-  Parts : (DoAlike brain classes state (slice_index classes state) → ⊥) → slice_index_or heirs (slice_index classes state) None ≡ Some class
+  Stays : DoAlike brain classes state (slice_index classes state) → class ≡ slice_index classes state
+      → IsNewClass brain classes heirs state class
+  Parts : (DoAlike brain classes state (slice_index classes state) → ⊥)
+      → slice_index_or heirs (slice_index classes state) None ≡ Some class
       → IsNewClass brain classes heirs state class

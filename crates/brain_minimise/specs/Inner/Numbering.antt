@@ -14,8 +14,10 @@ pub record AreNumbers (classes : List ℕ) (seen : List Bool) (numbers : List (O
   pub each : length numbers ≡ length seen
   pub unseen : (state number : ℕ) → new_number numbers state ≡ Some number → is_seen seen state ≡ true
   pub numbered : (state : ℕ) → is_seen seen state ≡ true → IsSome (new_number numbers state)
-  pub same_class : (a b number : ℕ) → new_number numbers a ≡ Some number → new_number numbers b ≡ Some number → slice_index classes a ≡ slice_index classes b
-  pub same_number : (a b : ℕ) → is_seen seen a ≡ true → is_seen seen b ≡ true → slice_index classes a ≡ slice_index classes b
+  pub same_class : (a b number : ℕ) → new_number numbers a ≡ Some number → new_number numbers b ≡ Some number
+      → slice_index classes a ≡ slice_index classes b
+  pub same_number : (a b : ℕ) → is_seen seen a ≡ true → is_seen seen b ≡ true
+      → slice_index classes a ≡ slice_index classes b
       → new_number numbers a ≡ new_number numbers b
   pub rising : IsRising numbers
 

@@ -13,4 +13,5 @@ abbrev pub first_state_fault : ℕ → List TokenLine → List Instr → Option 
 first_state_fault n [] list = None
 first_state_fault n (line ∷ lines) [] = None
 first_state_fault n (line ∷ lines) (instruction ∷ list) =
-    option_or (option_map (NoSuchState line.number) (first_not_below n (states_of instruction))) (first_state_fault n lines list)
+    option_or (option_map (NoSuchState line.number) (first_not_below n (states_of instruction)))
+    (first_state_fault n lines list)

@@ -19,7 +19,8 @@ total (class ∷ classes) = class + total classes
 pub record AreJoined (old new : List ℕ) (a b : ℕ) : Type 0 where
   pub each : length new ≡ length old
   pub joined : slice_index new a ≡ slice_index new b
-  pub kept : (x y : ℕ) → x < length old → y < length old → slice_index old x ≡ slice_index old y → slice_index new x ≡ slice_index new y
+  pub kept : (x y : ℕ) → x < length old → y < length old → slice_index old x ≡ slice_index old y
+      → slice_index new x ≡ slice_index new y
   pub only : (x y : ℕ) → x < length old → y < length old → slice_index new x ≡ slice_index new y
       → (slice_index old x ≡ slice_index old y)
       ⊎ ((slice_index old x ≡ slice_index old a) × (slice_index old y ≡ slice_index old b))

@@ -11,7 +11,8 @@ abbrev pub IsQuiet : Minds → ℕ → Moment → List Break → ℕ → ℕ →
 IsQuiet minds seed m items r n = (t : ℕ) → t < n → met_in_round minds seed m items r t ≡ None
 
 -- the round stops first after this turn, at this moment
-pub record StopsIn (minds : Minds) (seed : ℕ) (m : Moment) (items : List Break) (r : ℕ) (stop : Stop) (end : Moment) : Type 0 where
+pub record StopsIn (minds : Minds) (seed : ℕ) (m : Moment) (items : List Break) (r : ℕ) (stop : Stop)
+    (end : Moment) : Type 0 where
   pub round : stop.round ≡ r
   pub made : stop.id < m.world.ids
   pub met : met_in_round minds seed m items r stop.id ≡ Some stop.which

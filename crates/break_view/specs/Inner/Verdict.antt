@@ -26,7 +26,13 @@ refusal_at line refusal = fault_at line refusal.fault
 
 -- how the lines of breaks are read: of each its break is kept
 abbrev pub break_reader : Reader Break Break BreakFault
-break_reader = record { most = most_breaks; beyond = TooMany; read = read_line; refused = refusal_at; keep = λ line item. item }
+break_reader = record {
+  most = most_breaks;
+  beyond = TooMany;
+  read = read_line;
+  refused = refusal_at;
+  keep = λ line item. item;
+}
 
 -- the breaks of a text, or its fault
 unfoldable pub read_text : List ℕ → Judgement (List Break)

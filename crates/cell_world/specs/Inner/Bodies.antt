@@ -28,4 +28,5 @@ came t p (Some after) body = if after.id == t then body_at p after else body
 -- the new bodies have the ant of the one id nowhere, the other ant at p, and the rest as the old bodies have it
 pub record Moved (old new : List Body) (p : Pos) (before : Option ℕ) (after : Option Ant) : Type 0 where
   pub all_ids : length new ≡ length old
-  pub each : (t : ℕ) (none : Body) → t < length old → slice_index_or new t none ≡ came t p after (gone t before (slice_index_or old t none))
+  pub each : (t : ℕ) (none : Body) → t < length old
+      → slice_index_or new t none ≡ came t p after (gone t before (slice_index_or old t none))

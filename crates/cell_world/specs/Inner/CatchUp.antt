@@ -31,11 +31,14 @@ pub record IsCaught (was tiles others : List Tile) (bodies other_bodies : List B
   pub before : (t : ℕ) → t < length bodies → Names was i t → body_of bodies t ≡ body_of other_bodies t
   pub after : (t : ℕ) → t < length bodies → Names others i t → body_of bodies t ≡ body_of other_bodies t
 
--- some positions are left: the bodies are as they were or as in the other world, so are the tiles, and what is kept of every other position is
--- as in the other world
-pub record Catching (width : ℕ) (was tiles others : List Tile) (old bodies other_bodies : List Body) (left : List Pos) : Type 0 where
+-- some positions are left: the bodies are as they were or as in the other world, so are the tiles, and what is kept of
+-- every other position is as in the other world
+pub record Catching (width : ℕ) (was tiles others : List Tile) (old bodies other_bodies : List Body)
+    (left : List Pos) : Type 0 where
   pub all_tiles : length tiles ≡ length was
   pub all_ids : length bodies ≡ length old
-  pub either : (t : ℕ) → t < length old → (body_of bodies t ≡ body_of old t) ⊎ (body_of bodies t ≡ body_of other_bodies t)
+  pub either : (t : ℕ) → t < length old
+      → (body_of bodies t ≡ body_of old t) ⊎ (body_of bodies t ≡ body_of other_bodies t)
   pub each : (i : ℕ) → i < length was → SameTile tiles was i ⊎ IsCaught was tiles others bodies other_bodies i
-  pub done : (i : ℕ) → i < length was → ((p : Pos) → Contains left p → index_of width p ≢ i) → IsCaught was tiles others bodies other_bodies i
+  pub done : (i : ℕ) → i < length was → ((p : Pos) → Contains left p → index_of width p ≢ i)
+      → IsCaught was tiles others bodies other_bodies i

@@ -20,11 +20,25 @@ use Rattle.hex_geometry.specs.RowOrder.{pos_at}
 
 -- the ant of this id and body
 abbrev pub ant_from : ℕ → Body → Ant
-ant_from t body = record { id = t; colour = body.colour; state = body.state; resting = body.resting; facing = body.facing; laden = body.laden }
+ant_from t body = record {
+  id = t;
+  colour = body.colour;
+  state = body.state;
+  resting = body.resting;
+  facing = body.facing;
+  laden = body.laden;
+}
 
 -- the body of an ant that stands at p
 abbrev pub body_at : Pos → Ant → Body
-body_at p ant = record { place = Some p; state = ant.state; resting = ant.resting; facing = ant.facing; colour = ant.colour; laden = ant.laden }
+body_at p ant = record {
+  place = Some p;
+  state = ant.state;
+  resting = ant.resting;
+  facing = ant.facing;
+  colour = ant.colour;
+  laden = ant.laden;
+}
 
 -- what stands for a body beyond the last one
 unfoldable pub no_body : Body
@@ -65,11 +79,23 @@ stored_id ant = option_map (λ (it : Ant). it.id) ant
 
 -- what is kept of a cell
 abbrev pub tile_of : Cell → Tile
-tile_of cell = record { food = cell.food; ant = occupant_of cell.ant; rocky = cell.rocky; hill = cell.hill; red = cell.red; black = cell.black }
+tile_of cell = record {
+  food = cell.food;
+  ant = occupant_of cell.ant;
+  rocky = cell.rocky;
+  hill = cell.hill;
+  red = cell.red;
+  black = cell.black;
+}
 
 -- the grid that tiles and bodies stand for: there are as many ids as bodies
 abbrev pub grid_from : ℕ → ℕ → List Tile → List Body → Grid
-grid_from width height tiles bodies = record { width = width; height = height; ids = length bodies; cells = map (cell_from bodies) tiles }
+grid_from width height tiles bodies = record {
+  width = width;
+  height = height;
+  ids = length bodies;
+  cells = map (cell_from bodies) tiles;
+}
 
 -- where each ant stands, by id
 abbrev pub stored_places : List Body → List (Option Pos)

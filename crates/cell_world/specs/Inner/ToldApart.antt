@@ -12,7 +12,8 @@ with_resting body resting = record body { resting = resting }
 abbrev pub acts_by : List Body → ℕ → Bool
 acts_by bodies t = nat_eq (body_of bodies t).resting 0
 
--- the ids from `from` to below `to` were told apart: one less to rest for each of them, and those that don't rest are listed
+-- the ids from `from` to below `to` were told apart: one less to rest for each of them, and those that don't rest are
+-- listed
 pub record ToldApart (old new : List Body) (from to : ℕ) (listed : List ℕ) : Type 0 where
   pub all_ids : length new ≡ length old
   pub each : (t : ℕ) → body_of new t ≡ with_resting (body_of old t) (one_less from to t (body_of old t).resting)

@@ -13,9 +13,9 @@ use crate::world::World;
 use hex_geometry::{Pos, index_of};
 
 impl World {
-    /// Makes the world equal to `other`, from which it differs at none but these positions. The two are of one size and number of ids, and
-    /// the positions are inside. The work is that of these positions alone; where they are many beside the ids, all bodies are copied as one
-    /// run, which is less.
+    /// Makes the world equal to `other`, from which it differs at these positions at most. Both have the same size and
+    /// number of ids, and the positions are inside. The work depends on the number of positions; if there are many
+    /// compared with the ids, all bodies are copied as one run, which is faster.
     pub fn catch_up(&mut self, other: &World, places: &[Pos])
         requires width { self.old.width ≡ other.now.width }
         requires height { self.old.height ≡ other.now.height }
@@ -45,7 +45,8 @@ impl World {
         );
     }
 
-    /// Makes the world equal to `other`, in the memory that it has. The two are of one size and number of ids. It takes no memory.
+    /// Makes the world equal to `other`, in the memory that it has. The two are of one size and number of ids. It takes
+    /// no memory.
     pub fn copy_from(&mut self, other: &World)
         requires width { self.old.width ≡ other.now.width }
         requires height { self.old.height ≡ other.now.height }

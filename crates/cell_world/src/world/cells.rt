@@ -9,8 +9,8 @@ use crate::world::World;
 use hex_geometry::{Pos, pos_at};
 use std::marker::Model;
 
-/// The cells of a world that are left, each with its position, in row order: row by row from the top, each row from the left (the task's
-/// geography). It takes no memory. Contracts see the list of them.
+/// The cells of a world that are left, each with its position, in row order: row by row from the top, each row from the
+/// left (the task's geography). It takes no memory. Contracts see the list of them.
 #[derive(Drop)]
 pub struct Cells<'w> {
     world: &'w World,
@@ -33,7 +33,8 @@ impl<'w> Model for Cells<'w> {
 }
 
 impl World {
-    /// All its cells, each with its position, in row order: row by row from the top, each row from the left (the task's geography).
+    /// All its cells, each with its position, in row order: row by row from the top, each row from the left (the task's
+    /// geography).
     #[tactic(auto, unfolding(crate::specs::World::placed_cells))]
     pub fn cells(&self) -> Cells<'_>
         ensures cells { result ≡ placed_cells (world_of self.now) }

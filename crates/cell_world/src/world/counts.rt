@@ -20,7 +20,8 @@ impl World {
         living_in(&self.bodies, colour) as u32
     }
 
-    /// The food particles on the cells of this colour's hill, at most 2,340,900; carried food isn't counted (the task's game play).
+    /// The food particles on the cells of this colour's hill, at most 2,340,900; carried food isn't counted (the task's
+    /// game play).
     pub fn hill_food(&self, colour: Colour) -> u32
         ensures food { result ≡ hill_food_of (world_of self.now) colour }
         ensures world { IsWorld self.now }

@@ -9,9 +9,10 @@ use crate::body::Body;
 use crate::world::World;
 
 impl World {
-    /// Lets each ant of the ids from `from` to below `to` that rests rest one turn less, and lists the ids of the others in rising order (the
-    /// task's kinetics): they are the first of `acting`, as many as are answered; what stands behind them is anything. Of the dead any may be among them. The ids
-    /// were made, and there are at most 64.
+    /// Lets each resting ant with an id from `from` to below `to` rest one turn less, and lists the ids of the others
+    /// in rising order (the task's kinetics). The number that is returned is the length of that list, which is at the
+    /// front of `acting`; the elements after it have no meaning. Dead ants may be in the list. The ids existed, and
+    /// there are at most 64.
     #[inline(never)]
     pub fn count_down_rests(&mut self, from: u32, to: u32, acting: &mut [u16; 64]) -> usize
         requires order { from ≤ to }

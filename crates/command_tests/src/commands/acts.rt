@@ -12,9 +12,10 @@ const AMBUSH: Job<'static> = Job {
     ..NO_JOB
 };
 
-// Words, and what the ants execute: in no round; in the first one, in which red ant 2 is dead before its turn and black ant 1 alone can move; one
-// ant from a round on; a dead one; one that goes on without a rest; one that lives where six foes must surround it; and ants that were never
-// made, also above the last round. The first two numbers of this seed are odd and even.
+// Words, and what the ants execute: in no round; in the first one, in which red ant 2 is dead before its turn and black
+// ant 1 alone can move; one ant from a round on; a dead one; one that goes on without a rest; one that lives where six
+// foes must surround it; and ants that were never made, also above the last round. The first two numbers of this seed
+// are odd and even.
 const ACTS: [(&str, &str); 8] = [
     ("acts w r b --seed 12345 --rounds 0", "random seed: 12345\n"),
     (

@@ -108,9 +108,9 @@ const LABELS: Job<'static> = Job {
     ..NO_JOB
 };
 
-// Labelled programs, and the state to which each of their labels leads. In the first, block half has two states, and is used at the states 0
-// and 2; its second label stands at its end, and so leads to what follows the use: state 2, and state 0 behind the last item of main. In the
-// third no body that is put in place has a label.
+// Labelled programs, and the state to which each of their labels leads. In the first, block half has two states, and is
+// used at the states 0 and 2; its second label stands at its end, and so leads to what follows the use: state 2, and
+// state 0 behind the last item of main. In the third no body that is put in place has a label.
 const TOLD: [(&str, &str); 4] = [
     (
         "block left on\nturn:\nTurn Left on\nend\nblock half on\nuse left next\nmid:\nuse left on\nlast:\nend\n\

@@ -174,8 +174,8 @@ const RENUMBER: Job<'static> = Job {
     ..NO_JOB
 };
 
-// Brains, and the new number of each of their states. In the first, states 3 and 7 are merged, and no state leads to 9; in the last, no state leads
-// to 1, and 2 and 3 are merged.
+// Brains, and the new number of each of their states. In the first, states 3 and 7 are merged, and no state leads to 9;
+// in the last, no state leads to 1, and 2 and 3 are merged.
 const RENUMBERED: [(&str, &str); 2] = [
     (
         "Sense Ahead 1 5 Food\nPickUp 3 7\nMove 0 4\nTurn Left 2\nFlip 2 6 8\nMark 0 2\nTurn Right 2\nTurn Left 2\nDrop 0\nMove 0 0\n",

@@ -5,8 +5,8 @@ use crate::commands::{
 use ant_commands::Status;
 use std::test::Fail;
 
-// A world on which the player that draws numbers wins as red and draws as black against one that steps ahead: the worlds w and -. On the
-// world x no game brings food. Players a and b step ahead; c, d, -c and r draw numbers.
+// A world on which the player that draws numbers wins as red and draws as black against one that steps ahead: the
+// worlds w and -. On the world x no game brings food. Players a and b step ahead; c, d, -c and r draw numbers.
 const CUP: Job<'static> = Job {
     world: CLOSING,
     red: "Flip 2 0 0",
@@ -64,7 +64,8 @@ const PLAYED: [(&str, &str); 9] = [
     ),
 ];
 
-// Words that name files that aren't there, or in which they don't find what they want, and the line that names the first of them.
+// Words that name files that aren't there, or in which they don't find what they want, and the line that names the
+// first of them.
 const REFUSED: [(&str, &str); 10] = [
     (
         "cup --worlds w a --brains x c --seed 1 --rounds 1",
@@ -165,8 +166,8 @@ fn a_cup_prints_its_standing_or_names_its_first_file_at_fault(rt: HostRuntime) -
     check_rows(&rt, rt.alloc(), &UNREAD_CUPS)
 }
 
-// Words of cups whose games are told, and their lines before the standing: on w, -c, c and d as red win 3 to 0 against a, since a red ant dies
-// on its hill, and no other game brings food.
+// Words of cups whose games are told, and their lines before the standing: on w, -c, c and d as red win 3 to 0 against
+// a, since a red ant dies on its hill, and no other game brings food.
 const TOLD: [(&str, &str); 3] = [
     (
         "cup --worlds w --brains a c --games --seed 12345 --rounds 1",
@@ -234,10 +235,11 @@ const DRAWING: Job<'static> = Job {
     ..NO_JOB
 };
 
-// Where r is black, its ants 0, 1, 3, 5 and 6 draw the first five numbers: of seed 12345 they are 7193, 2932, 10386, 5575 and 100, so ant 1
-// alone steps ahead, and the red ant 2 dies on its hill. Where r is red, its ant 4 alone steps, and nobody dies. The other seed is the state that
-// follows 12345, in its lowest 30 bits, so its numbers begin 2932, 10386, 5575, 100, 15976: the ant of the first is to step, and can't, since
-// black ant 0 has rock ahead, and red ant 2 a foe.
+// Where r is black, its ants 0, 1, 3, 5 and 6 draw the first five numbers: of seed 12345 they are 7193, 2932, 10386,
+// 5575 and 100, so ant 1 alone steps ahead, and the red ant 2 dies on its hill. Where r is red, its ant 4 alone steps,
+// and nobody dies. The other seed is the state that follows 12345, in its lowest 30 bits, so its numbers begin 2932,
+// 10386, 5575, 100, 15976: the ant of the first is to step, and can't, since black ant 0 has rock ahead, and red ant 2
+// a foe.
 const DRAWN: [(&str, &str); 2] = [
     (
         "cup --worlds w --brains r b --seed 12345 --rounds 2",
@@ -249,8 +251,9 @@ const DRAWN: [(&str, &str); 2] = [
     ),
 ];
 
-// Of twelve ants the black ones 1, 10 and 11 have a particle ahead, and black ant 5 a cell beside both red ones: a step onto it makes four foes of
-// three for red ant 3, and five of four for red ant 6. Player r fetches food from the cell ahead, and b stays.
+// Of twelve ants the black ones 1, 10 and 11 have a particle ahead, and black ant 5 a cell beside both red ones: a step
+// onto it makes four foes of three for red ant 3, and five of four for red ant 6. Player r fetches food from the cell
+// ahead, and b stays.
 const FETCHING: Job<'static> = Job {
     world: "7\n7\n# # # # # # #\n # - # # - 1 #\n# - + - # # #\n # - . + - # #\n# # # - - # #\n # - 1 # - 1 #\n# # # # # # #\n",
     red: "Move 1 7\nPickUp 2 7\nTurn Left 3\nTurn Left 4\nTurn Left 5\nMove 6 7\nDrop 7\nDrop 7",
@@ -258,8 +261,9 @@ const FETCHING: Job<'static> = Job {
     ..NO_JOB
 };
 
-// Where r is red, no ant can step. Where it is black, red ant 6 alone dies in round 1, and leaves 3 particles on its hill. Ants 1, 10 and 11 step
-// in round 1, rest in rounds 2 to 15, take a particle in 16, turn in 17 to 19, step back in 20, rest in 21 to 34, and drop it on their hill in 35.
+// Where r is red, no ant can step. Where it is black, red ant 6 alone dies in round 1, and leaves 3 particles on its
+// hill. Ants 1, 10 and 11 step in round 1, rest in rounds 2 to 15, take a particle in 16, turn in 17 to 19, step back
+// in 20, rest in 21 to 34, and drop it on their hill in 35.
 const FETCHED: [(&str, &str); 2] = [
     (
         "cup --worlds w --brains r b --seed 1 --rounds 34",

@@ -45,9 +45,9 @@ fn crowd(alloc: Global) -> Result<String, Fail> {
     Ok(text)
 }
 
-// Words, and the text up to where the output fails: in the line of the death in round 1; in the line of the first
-// turn; in the line of round 1; and in the line of the second game on the small world, before a game on the other one. Above black ant 245 are 122 red ants
-// in row 1, and a black and 122 red ones in row 2.
+// Words, and the text up to where the output fails: in the line of the death in round 1; in the line of the first turn;
+// in the line of round 1; and in the line of the second game on the small world, before a game on the other one. Above
+// black ant 245 are 122 red ants in row 1, and a black and 122 red ones in row 2.
 const EARLY: [(&str, &str); 4] = [
     (
         "events w r b --seed 12345 --rounds 1000000",

@@ -12,7 +12,8 @@ const AMBUSH: Job<'static> = Job {
     ..NO_JOB
 };
 
-// A red ant beside a particle: it takes the particle home, drops it there in round 7 and takes it away again in round 8.
+// A red ant beside a particle: it takes the particle home, drops it there in round 7 and takes it away again in round
+// 8.
 const FETCH: Job<'static> = Job {
     line: "",
     world: "4\n3\n# # # #\n # + 1 #\n# # # #\n",
@@ -41,8 +42,8 @@ const FETCHED: [(&str, &str); 4] = [
     ),
 ];
 
-// Words, and what is told: of no round, of a death and the score that it makes, of a death without food, of more food, of six foes, which
-// nobody has, and from the first and the second round on.
+// Words, and what is told: of no round, of a death and the score that it makes, of a death without food, of more food,
+// of six foes, which nobody has, and from the first and the second round on.
 const EVENTS: [(&str, &str); 7] = [
     (
         "events w r b --seed 12345 --rounds 0",
@@ -74,8 +75,8 @@ const EVENTS: [(&str, &str); 7] = [
     ),
 ];
 
-// The first two numbers of this seed are odd and even. Red ant 2 dies before its turn, black ant 1 rests behind its step or goes on, and the
-// other black ants are blocked. Of the turns before the first round none counts.
+// The first two numbers of this seed are odd and even. Red ant 2 dies before its turn, black ant 1 rests behind its
+// step or goes on, and the other black ants are blocked. Of the turns before the first round none counts.
 const PROFILES: [(&str, &str); 7] = [
     (
         "profile w r b --seed 12345 --rounds 0",
@@ -164,7 +165,8 @@ fn a_profile_is_told_by_its_words(rt: HostRuntime) -> Result<(), Fail> {
     check_rows(&rt, rt.alloc(), &NO_PROFILE)
 }
 
-// Events of which the output has room up to the end of the first line's words, and a profile with room for its red brain.
+// Events of which the output has room up to the end of the first line's words, and a profile with room for its red
+// brain.
 static NO_ROOM: [CutRun<'static>; 2] = [
     CutRun {
         job: Job {

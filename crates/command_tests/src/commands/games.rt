@@ -106,8 +106,8 @@ pub(super) fn killing_field<'b, R: Abort>(
     field_on(alloc, bytes, brains, SEED)
 }
 
-// What a game has come to: how many rounds are done, what came of its turns, the place in the stream of random numbers, whether a round is
-// at its end, and how many turns its crew says it played.
+// What a game has come to: how many rounds are done, what came of its turns, the place in the stream of random numbers,
+// whether a round is at its end, and how many turns its crew says it played.
 #[derive(Clone, Copy, Debug, PartialEq, Eq)]
 struct Stage {
     done: u32,

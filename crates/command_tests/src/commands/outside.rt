@@ -24,7 +24,8 @@ const UNPLAYED_GAME: Job<'static> = Job {
 
 static UNPLAYED_ROUND: Job<'static> = UNPLAYED_GAME;
 
-// Words, the line where the fetch of each file fails, in the order in which the files are fetched, and the text where none does.
+// Words, the line where the fetch of each file fails, in the order in which the files are fetched, and the text where
+// none does.
 type Fetching<'t> = (&'t str, &'t [&'t str], &'t str);
 
 const FETCHED: [Fetching<'static>; 6] = [
@@ -148,7 +149,8 @@ fn check_room<R: Threads + Wait + Sync + Abort>(
     check_in(rt, alloc, job, room, wanted)
 }
 
-// Asserts the same of each room that is smaller than the text, and that the command is done where the room is as large as the text.
+// Asserts the same of each room that is smaller than the text, and that the command is done where the room is as large
+// as the text.
 fn check_rooms<R: Threads + Wait + Sync + Abort>(
     rt: &R,
     alloc: Global,
@@ -202,7 +204,8 @@ fn check_front<R: Abort>(rt: &R, ending: Ending<'_>, text: &str, failing_push: u
     );
 }
 
-// Asserts that each push that fails ends the text of a command, which has fewer than 10,000 pushes: the output gets a prefix of it.
+// Asserts that each push that fails ends the text of a command, which has fewer than 10,000 pushes: the output gets a
+// prefix of it.
 fn check_pushes<R: Threads + Wait + Sync + Abort>(
     rt: &R,
     alloc: Global,
@@ -217,8 +220,8 @@ fn check_pushes<R: Threads + Wait + Sync + Abort>(
     Err(Fail::new("the text has 10,000 pushes or more"))
 }
 
-// Asserts what comes of a command whose push of this number fails: all its text where there is no such push, which is the answer, and else a
-// prefix of it.
+// Asserts what comes of a command whose push of this number fails: all its text where there is no such push, which is
+// the answer, and else a prefix of it.
 fn check_push<R: Threads + Wait + Sync + Abort>(
     rt: &R,
     alloc: Global,
@@ -232,7 +235,8 @@ fn check_push<R: Threads + Wait + Sync + Abort>(
     Ok(is_whole(rt, ending_of(&outcome), text, failing_push))
 }
 
-// Whether a command is done. Asserts that it wrote all its text then, and that its output failed after a prefix of it else.
+// Whether a command is done. Asserts that it wrote all its text then, and that its output failed after a prefix of it
+// else.
 fn is_whole<R: Abort>(rt: &R, ending: Ending<'_>, text: &str, failing_push: u64) -> bool {
     if ending.status == Status::Done {
         assert_eq!(rt; ending, done(text));
@@ -258,7 +262,8 @@ const WRITTEN: [(&str, &str); 6] = [
     ("workload 12345 0 4", UNTOUCHED),
 ];
 
-// Asserts of each command what its output gets where a push fails, and where its room is nothing, one byte, or all but one.
+// Asserts of each command what its output gets where a push fails, and where its room is nothing, one byte, or all but
+// one.
 fn check_written<R: Threads + Wait + Sync + Abort>(
     rt: &R,
     alloc: Global,

@@ -28,7 +28,8 @@ pub const NEIGHBOURS: &str =
 // No hill, no ant.
 pub const EMPTY: &str = "4\n4\n# # # #\n # . . #\n# . . #\n # # # #\n";
 
-// A red ant dies after a black one's move: one round of `CLOSING` with the seed 12345, red `Flip 2 0 0`, black `Move 0 0`.
+// A red ant dies after a black one's move: one round of `CLOSING` with the seed 12345, red `Flip 2 0 0`, black `Move 0
+// 0`.
 pub const KILLED: &str = "random seed: 12345\n\
     \n\
     After round 1...\n\

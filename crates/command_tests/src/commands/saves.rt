@@ -59,10 +59,11 @@ const STOOD: [(&str, &str); 1] = [(
     "\nAfter round 3...\ncell (0, 0): rock\ncell (1, 0): rock\ncell (2, 0): rock\ncell (3, 0): rock\ncell (0, 1): rock\ncell (1, 1): 62 food; red hill; red marks: 3; red ant of id 0, dir 5, food 0, state 0, resting 0\ncell (2, 1): 63 food; black hill; black marks: 05; black ant of id 1, dir 3, food 1, state 1, resting 1\ncell (3, 1): rock\ncell (0, 2): rock\ncell (1, 2): rock\ncell (2, 2): rock\ncell (3, 2): rock\n\nscore: red 62 black 63\nturns 6 taken 5 redone 1\n",
 )];
 
-// Saves, and the rest of each up to round 3. In the first an ant flips by the second number of its stream, 2932, and then moves, to rest for 9
-// turns; it would do neither by the first number, 7193. In the second two ants sense the marker that the first ant sets in round 2: in windows
-// of two turns one of their looks is made before it, in windows of one turn none, in longer ones both. In the third the rows stand from the top,
-// and the amounts of food in row order.
+// Saves, and the rest of each up to round 3. In the first an ant flips by the second number of its stream, 2932, and
+// then moves, to rest for 9 turns; it would do neither by the first number, 7193. In the second two ants sense the
+// marker that the first ant sets in round 2: in windows of two turns one of their looks is made before it, in windows
+// of one turn none, in longer ones both. In the third the rows stand from the top, and the amounts of food in row
+// order.
 const LATER: [(&str, &str); 3] = [
     (
         "ants save 1\nseed 12345\nsheet 4 2 9\nwindow 50\nround 1\nplace 1\ntaken 2 redone 0\nsize 4 3\nred 3\nFlip 2 1 2\nMove 0 0\nDrop 2\nblack 1\nTurn Left 0\n####\n#++#\n####\n0000\n0000\n0000\n0000\n0000\n0000\n0000\n0000\n0000\nant 0 red 1 1 0 0 0 0\nend\n",
@@ -112,7 +113,8 @@ const ADVANCES: [(&str, &str); 3] = [
     ("advance k --workers 3 --rounds 1", SAVED),
 ];
 
-// Saves, and each after round 3: what was marked in between stands in it, and its rounds, draws and turns are counted beside the earlier ones.
+// Saves, and each after round 3: what was marked in between stands in it, and its rounds, draws and turns are counted
+// beside the earlier ones.
 const ADVANCED: [(&str, &str); 4] = [
     (
         STANDING,

@@ -55,7 +55,8 @@ fn settle_window(
     Ok(())
 }
 
-// Plays a window by looks that are made one after another at guesses that were listed first, and lists what became of each.
+// Plays a window by looks that are made one after another at guesses that were listed first, and lists what became of
+// each.
 fn play_by_looks(
     alloc: Global,
     field: &mut Field<'_>,
@@ -109,7 +110,8 @@ fn fate_of(cause: &Option<Cause>) -> Fate {
     }
 }
 
-// A black ant kills the red ant of id 2 in its turn, and the red ant of id 4 draws the number that was guessed to be that one's.
+// A black ant kills the red ant of id 2 in its turn, and the red ant of id 4 draws the number that was guessed to be
+// that one's.
 const FATES: [Fate; 7] = [
     Fate::Taken,
     Fate::Taken,

@@ -10,8 +10,8 @@ use std::sync::Wait;
 use std::test::Fail;
 use std::thread::Threads;
 
-// The game in which the black ant 1 surrounds the red ant 2 in round 1, for five rounds; the red ants draw numbers, and the other black
-// ants stay where they are.
+// The game in which the black ant 1 surrounds the red ant 2 in round 1, for five rounds; the red ants draw numbers, and
+// the other black ants stay where they are.
 const VIEW: Job<'static> = Job {
     line: "view w r b k --seed 12345 --rounds 5",
     world: CLOSING,
@@ -210,7 +210,8 @@ fn a_view_without_a_turn_at_which_a_break_holds_says_so(rt: HostRuntime) -> Resu
     check_tables(&rt, rt.alloc(), &UNSTOPPED)
 }
 
-// One red ant: it goes to state 3 where its first number leaves 0 modulo 7193 and the second leaves 0 modulo 2932, and else to state 2.
+// One red ant: it goes to state 3 where its first number leaves 0 modulo 7193 and the second leaves 0 modulo 2932, and
+// else to state 2.
 const DRAWING: Job<'static> = Job {
     world: CLOSED,
     red: "Flip 7193 1 2\nFlip 2932 3 2\nDrop 2\nDrop 3",
@@ -219,9 +220,9 @@ const DRAWING: Job<'static> = Job {
     ..NO_JOB
 };
 
-// The numbers of seed 12345 begin 7193, 2932: it is in state 1 after round 1, in state 3 after round 2. The other seed is the state that follows
-// 12345, in its lowest 30 bits, so its numbers begin 2932: the ant is in state 2 after round 1. In rounds that are passed over it draws its
-// numbers, too: from round 3 on it is in state 3 after the first turn.
+// The numbers of seed 12345 begin 7193, 2932: it is in state 1 after round 1, in state 3 after round 2. The other seed
+// is the state that follows 12345, in its lowest 30 bits, so its numbers begin 2932: the ant is in state 2 after round
+// 1. In rounds that are passed over it draws its numbers, too: from round 3 on it is in state 3 after the first turn.
 const DRAWN: [(&str, &str); 5] = [
     (
         "view w r b k --seed 12345 --rounds 5",

@@ -12,8 +12,8 @@ const AMBUSH: Job<'static> = Job {
     ..NO_JOB
 };
 
-// Words, and what is told of an ant: up to its death, from a round on, by other numbers of the rules, where it comes to a corpse as soon as it has
-// rested, in no round, and of none that was made.
+// Words, and what is told of an ant: up to its death, from a round on, by other numbers of the rules, where it comes to
+// a corpse as soon as it has rested, in no round, and of none that was made.
 const WAYS: [(&str, &str); 10] = [
     (
         "trace w r b 2 --seed 12345 --rounds 5",

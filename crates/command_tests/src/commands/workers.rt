@@ -21,8 +21,8 @@ use std::thread::Threads;
 // Turns after which a worker that waits for another one gives up.
 const PATIENCE: u32 = 100_000_000;
 
-// Workers whose first looks wait for each other, each up to its patience; whether one waited in vain or was none of them, and how often each
-// turn was announced.
+// Workers whose first looks wait for each other, each up to its patience; whether one waited in vain or was none of
+// them, and how often each turn was announced.
 #[derive(Drop)]
 struct Meeting {
     begun: Vec<AtomicBool>,
@@ -185,8 +185,8 @@ fn any_number_of_workers_writes_the_same_bytes(rt: HostRuntime) -> Result<(), Fa
 // How many turns that round has.
 const TURNS: usize = 7;
 
-// A window of that round by a crew: of how many workers, from which turn on, and what came of it: its counts, the turns that the crew says it
-// played, and the place to which it came.
+// A window of that round by a crew: of how many workers, from which turn on, and what came of it: its counts, the turns
+// that the crew says it played, and the place to which it came.
 #[derive(Clone, Copy, Debug, PartialEq, Eq)]
 struct Window {
     workers: u32,
@@ -285,7 +285,8 @@ fn check_window<R: Abort>(rt: &R, meeting: &Meeting, window: Window, wanted: &Wi
     meeting.check(rt, wanted.from as usize);
 }
 
-// Asserts what comes of a window of a field by a crew of pieces, whose workers meet and announce each of its turns once.
+// Asserts what comes of a window of a field by a crew of pieces, whose workers meet and announce each of its turns
+// once.
 fn check_field_in_pieces<R: Threads + Sync + Abort>(
     rt: &R,
     alloc: Global,
@@ -372,8 +373,9 @@ fn crews_of_two_and_three_look_at_the_same_time(rt: HostRuntime) -> Result<(), F
     check_windows(&rt, rt.alloc(), &WINDOWS)
 }
 
-// Words of the same round, how many workers meet in it, and its counts where they are asked for. No more meet than there are turns; one that
-// stands by calls the gate also where it is alone, and all of them do in each window, or the committer would in their place.
+// Words of the same round, how many workers meet in it, and its counts where they are asked for. No more meet than
+// there are turns; one that stands by calls the gate also where it is alone, and all of them do in each window, or the
+// committer would in their place.
 const MET: [(&str, usize, &str); 9] = [
     (
         "run w r b --seed 12345 --rounds 1 --dump 1 --workers 2",

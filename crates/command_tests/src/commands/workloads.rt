@@ -3,7 +3,8 @@ use crate::commands::{Given, NO_JOB, Table, check_rows};
 use ant_commands::Status;
 use std::test::Fail;
 
-// The world of the seed 12345 before a round: two hills of 127 cells, and eleven blobs of 25 cells with 5 particles each.
+// The world of the seed 12345 before a round: two hills of 127 cells, and eleven blobs of 25 cells with 5 particles
+// each.
 pub const UNTOUCHED: &str = "workload seed 12345 rounds 0\n\
     ants 254\n\
     food 1375\n\
@@ -11,7 +12,8 @@ pub const UNTOUCHED: &str = "workload seed 12345 rounds 0\n\
     score: red 0 black 0\n\
     turns 0 taken 0 redone 0\n";
 
-// The world of the seed 55 after 100 rounds, as another program plays them too: two black ants died, and food came to the red hill.
+// The world of the seed 55 after 100 rounds, as another program plays them too: two black ants died, and food came to
+// the red hill.
 const PLAYED: &str = "workload seed 55 rounds 100\n\
     ants 254\n\
     food 1375\n\
@@ -19,7 +21,8 @@ const PLAYED: &str = "workload seed 55 rounds 100\n\
     score: red 6 black 0\n\
     turns 25400 taken 25377 redone 23\n";
 
-// The world of the seed 12345 after a thousand rounds, as another program plays them too: no ant died, and no food is at a hill.
+// The world of the seed 12345 after a thousand rounds, as another program plays them too: no ant died, and no food is
+// at a hill.
 const THOUSAND: &str = "workload seed 12345 rounds 1000\n\
     ants 254\n\
     food 1375\n\

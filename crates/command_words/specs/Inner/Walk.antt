@@ -44,7 +44,8 @@ closed (Names list ∷ places) names = if has_enough list names then places else
 abbrev pub reached : List Place → List (List ℕ) → List ℕ → List Place
 reached [] names word = []
 reached (Word slot ∷ places) names word = Word slot ∷ places
-reached (Names list ∷ places) names word = if is_file_name word then Names list ∷ places else closed (Names list ∷ places) names
+reached (Names list ∷ places) names word =
+    if is_file_name word then Names list ∷ places else closed (Names list ∷ places) names
 
 -- the places that are due after an option's word; no option stands twice
 abbrev pub due_after_option : Option Choice → Bool → Option (List Place)
@@ -55,7 +56,8 @@ due_after_option (Some choice) stood = if stood then None else Some (values_of c
 abbrev pub due_after : CommandKind → List Place → List (List ℕ) → List (List ℕ) → List ℕ → Option (List Place)
 due_after kind [] names before word = due_after_option (choice_of kind word) (is_among word before)
 due_after kind (Word slot ∷ places) names before word = if fits slot word then Some places else None
-due_after kind (Names list ∷ places) names before word = if may_follow list names word then Some (Names list ∷ places) else None
+due_after kind (Names list ∷ places) names before word =
+    if may_follow list names word then Some (Names list ∷ places) else None
 
 -- whether names stand at the place that is due
 abbrev pub takes_names : List Place → Bool
@@ -83,7 +85,8 @@ walk kind (word ∷ words) due names before =
 
 -- each option that is needed stands among the words
 abbrev pub has_needed : CommandKind → List (List ℕ) → Bool
-has_needed kind words = list_all (λ choice. not (is_needed choice) || is_among (option_of choice) words) (choices_of kind)
+has_needed kind words =
+    list_all (λ choice. not (is_needed choice) || is_among (option_of choice) words) (choices_of kind)
 
 -- no place is due, and each option that is needed stands among the words
 abbrev pub is_finished : CommandKind → List Place → List (List ℕ) → Bool

@@ -1,5 +1,5 @@
--- The lines of cells as they are pushed: each without its LF, but with the LF of the line before. Only the printer's own parts are said
--- in these words; what callers get is said in Texts.
+-- The lines of cells as they are pushed: each without its LF, but with the LF of the line before. Only the printer's
+-- own parts are said in these words; what callers get is said in Texts.
 use Rattle.std.specs.Prelude.{ℕ, List, [], ◌&&◌, ◌==◌, codes, decimal, if◌then◌else◌}
 use Rattle.cell_world.specs.declared.cell.Cell.{Cell}
 use Rattle.cell_world.specs.World.{World}

@@ -32,10 +32,13 @@ look_named lines own (Own at) = slice_get own at
 
 -- each pick names the look at its turn of the window
 abbrev pub ArePicked : List WorkerChannels → List LookValue → List (Option Pick) → Window → Type 0
-ArePicked lines own picks window = (j : ℕ) (pick : Pick) → slice_index_or picks j None ≡ Some pick → look_named lines own pick ≡ Some (look_for window (window.from + j))
+ArePicked lines own picks window =
+    (j : ℕ) (pick : Pick) → slice_index_or picks j None ≡ Some pick
+    → look_named lines own pick ≡ Some (look_for window (window.from + j))
 
 -- there is a place for the pick of each of these turns of a field, and each pick names the look at its turn
-pub record ArePicksOf (field : FieldValue) (turns : GuessedTurns) (lines : List WorkerChannels) (own : List LookValue) (picks : List (Option Pick)) : Type 0 where
+pub record ArePicksOf (field : FieldValue) (turns : GuessedTurns) (lines : List WorkerChannels) (own : List LookValue)
+    (picks : List (Option Pick)) : Type 0 where
   pub count : length picks ≡ turns.to - turns.from
   pub picked : ArePicked lines own picks (window_on field turns)
 

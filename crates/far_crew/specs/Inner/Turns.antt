@@ -26,4 +26,11 @@ pub record CanLookAt (base : Grid) (turns : GuessedTurns) : Type 0 where
 
 -- the job of these turns, with these brains, this seed and this world
 abbrev pub job_on : Minds → ℕ → Grid → GuessedTurns → JobValue
-job_on minds seed base turns = record { minds = minds; seed = seed; base = base; from = turns.from; to = turns.to; guesses = turns.guesses.now }
+job_on minds seed base turns = record {
+  minds = minds;
+  seed = seed;
+  base = base;
+  from = turns.from;
+  to = turns.to;
+  guesses = turns.guesses.now;
+}

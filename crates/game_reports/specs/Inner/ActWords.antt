@@ -9,7 +9,8 @@ use Rattle.game_reports.specs.Acts.{answer_text, standing_words}
 -- the line of a turn
 abbrev pub broken_act : ℕ → PlacedAnt → Instr → Bool → List ℕ
 broken_act round it instruction met =
-    codes "\nround " +++ decimal round +++ codes ", " +++ standing_words it.place it.ant +++ codes ": " +++ instruction_words instruction +++ codes ": " +++ answer_text met
+    codes "\nround " +++ decimal round +++ codes ", " +++ standing_words it.place it.ant +++ codes ": "
+    +++ instruction_words instruction +++ codes ": " +++ answer_text met
 
 -- the id that is asked for, if no ant of it was made
 abbrev pub unmade_of : Option ℕ → ℕ → Option ℕ

@@ -19,11 +19,13 @@ broken_turn round actor = codes "\nround " +++ decimal round +++ codes ", " +++ 
 
 -- the words of an ant that dies in its turn
 abbrev pub broken_death : ℕ → Ant → PlacedAnt → List ℕ
-broken_death round actor killed = broken_turn round actor +++ ant_words (Some killed.ant) +++ codes " dies on " +++ place_words (Some killed.place)
+broken_death round actor killed =
+    broken_turn round actor +++ ant_words (Some killed.ant) +++ codes " dies on " +++ place_words (Some killed.place)
 
 -- the words of the score after its turn
 abbrev pub broken_score : ℕ → Ant → Score → List ℕ
-broken_score round actor score = broken_turn round actor +++ codes "score: red " +++ decimal score.red +++ codes " black " +++ decimal score.black
+broken_score round actor score =
+    broken_turn round actor +++ codes "score: red " +++ decimal score.red +++ codes " black " +++ decimal score.black
 
 -- which way a particle goes, by the ant's load, its cell's food and its instruction
 abbrev pub carry_of : Bool → ℕ → Instr → Option Carry
@@ -39,7 +41,8 @@ carry_of laden food (Flip bound met unmet) = None
 -- the particle that goes, if food is asked for
 abbrev pub moved_by : Bool → Cell → Ant → Instr → Option MovedFood
 moved_by false cell ant instruction = None
-moved_by true cell ant instruction = option_map (λ carry. record { carry = carry; hill = cell.hill }) (carry_of ant.laden cell.food instruction)
+moved_by true cell ant instruction =
+    option_map (λ carry. record { carry = carry; hill = cell.hill }) (carry_of ant.laden cell.food instruction)
 
 -- what the ant does with it
 abbrev pub verb_of : Carry → List ℕ
@@ -49,7 +52,8 @@ verb_of Drops = codes " drops"
 -- the words of such a particle
 abbrev pub broken_food : ℕ → Ant → Pos → MovedFood → List ℕ
 broken_food round actor place moved =
-    broken_turn round actor +++ codes "state " +++ decimal actor.state +++ verb_of moved.carry +++ codes " food on " +++ place_words (Some place) +++ hill_words moved.hill
+    broken_turn round actor +++ codes "state " +++ decimal actor.state +++ verb_of moved.carry +++ codes " food on "
+    +++ place_words (Some place) +++ hill_words moved.hill
 
 -- the words of a killed ant
 abbrev pub told_death : ℕ → Ant → Option PlacedAnt → List ℕ

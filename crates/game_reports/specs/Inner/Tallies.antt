@@ -32,7 +32,8 @@ tallies_of tallies Black = tallies.black.items
 
 -- each state of both brains is counted
 abbrev pub AreTallied : Minds → List Executed → Tallies → Type 0
-AreTallied minds list tallies = (colour : Colour) → IsTallied colour (length (mind_of minds colour)) list (tallies_of tallies colour)
+AreTallied minds list tallies =
+    (colour : Colour) → IsTallied colour (length (mind_of minds colour)) list (tallies_of tallies colour)
 
 -- one more is counted
 abbrev pub counted_on : List Tally → Executed → List Tally
@@ -42,8 +43,10 @@ counted_on tallies executed =
 
 -- so many turns more may be counted: no count is near its last value
 pub record AreFew (tallies : Tallies) (left : ℕ) : Type 0 where
-  pub times : (colour : Colour) (state : ℕ) → (slice_index_or (tallies_of tallies colour) state no_tally).times + left < 2 ^ 64
-  pub met : (colour : Colour) (state : ℕ) → (slice_index_or (tallies_of tallies colour) state no_tally).met + left < 2 ^ 64
+  pub times : (colour : Colour) (state : ℕ)
+      → (slice_index_or (tallies_of tallies colour) state no_tally).times + left < 2 ^ 64
+  pub met : (colour : Colour) (state : ℕ)
+      → (slice_index_or (tallies_of tallies colour) state no_tally).met + left < 2 ^ 64
 
 -- there is a tally for each state of both brains
 abbrev pub HaveStates : Minds → Tallies → Type 0
@@ -57,7 +60,8 @@ pub record CountsOn (minds : Minds) (more : List Executed) (turns : ℕ) (old ne
 
 -- these were counted besides what was counted before
 abbrev pub CountsMore : List Executed → Tallies → Tallies → Type 0
-CountsMore more old new = (minds : Minds) (list : List Executed) → AreTallied minds list old → AreTallied minds (list ++ more) new
+CountsMore more old new =
+    (minds : Minds) (list : List Executed) → AreTallied minds list old → AreTallied minds (list ++ more) new
 
 -- the line of a state of a colour's brain, from its tally
 abbrev pub counted_line : Colour → List Instr → List Tally → ℕ → List ℕ

@@ -14,7 +14,10 @@ use Rattle.game_reports.specs.Trace.{lives_in_first}
 
 -- what is told of an ant after a round, from where it stands
 abbrev pub told_of : World → ℕ → Option Pos → ToldRound
-told_of w round place = record { round = round; cell = option_map (λ (p : Pos). record { at = p; cell = w.cells p }) place }
+told_of w round place = record {
+  round = round;
+  cell = option_map (λ (p : Pos). record { at = p; cell = w.cells p }) place;
+}
 
 -- the end of a line: what it says of a cell, or that the ant is dead
 abbrev pub told_words : Option CellWords → List ℕ
@@ -27,7 +30,8 @@ words_of told = codes "\nround " +++ decimal told.round +++ told_words told.cell
 
 -- what is told in world i, behind an LF
 unfoldable pub broken_line : (ℕ → World) → ℕ → ℕ → ℕ → List ℕ
-broken_line worlds id from i = if lives_in_first worlds id i then words_of (told_of (worlds i) (from + i) (place_in (worlds i) id)) else []
+broken_line worlds id from i =
+    if lives_in_first worlds id i then words_of (told_of (worlds i) (from + i) (place_in (worlds i) id)) else []
 
 -- the worlds of a game from where it stands on, a round after another
 unfoldable pub worlds_from : GameAloneValue → ℕ → World
@@ -36,4 +40,6 @@ worlds_from game i = (after_rounds game.minds game.seed (standing game) i).world
 -- what stands behind the words of the seed, but for the last LF
 unfoldable pub broken_end : Minds → ℕ → World → ℕ → ℕ → ℕ → List ℕ
 broken_end minds seed w rounds id from =
-    if nat_lt id w.ids then numbered (broken_line (λ i. world_after minds seed w (from + i)) id from) (rounds + 1 - from) else codes "\nno ant of id " +++ decimal id
+    if nat_lt id w.ids
+    then numbered (broken_line (λ i. world_after minds seed w (from + i)) id from) (rounds + 1 - from)
+    else codes "\nno ant of id " +++ decimal id

@@ -33,9 +33,9 @@ use std::alloc::Global;
 /// plan's first round aren't counted.
 ///
 /// Each ant's state is below the length of its colour's brain, as in every opening world, and the plan has at most
-/// 1,000,000 rounds. The turns are those of a run. It makes no looks, and takes memory for two counts a state. If there is
-/// none, nothing was pushed and no turn was played. If the sink failed, its count of faults rose then, and a prefix of
-/// the text was pushed.
+/// 1,000,000 rounds. The turns are those of a run. It makes no looks, and takes memory for two counts a state. If there
+/// is none, nothing was pushed and no turn was played. If the sink failed, its count of faults rose then, and a prefix
+/// of the text was pushed.
 pub fn profile<K: Sink>(
     alloc: Global,
     world: World,

@@ -26,4 +26,5 @@ unfoldable pub rows : Pos → ℕ → ℕ → List Pos
 rows centre radius zero = []
 rows centre radius (suc n) =
     rows centre radius n
-    ++ line (first_column centre radius (centre.y - radius + n)) (centre.y - radius + n) (column_count centre radius (centre.y - radius + n))
+    ++ line (first_column centre radius (centre.y - radius + n)) (centre.y - radius + n)
+    (column_count centre radius (centre.y - radius + n))

@@ -1,5 +1,5 @@
-// Errands by far workers, who look at the same time. Looks that agree with a field, and looks that don't. And what takes
-// memory, with it.
+// Errands by far workers, who look at the same time. Looks that agree with a field, and looks that don't. And what
+// takes memory, with it.
 ghost use Rattle.std.specs.Prelude.{◌≡◌, ◌+◌, ◌<◌, ◌≤◌, ◌^◌, true, IfOk, length};
 ghost use Rattle.std.specs.List.{AllByRecursion};
 ghost use Rattle.std.specs.Option.{ForSome};
@@ -325,7 +325,8 @@ impl Gate for Told {
     }
 }
 
-// Asserts that a window of three turns by five workers, none of which was started, is announced turn by turn with the number of workers.
+// Asserts that a window of three turns by five workers, none of which was started, is announced turn by turn with the
+// number of workers.
 fn check_unstarted<R: Wait + Abort>(rt: &R, alloc: Global, players: &Players) -> Result<(), Fail> {
     let mut field = field_of(rt, alloc, players)?;
     assert!(rt; 3 <= field.world().ant_count());
@@ -356,7 +357,8 @@ struct Played {
     place: u64,
 }
 
-// An errand that plays the first round of a game, which it has, in two windows, the first of three turns; and what came of it.
+// An errand that plays the first round of a game, which it has, in two windows, the first of three turns; and what came
+// of it.
 #[derive(Drop)]
 struct FirstRound<'b> {
     alloc: Global,

@@ -1,4 +1,5 @@
--- A text that is read line by line, where each line with a token is one item: the items that are read, or the fault. Brains and breaks are read so.
+-- A text that is read line by line, where each line with a token is one item: the items that are read, or the fault.
+-- Brains and breaks are read so.
 use Rattle.std.specs.Prelude.{ℕ, ◌+◌, List, [], ◌∷◌, ◌++◌, length, Option, Some, None, Result, Ok, Err}
 use Rattle.std.specs.Option.{option_or}
 use Rattle.line_tokens.specs.declared.refusal.Refusal.{Refusal}
@@ -6,8 +7,8 @@ use Rattle.line_tokens.specs.Steps.{Read}
 use Rattle.line_tokens.specs.TokenLines.{TokenLine, token_lines}
 use Rattle.line_tokens.specs.Faulty.{too_many}
 
--- how the lines of a text are read: how many items there may be, the fault of a line beyond them, what is read of a line's tokens, the fault of a
--- line that is refused, and what is kept of the item of a line of this number
+-- how the lines of a text are read: how many items there may be, the fault of a line beyond them, what is read of a
+-- line's tokens, the fault of a line that is refused, and what is kept of the item of a line of this number
 pub record Reader (A P F : Type 0) : Type 0 where
   pub most : ℕ
   pub beyond : ℕ → F
@@ -37,7 +38,8 @@ at_line refused line (Err refusal) = Err (refused line refusal)
 
 -- a line before which so many items stand
 unfoldable pub judged_line : {A P F : Type 0} → Reader A P F → ℕ → ℕ → List (List ℕ) → Result A F
-judged_line r before line tokens = unless (too_many r.most r.beyond before line) (at_line r.refused line (r.read tokens))
+judged_line r before line tokens =
+    unless (too_many r.most r.beyond before line) (at_line r.refused line (r.read tokens))
 
 -- a line, and then the lines after it
 abbrev pub line_then : {A P F : Type 0} → (ℕ → A → P) → ℕ → Result A F → Result (List P) F → Result (List P) F
@@ -47,7 +49,8 @@ line_then keep number (Err fault) later = Err fault
 -- what is kept of the lines, where so many items stand before them
 abbrev pub read_lines : {A P F : Type 0} → Reader A P F → ℕ → List TokenLine → Result (List P) F
 read_lines r before [] = Ok []
-read_lines r before (line ∷ lines) = line_then r.keep line.number (judged_line r before line.number line.tokens) (read_lines r (before + 1) lines)
+read_lines r before (line ∷ lines) =
+    line_then r.keep line.number (judged_line r before line.number line.tokens) (read_lines r (before + 1) lines)
 
 -- what is read of these lines, the first of which has this number, behind what was kept before
 unfoldable pub reading_from : {A P F : Type 0} → Reader A P F → List P → ℕ → List (List ℕ) → Result (List P) F
@@ -56,4 +59,5 @@ reading_from r front number lines = with_front front (read_lines r (length front
 -- the fault of the first line at fault
 abbrev pub first_line_fault : {F : Type 0} → (ℕ → TokenLine → Option F) → ℕ → List TokenLine → Option F
 first_line_fault line_fault before [] = None
-first_line_fault line_fault before (line ∷ lines) = option_or (line_fault before line) (first_line_fault line_fault (before + 1) lines)
+first_line_fault line_fault before (line ∷ lines) =
+    option_or (line_fault before line) (first_line_fault line_fault (before + 1) lines)

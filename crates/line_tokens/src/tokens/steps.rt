@@ -9,8 +9,9 @@ use ant_base::read_number_within;
 use word_table::WordTable;
 
 impl<'t> Tokens<'t> {
-    /// The place in a table, counted from 0, of the next token, which should be a word of it in any ASCII case. A token that is none is
-    /// refused as `UnknownWord`, a line without one as `MissingToken`; a token that is refused is passed.
+    /// The place in a table, counted from 0, of the next token, which should be a word of it in any ASCII case. A token
+    /// that is none is refused as `UnknownWord`, a line without one as `MissingToken`; a token that is refused is
+    /// passed.
     pub fn word<const N: usize>(&mut self, table: &WordTable<N>) -> Result<usize, Refusal>
         ensures step { take_word table.now self.old ≡ with_rest self.new result }
         ensures passed { self.new ≡ drop 1 self.old }
@@ -24,8 +25,9 @@ impl<'t> Tokens<'t> {
         }
     }
 
-    /// The value of the next token, which should be a number from `least` to `most`, both included, in 1 to 10 digits. A token that is none
-    /// is refused as `BadNumber`, a line without one as `MissingToken`; a token that is refused is passed.
+    /// The value of the next token, which should be a number from `least` to `most`, both included, in 1 to 10 digits.
+    /// A token that is none is refused as `BadNumber`, a line without one as `MissingToken`; a token that is refused is
+    /// passed.
     pub fn number(&mut self, least: u64, most: u64) -> Result<u64, Refusal>
         ensures step { take_number least most self.old ≡ with_rest self.new result }
         ensures passed { self.new ≡ drop 1 self.old }

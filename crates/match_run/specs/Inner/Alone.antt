@@ -15,7 +15,8 @@ abbrev pub LastsARound : SeedAndPlace → Type 0
 LastsARound stream = stream.place + most_ants < 2 ^ 63
 
 -- one round more was played, with a random number for each turn at most
-pub record RoundTaken (minds : Minds) (old : Grid) (before : SeedAndPlace) (new : Grid) (after : SeedAndPlace) : Type 0 where
+pub record RoundTaken (minds : Minds) (old : Grid) (before : SeedAndPlace) (new : Grid)
+    (after : SeedAndPlace) : Type 0 where
   pub moment : moment_from new after ≡ after_round minds before.seed (moment_from old before)
   pub seed : after.seed ≡ before.seed
   pub place : after.place ≤ before.place + most_ants

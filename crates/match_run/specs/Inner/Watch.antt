@@ -7,4 +7,5 @@ use Rattle.match_run.specs.Told.{Telling}
 -- what is told of the turns of these ids, each from the moment that those before it led to
 abbrev pub told_in_listed : {A : Type 0} → Telling A → Minds → ℕ → Moment → List ℕ → List A
 told_in_listed telling minds seed m [] = []
-told_in_listed telling minds seed m (t ∷ ids) = telling m t ++ told_in_listed telling minds seed (after_turn minds seed m t) ids
+told_in_listed telling minds seed m (t ∷ ids) =
+    telling m t ++ told_in_listed telling minds seed (after_turn minds seed m t) ids

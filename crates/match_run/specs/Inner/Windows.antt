@@ -5,9 +5,10 @@ use Rattle.dump_print.specs.declared.totals.Totals.{Totals}
 use Rattle.round_book.specs.Book.{FieldValue, field_moment}
 use Rattle.match_run.specs.Counts.{both, sum_windows}
 
--- some windows of so many turns were played, of the turns of a field's round from `from` on: where that led, the next turn, and what came of
--- all turns so far
-pub record WindowsPlayed (old : FieldValue) (size from : ℕ) (totals : Totals) (new : FieldValue) (next : ℕ) (new_totals : Totals) : Type 0 where
+-- some windows of so many turns were played, of the turns of a field's round from `from` on: where that led, the next
+-- turn, and what came of all turns so far
+pub record WindowsPlayed (old : FieldValue) (size from : ℕ) (totals : Totals) (new : FieldValue) (next : ℕ)
+    (new_totals : Totals) : Type 0 where
   pub windows : ℕ
   pub next_is : next ≡ min (from + windows * size) old.world.ids
   pub had_turns : from + windows * size < old.world.ids + size

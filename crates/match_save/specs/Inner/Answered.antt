@@ -57,7 +57,8 @@ abbrev pub row_behind : {A : Type 0} → List A → Option (List A) → Option (
 row_behind front None = None
 row_behind front (Some row) = Some (front ++ row)
 
--- what a call that reads one row of this number answered: the row's values stand behind those that were there, or it is no row
+-- what a call that reads one row of this number answered: the row's values stand behind those that were there, or it is
+-- no row
 abbrev pub RowFills : {A : Type 0} → Option (List A) → ℕ → List A → List A → Result (Unit {0}) SaveFault → Type 0
 RowFills told number old new (Ok _) = row_behind old told ≡ Some new
 RowFills told number old new (Err (BadLine line)) = (told ≡ None) × (line ≡ number)

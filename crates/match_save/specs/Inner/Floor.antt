@@ -20,12 +20,14 @@ is_empty_cell cell = (cell.food == 0) && (cell.red.set == 0) && (cell.black.set 
 
 -- nothing lies on rock, and the cell of this number in row order is rock where it is on the rim
 abbrev pub is_sound_cell : ℕ → ℕ → ℕ → Cell → Bool
-is_sound_cell width height i cell = if cell.rocky then is_empty_cell cell else not (is_on_rim width height (pos_at width i))
+is_sound_cell width height i cell =
+    if cell.rocky then is_empty_cell cell else not (is_on_rim width height (pos_at width i))
 
 -- the same of all cells, of which the first has this number
 abbrev pub are_sound_cells : ℕ → ℕ → ℕ → List Cell → Bool
 are_sound_cells width height i [] = true
-are_sound_cells width height i (cell ∷ cells) = is_sound_cell width height i cell && are_sound_cells width height (i + 1) cells
+are_sound_cells width height i (cell ∷ cells) =
+    is_sound_cell width height i cell && are_sound_cells width height (i + 1) cells
 
 -- the world of a save before any ant stands in it
 abbrev pub floor_of : Draft → Grid

@@ -13,6 +13,10 @@ made_saved head red black world = record {
   round = head.round;
   place = head.place;
   totals = record { turns = world.ids * head.round; taken = head.taken; redone = head.redone };
-  minds = record { red = red; black = black; sheet = record { surround = head.surround; corpse = head.corpse; rest = head.rest } };
+  minds = record {
+    red = red;
+    black = black;
+    sheet = record { surround = head.surround; corpse = head.corpse; rest = head.rest };
+  };
   world = world;
 }

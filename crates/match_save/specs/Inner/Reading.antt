@@ -35,7 +35,9 @@ pieces_left (Some line) = pieces line.now
 
 -- whether a text is a number of at most eleven digits without leading zeros
 abbrev pub is_strict : List ℕ → Bool
-is_strict text = nat_le 1 (length text) && nat_le (length text) 11 && all_ascii_digits text && not (nat_lt 1 (length text) && (slice_index text 0 == 48))
+is_strict text =
+    nat_le 1 (length text) && nat_le (length text) 11 && all_ascii_digits text
+    && not (nat_lt 1 (length text) && (slice_index text 0 == 48))
 
 -- its value
 unfoldable pub strict_value : List ℕ → Option ℕ
@@ -72,7 +74,8 @@ sheet_tokens = word (codes "sheet") (followed (number 4 6) (λ surround. followe
 
 -- the numbers of the line of the counts
 abbrev pub counts_tokens : Reader (List ℕ) (ℕ × ℕ)
-counts_tokens = followed (word (codes "taken") (number 0 most_counted)) (λ taken. word (codes "redone") (number 0 most_counted))
+counts_tokens =
+    followed (word (codes "taken") (number 0 most_counted)) (λ taken. word (codes "redone") (number 0 most_counted))
 
 -- the sizes of a line
 abbrev pub size_tokens : Reader (List ℕ) (ℕ × ℕ)
@@ -133,7 +136,9 @@ instruction_of line = if_canonical line (read_line (tokens_of line))
 
 -- the instructions of a brain, behind the line of its name and its length
 abbrev pub read_program : List ℕ → Reader (List ℕ) (List Instr)
-read_program name = mapped (λ (both : ℕ × List Instr). both.1) (followed (line_of (word name (number 1 most_states))) (λ count. many instruction_of count))
+read_program name =
+    mapped (λ (both : ℕ × List Instr). both.1)
+    (followed (line_of (word name (number 1 most_states))) (λ count. many instruction_of count))
 
 -- one value in front of others, where there are both
 abbrev pub with_value : {A : Type 0} → Option A → Option (List A) → Option (List A)
@@ -161,15 +166,19 @@ read_rows value width height = mapped joined (many (row_of value width) height)
 
 -- the ground of a byte
 abbrev pub soil_of : ℕ → Option Soil
-soil_of byte = if byte == 35 then Some Rock else if byte == 46 then Some Clear else if byte == 43 then Some RedHill else if byte == 45 then Some BlackHill else None
+soil_of byte =
+    if byte == 35 then Some Rock else if byte == 46 then Some Clear else if byte == 43 then Some RedHill
+    else if byte == 45 then Some BlackHill else None
 
--- the number from 0 to 63 that a byte from 48 on stands for: a set of markers, or an amount of food, where 63 stands for all above 62
+-- the number from 0 to 63 that a byte from 48 on stands for: a set of markers, or an amount of food, where 63 stands
+-- for all above 62
 abbrev pub value_of_byte : ℕ → Option ℕ
 value_of_byte byte = if nat_le 48 byte && nat_lt byte 112 then Some (byte - 48) else None
 
 -- the numbers of the line of a cell's food
 abbrev pub food_tokens : ℕ → ℕ → Reader (List ℕ) (ℕ × (ℕ × ℕ))
-food_tokens x y = word (codes "food") (followed (number x x) (λ column. followed (number y y) (λ row. number 63 most_weight)))
+food_tokens x y =
+    word (codes "food") (followed (number x x) (λ column. followed (number y y) (λ row. number 63 most_weight)))
 
 -- the food of a line that stands for the cell in this column and row
 abbrev pub food_of : ℕ → ℕ → List ℕ → Option ℕ
@@ -182,15 +191,19 @@ food_at width i value = if value == 63 then one (food_of (i % width) (i / width)
 -- the foods of the cells with these values, from number i on
 abbrev pub read_foods : ℕ → ℕ → List ℕ → Reader (List ℕ) (List ℕ)
 read_foods width i [] = nothing []
-read_foods width i (value ∷ values) = mapped with_first (followed (food_at width i value) (λ food. read_foods width (i + 1) values))
+read_foods width i (value ∷ values) =
+    mapped with_first (followed (food_at width i value) (λ food. read_foods width (i + 1) values))
 
 -- the foods of all cells: rows of bytes, and a line for each amount that has no byte of its own
 abbrev pub read_all_foods : ℕ → ℕ → Reader (List ℕ) (List ℕ)
-read_all_foods width height = mapped (λ (both : List ℕ × List ℕ). both.1) (followed (read_rows value_of_byte width height) (λ values. read_foods width 0 values))
+read_all_foods width height =
+    mapped (λ (both : List ℕ × List ℕ). both.1)
+    (followed (read_rows value_of_byte width height) (λ values. read_foods width 0 values))
 
 -- the colour of a word
 abbrev pub colour_of : List ℕ → Option Colour
-colour_of token = if bytes_eq (codes "red") token then Some Red else if bytes_eq (codes "black") token then Some Black else None
+colour_of token =
+    if bytes_eq (codes "red") token then Some Red else if bytes_eq (codes "black") token then Some Black else None
 
 -- what stands on the line of an ant: its id, its colour, its position, its direction, its load, its state and its rest
 abbrev pub AntParts : Type 0
@@ -198,14 +211,16 @@ AntParts = ℕ × (Colour × (ℕ × (ℕ × (ℕ × (ℕ × (ℕ × ℕ))))))
 
 -- how an ant faces, what it carries, its state and its rest
 abbrev pub mind_tokens : Reader (List ℕ) (ℕ × (ℕ × (ℕ × ℕ)))
-mind_tokens = followed (number 0 5) (λ facing. followed (number 0 1) (λ laden. followed (number 0 9999) (λ state. number 0 255)))
+mind_tokens =
+    followed (number 0 5) (λ facing. followed (number 0 1) (λ laden. followed (number 0 9999) (λ state. number 0 255)))
 
 -- where an ant stands, and its mind
 abbrev pub body_tokens : ℕ → ℕ → Reader (List ℕ) (ℕ × (ℕ × (ℕ × (ℕ × (ℕ × ℕ)))))
 body_tokens width height = followed (number 0 (width - 1)) (λ x. followed (number 0 (height - 1)) (λ y. mind_tokens))
 
 abbrev pub ant_tokens : ℕ → ℕ → Reader (List ℕ) AntParts
-ant_tokens width height = followed (word (codes "ant") (number 0 16383)) (λ id. followed (one colour_of) (λ colour. body_tokens width height))
+ant_tokens width height =
+    followed (word (codes "ant") (number 0 16383)) (λ id. followed (one colour_of) (λ colour. body_tokens width height))
 
 abbrev pub placed_ant : AntParts → PlacedAnt
 placed_ant p = record {
@@ -231,14 +246,16 @@ if_rises least (Some it) = if nat_le least it.ant.id then Some (Some it) else No
 
 -- the ant of a line, whose id is at least this; or none, where it is the last line
 abbrev pub ant_or_end : ℕ → ℕ → ℕ → List ℕ → Option (Option PlacedAnt)
-ant_or_end width height least line = if bytes_eq (codes "end") line then Some None else if_rises least (ant_of width height line)
+ant_or_end width height least line =
+    if bytes_eq (codes "end") line then Some None else if_rises least (ant_of width height line)
 
 -- the next ant, or none at the last line
 abbrev pub next_ant : ℕ → ℕ → ℕ → Reader (List ℕ) (Option PlacedAnt)
 next_ant width height least = one (ant_or_end width height least)
 
 -- an ant, whose id is at least this, in front of those below it
-abbrev pub ant_onto : ℕ → Option PlacedAnt → ℕ → (PlacedAnt → Result (List PlacedAnt × Left (List ℕ)) ℕ) → Result (List PlacedAnt × Left (List ℕ)) ℕ
+abbrev pub ant_onto : ℕ → Option PlacedAnt → ℕ → (PlacedAnt → Result (List PlacedAnt × Left (List ℕ)) ℕ)
+    → Result (List PlacedAnt × Left (List ℕ)) ℕ
 ant_onto least None n below = Err n
 ant_onto least (Some it) n below = if nat_le least it.ant.id then made (λ ants. it ∷ ants) (below it) else Err n
 
@@ -272,7 +289,8 @@ abbrev pub BodyParts : Type 0
 BodyParts = (List Instr × List Instr) × (CellParts × List PlacedAnt)
 
 abbrev pub body_parts : ℕ → ℕ → Reader (List ℕ) BodyParts
-body_parts width height = followed brain_parts (λ brains. followed (cell_parts width height) (λ cells. read_ants width height))
+body_parts width height =
+    followed brain_parts (λ brains. followed (cell_parts width height) (λ cells. read_ants width height))
 
 abbrev pub draft_of_parts : Head × BodyParts → Draft
 draft_of_parts p = record {

@@ -76,5 +76,6 @@ cells_written g =
 -- all of it
 unfoldable pub written : SavedValue → List ℕ
 written s =
-    lines_text (head_tokens (head_of s)) +++ program_text (codes "red") s.minds.red +++ program_text (codes "black") s.minds.black +++ cells_written s.world
+    lines_text (head_tokens (head_of s)) +++ program_text (codes "red") s.minds.red
+    +++ program_text (codes "black") s.minds.black +++ cells_written s.world
     +++ numbered (ant_text_at s.world) s.world.ids +++ codes "end\n"

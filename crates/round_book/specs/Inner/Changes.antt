@@ -15,6 +15,7 @@ IsUnwritten written read = ¬ Contains written (seen_place read)
 
 -- a change of what was read, or that all is as it was
 abbrev pub Changes : List Sighting → Cells → Option Cause → Type 0
-Changes reads cells None = AllByRecursion (λ read. Agree (seen_parts read) (seen_cell read) (cells (seen_place read))) reads
+Changes reads cells None =
+    AllByRecursion (λ read. Agree (seen_parts read) (seen_cell read) (cells (seen_place read))) reads
 Changes reads cells (Some (cause.Part at k)) = IsChanged reads cells at k
 Changes reads cells (Some (cause.Place guessed actual)) = ⊥

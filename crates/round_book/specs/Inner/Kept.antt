@@ -22,8 +22,8 @@ pub record IsFieldKept (world : Grid) (minds : Minds) (workspace : Option Worksp
   pub sound : AreSound minds
   pub ready : ForSome workspace (IsWorkspaceReady world)
 
--- a turn of the window or its end, a stream that lasts for the turns that are left, room for what they write and for their verdicts, and the
--- verdicts so far that a look was taken, counted
+-- a turn of the window or its end, a stream that lasts for the turns that are left, room for what they write and for
+-- their verdicts, and the verdicts so far that a look was taken, counted
 pub record IsWorkspaceKept (from to next place taken : ℕ) (work : Workspace) : Type 0 where
   pub begun : from ≤ next
   pub left : next ≤ to

@@ -12,7 +12,8 @@ is_in_pass true raises = raises
 
 -- the world with a write set, if it is one of the pass
 abbrev pub with_pass : Bool → World → Sighting → World
-with_pass heavier w write = if is_in_pass heavier (raises w.cells write) then put w (seen_place write) (patched_by_write w.cells write) else w
+with_pass heavier w write =
+    if is_in_pass heavier (raises w.cells write) then put w (seen_place write) (patched_by_write w.cells write) else w
 
 -- the world with those writes set that are of the pass
 abbrev pub after_pass : Bool → World → List Sighting → World
@@ -21,9 +22,11 @@ after_pass heavier w (write ∷ writes) = after_pass heavier (with_pass heavier 
 
 -- a write may be set, if it is one of the pass
 abbrev pub CanSetInPass : Bool → World → Sighting → Type 0
-CanSetInPass heavier w write = is_in_pass heavier (raises w.cells write) ≡ true → CanSet w 9 (seen_place write) (patched_by_write w.cells write)
+CanSetInPass heavier w write =
+    is_in_pass heavier (raises w.cells write) ≡ true → CanSet w 9 (seen_place write) (patched_by_write w.cells write)
 
 -- those writes that are of the pass may be set, one after another
 abbrev pub CanSetPass : Bool → World → List Sighting → Type 0
 CanSetPass heavier w [] = ⊤
-CanSetPass heavier w (write ∷ writes) = CanSetInPass heavier w write × CanSetPass heavier (with_pass heavier w write) writes
+CanSetPass heavier w (write ∷ writes) =
+    CanSetInPass heavier w write × CanSetPass heavier (with_pass heavier w write) writes

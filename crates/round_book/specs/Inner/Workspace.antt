@@ -20,6 +20,7 @@ most_listed grid listed more = min (listed + more) (grid.width * grid.height)
 pub record AreMarked (grid : Grid) (marked : List Bool) (written : List Pos) : Type 0 where
   pub sized : length marked ≡ grid.width * grid.height
   pub inside : (p : Pos) → Contains written p → IsInside grid.width grid.height p
-  pub listed : (p : Pos) → IsInside grid.width grid.height p → slice_index_or marked (index_of grid.width p) false ≡ true → Contains written p
+  pub listed : (p : Pos) → IsInside grid.width grid.height p
+      → slice_index_or marked (index_of grid.width p) false ≡ true → Contains written p
   pub bear : (p : Pos) → Contains written p → slice_index_or marked (index_of grid.width p) false ≡ true
   pub counted : marks_in marked ≡ length written

@@ -20,8 +20,8 @@ use Rattle.round_workers.specs.BoardView.{first_seat}
 use Rattle.round_workers.specs.BoardWorker.{turns_in}
 use Rattle.round_workers.specs.Crews.{most_workers}
 
--- a worker is ready to work on a board: its seat is one of the board, and has seen the book opened; it drew no ticket behind the window; and
--- its list has room for all turns
+-- a worker is ready to work on a board: its seat is one of the board, and has seen the book opened; it drew no ticket
+-- behind the window; and its list has room for all turns
 pub record IsHired (board : Board) (worker : Worker) : Type 0 where
   pub seat : IsSeatOf board worker.seat
   pub opened : (known worker.seat).opened ≡ true
@@ -37,13 +37,15 @@ pub record HasWorked (board : Board) (old new : Worker) : Type 0 where
 abbrev pub seat_numbers : List Worker → List ℕ
 seat_numbers workers = map (λ worker. (known worker.seat).number) workers
 
--- the first seat has opened the book and doesn't hold it, and every seat that it made is a worker's or went into it, once
+-- the first seat has opened the book and doesn't hold it, and every seat that it made is a worker's or went into it,
+-- once
 pub record IsManned (board : Board) (first : Seat) (workers : List Worker) : Type 0 where
   pub seat : IsSeatOf board first
   pub zeroth : (known first).number ≡ 0
   pub opened : (known first).opened ≡ true
   pub free : (known first).holds ≡ false
-  pub numbered : (k : ℕ) → times k (known first).parts + times k (seat_numbers workers) ≡ once_below k ((known first).made + 1)
+  pub numbered : (k : ℕ)
+      → times k (known first).parts + times k (seat_numbers workers) ≡ once_below k ((known first).made + 1)
 
 -- an empty list with room for so many turns
 pub record IsRoom {A : Type 0} (turns : ℕ) (room : Vec ℕ A) : Type 0 where
@@ -56,8 +58,8 @@ pub record IsLaid (for_window : Window) (laid : Laid) : Type 0 where
   pub seat : IsSeatOf laid.board laid.first
   pub first : known laid.first ≡ first_seat (basis_of laid.board)
 
--- all else that a window takes memory for, but for its book: its guesses, the lists of the workers, and room for the workers, for their lists
--- and for the rooms of its looks
+-- all else that a window takes memory for, but for its book: its guesses, the lists of the workers, and room for the
+-- workers, for their lists and for the rooms of its looks
 pub record IsCrewStocked (for_window : Window) (stock : CrewStock) : Type 0 where
   pub guesses : stock.guesses.items ≡ guesses_for for_window
   pub lists : All (IsRoom (turns_in for_window)) stock.lists.items

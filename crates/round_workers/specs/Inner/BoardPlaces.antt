@@ -56,8 +56,10 @@ pub record AreBare (turns : ℕ) (slots : List BoardSlot) : Type 0 where
   pub book : get_elem? slots 0 ≡ maybe.some (TheBook None)
   pub spares : (j : ℕ) → j < turns → (old : Option LookValue) × (get_elem? slots (j + 1) ≡ maybe.some (Spare old))
 
--- what a table has that is laid for these turns of a field: what it was told, its counts, and the hand of its first seat
-pub record IsTableFor (field : FieldValue) (turns : Turns) (key : Basis) (table_id : TableId) (hand : Hand BoardSlot View) : Type 0 where
+-- what a table has that is laid for these turns of a field: what it was told, its counts, and the hand of its first
+-- seat
+pub record IsTableFor (field : FieldValue) (turns : Turns) (key : Basis) (table_id : TableId)
+    (hand : Hand BoardSlot View) : Type 0 where
   pub window : window_for key ≡ window_of field turns.from turns.to
   pub from : key.from ≡ turns.from
   pub to : key.to ≡ turns.to

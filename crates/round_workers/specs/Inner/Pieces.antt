@@ -24,7 +24,8 @@ all_have_room n pieces = All HasPieceRoom (take n pieces)
 abbrev pub AreLooked : Window → Share → List LookValue → Type 0
 AreLooked window share looks = take (share.to - share.from) looks ≡ looks_for window share.from (share.to - share.from)
 
--- the first turn of a share, in a window of this field that begins at turn `from`, is guessed to stand where the share says
+-- the first turn of a share, in a window of this field that begins at turn `from`, is guessed to stand where the share
+-- says
 abbrev pub IsGuessed : FieldValue → ℕ → Share → Type 0
 IsGuessed field from share = share.guess ≡ guess_for (window_of field from share.to) share.from
 
@@ -44,4 +45,5 @@ pub record IsPieceDone (field : FieldValue) (from : ℕ) (old new : Piece) : Typ
 -- shares follow one another, from a turn up to another
 abbrev pub AreConsecutive : List Share → (from to : ℕ) → Type 0
 AreConsecutive [] from to = from ≡ to
-AreConsecutive (share ∷ shares) from to = (share.from ≡ from) × (share.from ≤ share.to) × AreConsecutive shares share.to to
+AreConsecutive (share ∷ shares) from to =
+    (share.from ≡ from) × (share.from ≤ share.to) × AreConsecutive shares share.to to

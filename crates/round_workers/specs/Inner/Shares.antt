@@ -5,9 +5,15 @@ use Rattle.round_book.specs.Window.{Window, guess_for, look_for}
 use Rattle.spec_record.specs.Look.{LookValue}
 use Rattle.round_workers.specs.declared.share.Share.{Share}
 
--- of n turns from `from` on worker k has the piece between two borders of the row of turns, where this is the guess of its first turn
+-- of n turns from `from` on worker k has the piece between two borders of the row of turns, where this is the guess of
+-- its first turn
 abbrev pub share_of : (workers from n k guess : ℕ) → Share
-share_of workers from n k guess = record { worker = k; from = from + border workers n k; to = from + border workers n (k + 1); guess = guess }
+share_of workers from n k guess = record {
+  worker = k;
+  from = from + border workers n k;
+  to = from + border workers n (k + 1);
+  guess = guess;
+}
 
 -- the first turn of worker k in a window
 abbrev pub first_turn : Window → (workers k : ℕ) → ℕ
@@ -15,7 +21,8 @@ first_turn window workers k = window.from + border workers (window.to - window.f
 
 -- the share of worker k in a window
 abbrev pub window_share : Window → (workers k : ℕ) → Share
-window_share window workers k = share_of workers window.from (window.to - window.from) k (guess_for window (first_turn window workers k))
+window_share window workers k =
+    share_of workers window.from (window.to - window.from) k (guess_for window (first_turn window workers k))
 
 -- the share, if it has a turn
 abbrev pub if_any : Share → List Share

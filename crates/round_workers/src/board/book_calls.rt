@@ -19,8 +19,8 @@ use round_book::{Book, Field};
 const SLOT: usize = 0;
 
 impl Board {
-    /// Puts the book into its slot, once. The seat is the first one and hasn't opened the book yet, and the book stands for the board's
-    /// window, with no turn settled.
+    /// Puts the book into its slot, once. The seat is the first one and hasn't opened the book yet. The book stands for
+    /// the board's window, with no turn settled.
     pub fn open_book(&self, seat: &mut Seat, book: Book)
         requires board { IsSeatOf self.now seat.old }
         requires first { (known seat.old).number ≡ 0 }
@@ -38,9 +38,9 @@ impl Board {
         self.opened_step(&mut seat.hand);
     }
 
-    /// Tries to take the book, once, without waiting. The seat has seen the book opened, and doesn't hold it. The book that it gets stands
-    /// for the board's window. It gets none only where the try found that another seat held the book; the seat's tries rise by one either
-    /// way, and what the try found is kept.
+    /// Tries once to take the book, without waiting. The seat has seen the book opened, and doesn't hold it. A book
+    /// that it gets stands for the board's window. It gets none only if another seat held the book at that moment.
+    /// Either way the seat's tries rise by one, and the outcome of the try is recorded.
     pub fn take_book(&self, seat: &mut Seat) -> Option<Book>
         requires board { IsSeatOf self.now seat.old }
         requires opened { (known seat.old).opened ≡ true }
@@ -72,8 +72,8 @@ impl Board {
         self.end_book(&mut seat.hand, room);
     }
 
-    // Tries once for the book, without waiting, and with it settles for as long as the next turn's look is there. The book lies in its room
-    // meanwhile.
+    // Tries once for the book, without waiting, and with it settles for as long as the next turn's look is there. The
+    // book lies in its room meanwhile.
     #[inline]
     pub(crate) fn settle_with_book(&self, seat: &mut Seat, field: &Field<'_>)
         requires board { IsSeatOf self.now seat.old }

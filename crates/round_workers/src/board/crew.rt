@@ -32,8 +32,8 @@ use std::thread::Threads;
 // How many workers a crew has at most.
 const MOST_WORKERS: usize = 16;
 
-/// A crew of workers that draw the turns of a window, put the looks at them on a board, and pass its book from one to another to settle
-/// them.
+/// A crew of workers that draw the turns of a window, put the looks at them on a board, and pass its book from one to
+/// another to settle them.
 #[derive(Drop)]
 pub struct BoardCrew<'c, R: Threads + Sync, G: Gate> {
     team: Team<'c, R, G>,
@@ -52,8 +52,8 @@ impl<'c, R: Threads + Sync, G: Gate> Model for BoardCrew<'c, R, G> {
 }
 
 impl<'c, R: Threads + Sync, G: Gate> BoardCrew<'c, R, G> {
-    /// A crew of 1 to 16 workers, which has played no turn yet. Each worker, from 0, calls the gate before each look that it makes. It
-    /// takes no memory.
+    /// A crew of 1 to 16 workers, which has played no turn yet. Each worker, from 0, calls the gate before each look
+    /// that it makes. It takes no memory.
     pub fn new(rt: &'c R, workers: u32, gate: &'c G) -> BoardCrew<'c, R, G>
         requires workers { IsCrewSize workers }
         ensures { result ≡ record { workers = workers; turns = 0 } }
@@ -73,14 +73,16 @@ impl<'c, R: Threads + Sync, G: Gate> BoardCrew<'c, R, G> {
         self.turns
     }
 
-    /// Plays the turns of the ids from `from` up to, and not including, `to`. The field is whole, `from` is at most `to`,
-    /// `to` at most the number of ids, and the place with the number of turns is below 2^63. The field is whole afterwards, its world and
-    /// place are those to which the turns lead in order, and the answer counts the looks that were taken and the turns that were executed
-    /// anew. It is refused only when out of memory, before the field is lent; the field and the count of turns are as before then.
+    /// Plays the turns of the ids from `from` up to, and not including, `to`. The field is whole, `from` is at most
+    /// `to`, `to` is at most the number of ids, and the place plus the number of turns is below 2^63. Afterwards the
+    /// field is whole, and its world and place are those to which the turns lead in order. The result counts the looks
+    /// that were used and the turns that were executed again. It fails only if memory runs out, before the field is
+    /// lent; the field and the count of turns are then unchanged.
     ///
-    /// As many workers work as the lesser of the crew's and the turns. Whichever draws a turn calls the gate with its number and the id,
-    /// makes the look, puts it on the board and tries once for the book; with the book it settles the next turns for as long as their looks
-    /// are there. No worker waits for another. One worker alone needs no board: it settles each look as soon as it has made it.
+    /// The number of workers is the smaller of the crew's and the number of turns. A worker that draws a turn calls the
+    /// gate with its number and the id, makes the look, puts it on the board and tries once for the book. With the book
+    /// it settles the next turns as long as their looks are there. No worker waits for another. A single worker needs
+    /// no board: it settles each look as soon as it has made it.
     pub fn window(
         &mut self,
         alloc: Global,
@@ -102,8 +104,8 @@ impl<'c, R: Threads + Sync, G: Gate> BoardCrew<'c, R, G> {
     }
 }
 
-// What a crew keeps from one window to the next, so that a window takes memory for its table alone, and where it has more turns than those
-// before. Nothing is known of what lies in it between two windows.
+// What a crew keeps from one window to the next, so that a window takes memory for its table alone, and where it has
+// more turns than those before. Nothing is known of what lies in it between two windows.
 #[derive(Drop)]
 struct CrewStock {
     board: Stock,
@@ -127,7 +129,8 @@ impl CrewStock {
     }
 }
 
-// Plays a window by the workers of a team, or by one alone where no second worker would have a turn: then there is nobody to pass a book to.
+// Plays a window by the workers of a team, or by one alone where no second worker would have a turn: then there is
+// nobody to pass a book to.
 fn play<R: Threads + Sync, G: Gate>(
     team: &Team<'_, R, G>,
     alloc: Global,
@@ -177,8 +180,9 @@ struct Laid {
     first: Seat,
 }
 
-// A board of the window and its first seat, and all else that the window takes memory for, but for its book: its guesses, and room for so many
-// workers, for their lists, and for the rooms of all looks in the list of those that are kept.
+// A board of the window and its first seat, and all else that the window takes memory for, but for its book: its
+// guesses, and room for so many workers, for their lists, and for the rooms of all looks in the list of those that are
+// kept.
 fn lay(
     alloc: Global,
     stock: &mut CrewStock,

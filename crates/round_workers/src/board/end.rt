@@ -24,17 +24,17 @@ use std::alloc::Global;
 pub struct Closed {
     /// The book.
     pub book: Book,
-    /// For each turn of the window, in order, its look, where it was put and nobody took it.
+    /// For each turn of the window, in order, its look, if it was put and not taken.
     pub looks: Vec<Option<Look>>,
     /// How many tickets were drawn.
     pub drawn: u32,
 }
 
 impl Board {
-    /// Ends a board. The seat is the first one, every seat that it made was joined into it, and it has opened the book and doesn't hold it.
-    /// The book stands for the board's window. A look is left for each turn that the seat, with all that went into it, put and didn't take.
-    /// The tickets that they drew are the numbers below the count, each once. Lawful events lead from the window to where the board closed.
-    /// It takes no memory.
+    /// Ends a board. The seat is the first one, every seat that it made was joined into it, and it has opened the book
+    /// and doesn't hold it. The book stands for the board's window. A look is left for each turn that the seat, with
+    /// all seats joined into it, put and didn't take. The tickets that they drew are the numbers below the count, each
+    /// once. Lawful events lead from the window to the board's end. It takes no memory.
     pub fn close(self, seat: Seat) -> Closed
         requires board { IsSeatOf self seat }
         requires first { (known seat).number ≡ 0 }
@@ -69,8 +69,8 @@ impl Board {
     }
 }
 
-// What a board leaves: its book and the room of it, the places of its looks, by ticket, a room for as many looks, and how many tickets were
-// drawn.
+// What a board leaves: its book and the room of it, the places of its looks, by ticket, a room for as many looks, and
+// how many tickets were drawn.
 #[derive(Drop)]
 pub(crate) struct Ended {
     pub(crate) book: Book,

@@ -1,6 +1,7 @@
 // The looks of a board: they are put and taken.
 //
-// Both are a step on the look's word, by which the seat gets the room of the look, and a second one, by which it gives the room back.
+// Both are a step on the look's word, by which the seat gets the room of the look, and a second one, by which it gives
+// the room back.
 ghost use Rattle.std.specs.Prelude.{◌≡◌, ◌+◌, ◌-◌, ◌<◌, ◌≤◌, ◌∷◌, true, false, Some, IfSome, IfNone, OnSome};
 ghost use Rattle.atomic_table.specs.Table.{rest};
 ghost use Rattle.round_book.specs.Book as books;
@@ -26,8 +27,8 @@ use spec_record::Look;
 const FIRST_SLOT: usize = 1;
 
 impl Board {
-    /// Puts the look at a turn. The turn is one of the window, the seat drew its ticket and hasn't put it, and the look is that at the turn
-    /// on the window's base at its guess.
+    /// Puts the look at a turn. The turn is one of the window, the seat drew its ticket and hasn't put it, and the look
+    /// is that at the turn on the window's base at its guess.
     pub fn put(&self, seat: &mut Seat, look: Look)
         requires board { IsSeatOf self.now seat.old }
         requires after_from { (basis_of self.now).from ≤ look.turn }
@@ -120,9 +121,10 @@ impl Board {
         self.has_put_step(hand, ticket);
     }
 
-    /// Tries to take the look at a turn, once, without waiting. The seat holds the book, and the turn is one of the window. The look that
-    /// it gets is that at the turn on the window's base at its guess. It gets none exactly where the try found that the look wasn't there;
-    /// the seat's tries rise by one either way, and what the try found is kept.
+    /// Tries once to take the look at a turn, without waiting. The seat holds the book, and the turn is one of the
+    /// window. A look that it gets is the one at that turn on the window's base at its guess. It gets none if the look
+    /// wasn't there at that moment, and not otherwise. Either way the seat's tries rise by one, and the outcome of the
+    /// try is recorded.
     pub fn take_look(&self, seat: &mut Seat, turn: u32) -> Option<Look>
         requires board { IsSeatOf self.now seat.old }
         requires holds { (known seat.old).holds ≡ true }
@@ -154,7 +156,8 @@ impl Board {
         look
     }
 
-    // Tries to settle the book's next turn by its look, once, without waiting. The look lies where it was put meanwhile.
+    // Tries to settle the book's next turn by its look, once, without waiting. The look lies where it was put
+    // meanwhile.
     #[inline]
     pub(crate) fn settle_look(&self, hand: &mut Hand, field: &Field<'_>, book: &mut Book) -> bool
         requires can { CanSettle self.now field.now hand.old }

@@ -12,8 +12,8 @@ use spec_record::Look;
 use std::alloc::Global;
 use std::mem;
 
-// What boards are made of, kept from one to the next, so that a board takes memory for its table alone, and where it has more turns than
-// those before. Nothing is known of what lies in it between two boards.
+// What boards are made of, kept from one to the next, so that a board takes memory for its table alone, and where it
+// has more turns than those before. Nothing is known of what lies in it between two boards.
 #[derive(Drop)]
 pub(crate) struct Stock {
     // The rooms of looks that no board has.

@@ -21,8 +21,8 @@ pub enum BoardSlot {
     OneLook(Room<Look>),
 }
 
-/// The window that a board is for: its brains and the numbers of its rules, its seed, the world and the place with which it begins, and its
-/// turns. Clauses alone see the brains and the world.
+/// The window that a board is for: its brains and the numbers of its rules, its seed, the world and the place with
+/// which it begins, and its turns. Clauses alone see the brains and the world.
 #[derive(Drop)]
 pub struct Basis {
     /// The brain of the red ants.
@@ -75,7 +75,7 @@ pub struct View {
     pub made: u64,
     /// The numbers of the seats that went into it by joins, its own among them.
     pub parts: LinkedList<u64>,
-    /// The tickets that it drew. Ticket k stands for the turn that is number k in the window, from 0.
+    /// The tickets that it drew. Ticket k is for turn number k of the window, counted from 0.
     pub drawn: LinkedList<u64>,
     /// The tickets whose looks it put.
     pub put: LinkedList<u64>,

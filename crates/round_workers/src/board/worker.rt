@@ -17,9 +17,9 @@ use ant_base::Gate;
 use ant_random::Stream;
 use round_book::{Book, Field};
 
-/// Who makes looks on a board: its number, its seat, and the turns whose looks it made, in order. Its seat isn't the first one, doesn't
-/// hold the book, and has its own number as its one part; it put the look of each turn of the window that it drew, and `made` lists these
-/// turns.
+/// Who makes looks on a board: its number, its seat, and the turns whose looks it made, in order. Its seat isn't the
+/// first one, doesn't hold the book, and has its own number as its one part; it put the look of each turn of the window
+/// that it drew, and `made` lists these turns.
 #[derive(Drop)]
 pub struct Worker {
     /// The number under which it announces its looks.
@@ -32,13 +32,14 @@ pub struct Worker {
 }
 
 impl Worker {
-    /// Draws tickets until one is behind the window, makes the look of each turn and puts it, and after each tries once for the book; with
-    /// it it settles the next turns for as long as their looks are there.
+    /// Draws tickets until one is beyond the window, makes the look of each turn and puts it, and after each tries once
+    /// for the book. With the book it settles the next turns as long as their looks are there.
     ///
-    /// The seat is one of this board, which was opened, and drew no ticket behind the window yet. The field is lent for the board's window,
-    /// and the guesses are those for it; `made` has room for all of its turns. After it the worker's number and its seat's are what they
-    /// were, and the board is open to the seat; a ticket behind the window was drawn, each turn that the seat drew was put as often, and for
-    /// each put there was a try for the book. `made` has the room that it had. It takes no memory.
+    /// The seat is one of this board, which was opened, and has drawn no ticket beyond the window yet. The field is
+    /// lent for the board's window, and the guesses are those for it; `made` has room for all of its turns. Afterwards
+    /// the worker's number and its seat's are unchanged, and the board is open to the seat. A ticket beyond the window
+    /// was drawn, each turn that the seat drew was put as often, and each put was followed by a try for the book.
+    /// `made` has the same room. It takes no memory.
     pub fn work<G: Gate>(&mut self, board: &Board, field: &Field<'_>, guesses: &[u64], gate: &G)
         requires board { IsSeatOf board.now self.old.seat }
         requires opened { (known self.old.seat).opened ≡ true }
@@ -129,7 +130,8 @@ fn serve<G: Gate>(
 }
 
 impl Room<Book> {
-    // Settles the next turns of the book in the room for as long as their looks are there. The seat has the room in hand.
+    // Settles the next turns of the book in the room for as long as their looks are there. The seat has the room in
+    // hand.
     #[inline]
     pub(crate) fn settle(&mut self, board: &Board, hand: &mut Hand, field: &Field<'_>)
         requires can { CanSettle board.now field.now hand.old }

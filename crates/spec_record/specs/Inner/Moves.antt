@@ -26,7 +26,8 @@ destination cells p ant (Unmark i next) = None
 destination cells p ant (PickUp met unmet) = None
 destination cells p ant (Drop next) = None
 destination cells p ant (Turn side next) = None
-destination cells p ant (Move met unmet) = if is_blocked (cells (adjacent_pos p ant.facing)) then None else Some (adjacent_pos p ant.facing)
+destination cells p ant (Move met unmet) =
+    if is_blocked (cells (adjacent_pos p ant.facing)) then None else Some (adjacent_pos p ant.facing)
 destination cells p ant (Flip bound met unmet) = None
 
 -- whether an ant that didn't go from p is on r
@@ -55,16 +56,19 @@ fallen cells last p q = flat_map (fallen_at cells last p q) (places_around q)
 
 -- the reads of an ant that goes to q where nobody is killed
 abbrev pub calm_reads : Cells → Pos → Pos → List Sighting
-calm_reads cells p q = all_sighted ((p, whole_ant, cells p) ∷ []) (sightings_of cells (only part.Who) (seen_from cells p q))
+calm_reads cells p q =
+    all_sighted ((p, whole_ant, cells p) ∷ []) (sightings_of cells (only part.Who) (seen_from cells p q))
 
 -- the reads of an ant that goes to q
 abbrev pub going_reads : Cells → Cells → Pos → Pos → List Sighting
-going_reads cells last p q = all_sighted (calm_reads cells p q) (sightings_of cells load_and_food (fallen cells last p q))
+going_reads cells last p q =
+    all_sighted (calm_reads cells p q) (sightings_of cells load_and_food (fallen cells last p q))
 
 -- and its writes
 abbrev pub going_writes : Cells → Cells → Pos → Pos → List Sighting
 going_writes cells last p q =
-    all_sighted ((p, whole_ant, last p) ∷ (q, whole_ant, last q) ∷ []) (sightings_of last ant_and_food (fallen cells last p q))
+    all_sighted ((p, whole_ant, last p) ∷ (q, whole_ant, last q) ∷ [])
+    (sightings_of last ant_and_food (fallen cells last p q))
 
 -- the ant of p acts in the turn of id t, by an instruction by which it goes to q
 pub record GoesTo (minds : Minds) (w : World) (t : ℕ) (p q : Pos) : Type 0 where
@@ -87,4 +91,5 @@ state_gone (Flip bound met unmet) = 0
 
 -- the writes of an ant that goes to q where nobody is killed, where its state becomes next
 abbrev pub calm_writes : Sheet → Cells → Pos → Ant → Pos → ℕ → List Sighting
-calm_writes sheet cells p ant q next = (p, whole_ant, left_by_ant (cells p)) ∷ (q, whole_ant, with_ant (cells q) (arrived sheet ant next)) ∷ []
+calm_writes sheet cells p ant q next =
+    (p, whole_ant, left_by_ant (cells p)) ∷ (q, whole_ant, with_ant (cells q) (arrived sheet ant next)) ∷ []

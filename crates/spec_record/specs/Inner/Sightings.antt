@@ -10,7 +10,10 @@ use Rattle.spec_record.specs.Claims.{Sighting, seen_cell, seen_parts, seen_place
 -- one sighting more: where the position is in the list the parts go there, else it comes last
 abbrev pub sighted : List Sighting → Sighting → List Sighting
 sighted [] new = new ∷ []
-sighted (old ∷ sightings) new = if same_pos (seen_place old) (seen_place new) then (seen_place old, union (seen_parts old) (seen_parts new), seen_cell old) ∷ sightings else old ∷ sighted sightings new
+sighted (old ∷ sightings) new =
+    if same_pos (seen_place old) (seen_place new)
+    then (seen_place old, union (seen_parts old) (seen_parts new), seen_cell old) ∷ sightings
+    else old ∷ sighted sightings new
 
 -- these sightings, and then more
 abbrev pub all_sighted : List Sighting → List Sighting → List Sighting

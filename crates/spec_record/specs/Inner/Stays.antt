@@ -73,4 +73,5 @@ staying_reads cells p ant instruction =
 
 -- and its writes, where these are the cells then
 abbrev pub staying_writes : Cells → Pos → Ant → Instr → List Sighting
-staying_writes last p ant instruction = (p, union (only part.Mind) (written_besides ant.colour instruction), last p) ∷ []
+staying_writes last p ant instruction =
+    (p, union (only part.Mind) (written_besides ant.colour instruction), last p) ∷ []

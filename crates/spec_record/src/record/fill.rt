@@ -54,11 +54,12 @@ impl Look {
         }
     }
 
-    /// Makes this look the one at the turn of the ant of this id in `base`, its random number guessed at the place of the stream, and
-    /// forgets what it was. It takes no memory, and uses the room of the old look.
+    /// Turns this look into the one at the turn of the ant of this id in `base`, with its random number guessed at the
+    /// place of the stream, and forgets the old one. It takes no memory, and uses the room of the old look.
     ///
-    /// Each ant's state is below the length of its colour's brain, the id is below the number of ids, and the stream stands below 2^63 - 1.
-    /// The stream goes on by one number where the turn draws one, so that looks at one turn after another are made at the guesses.
+    /// Each ant's state is below the length of its colour's brain, the id is below the number of ids, and the stream is
+    /// below 2^63 - 1. The stream advances by one number if the turn draws one, so that looks at consecutive turns are
+    /// made at their guesses.
     #[inline]
     pub fn renew(&mut self, base: &World, brains: Brains<'_>, stream: &mut Stream, id: u32)
         requires fit { Fits (world_of base.now) (minds_of brains) }
@@ -220,7 +221,8 @@ impl Look {
         note_alone(&mut self.writes, actor.place, written, after.cell);
     }
 
-    // Records the ant that makes this step. Few turns go, so it is a call; it reads the cell again, so that the caller's stays where it is.
+    // Records the ant that makes this step. Few turns go, so it is a call; it reads the cell again, so that the
+    // caller's stays where it is.
     #[inline(never)]
     fn go(&mut self, base: &World, brains: Brains<'_>, stream: &mut Stream, id: u32, step: Step)
         requires fit { Fits (world_of base.now) (minds_of brains) }
@@ -260,8 +262,8 @@ impl Look {
         ));
     }
 
-    // The same where foes are near, who may be killed or kill, by a trail on which the ant takes its turn; what it reads but of the killed is
-    // recorded. A trail is large: so it is a call.
+    // The same where foes are near, who may be killed or kill, by a trail on which the ant takes its turn; what it
+    // reads but of the killed is recorded. A trail is large: so it is a call.
     #[inline(never)]
     fn fight(&mut self, base: &World, brains: Brains<'_>, stream: &mut Stream, id: u32, step: Step)
         requires fit { Fits (world_of base.now) (minds_of brains) }
@@ -306,7 +308,8 @@ impl Look {
         trail
     }
 
-    // Records what the ant that makes this step writes, and reads of the killed, by a trail on which its turn was executed.
+    // Records what the ant that makes this step writes, and reads of the killed, by a trail on which its turn was
+    // executed.
     #[inline]
     fn record_fight(&mut self, base: &World, trail: &Trail<'_>, step: Step)
         requires reads { self.old.reads ≡ calm_reads (world_of base.now).cells step.from step.to }

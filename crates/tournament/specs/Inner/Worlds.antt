@@ -16,7 +16,8 @@ pub record CanBePrinted (knows : ℕ → ℕ → ℕ → Type 0) (players worlds
   pub early : world < worlds
   pub known : (n red black : ℕ) → n / seeds ≡ world → red < players → black < players → red ≢ black → knows n red black
 
--- why the lines of a world weren't pushed: the sink failed, after a prefix of them; or memory was wanting, and the sink is as it was
+-- why the lines of a world weren't pushed: the sink failed, after a prefix of them; or memory was wanting, and the sink
+-- is as it was
 abbrev pub WorldStops : SinkState → SinkState → List ℕ → PushFault → Type 0
 WorldStops old new text WriteFault = PushedFront old new text
 WorldStops old new text OutOfMemory = new ≡ old

@@ -20,7 +20,8 @@ use Rattle.world_gen.specs.declared.spot.Spot.{Spot}
 -- of 50 tries: the first that fits, or none
 abbrev pub IsTried : (Spot → Type 0) → ℕ → ℕ → ℕ → Figure → ℕ → Option Spot → ℕ → Type 0
 IsTried fits seed width height figure g (Some spot) after = IsChosenSpot fits seed width height figure g spot after
-IsTried fits seed width height figure g None after = NoTryFits fits seed width height figure g 50 × (after ≡ g + 50 * draws_of figure)
+IsTried fits seed width height figure g None after =
+    NoTryFits fits seed width height figure g 50 × (after ≡ g + 50 * draws_of figure)
 
 -- the first of the places at which it fits, among those before which and from which on tell
 pub record IsFirstSpot (fits : Spot → Type 0) (figure : Figure) (IsAmong : Pos → Type 0) (spot : Spot) : Type 0 where
@@ -46,16 +47,19 @@ IsChosen fits seed width height element g (Some spot) after = Goes fits seed wid
 IsChosen fits seed width height element g None after = HasNone fits seed width height element g
 
 -- what the cells of a spot are set to
-pub record IsElementPut (spot : Spot) (width height : ℕ) (blocked blocked_now : List Bool) (kinds kinds_now : List Kind) : Type 0 where
+pub record IsElementPut (spot : Spot) (width height : ℕ) (blocked blocked_now : List Bool)
+    (kinds kinds_now : List Kind) : Type 0 where
   pub cells : List Pos
   pub lists : ListsCells spot cells
   pub stamped : IsStamped width height cells (paint_of spot.figure) blocked blocked_now kinds kinds_now
   pub few : one_if (is_hill (paint_of spot.figure)) * length cells ≤ 127
 
 -- what comes of an element: it goes to its spot, or has no room
-abbrev pub IsStep : ℕ → ℕ → ℕ → Element → ℕ → ℕ → ℕ → List Bool → List Bool → List Kind → List Kind → Result Unit GenFault → Type 0
+abbrev pub IsStep : ℕ → ℕ → ℕ → Element → ℕ → ℕ → ℕ → List Bool → List Bool → List Kind → List Kind
+    → Result Unit GenFault → Type 0
 IsStep seed width height element number g after blocked blocked_now kinds kinds_now (Ok _) =
-    (spot : Spot) × Goes (AllOpen width height blocked) seed width height element g spot after × IsElementPut spot width height blocked blocked_now kinds kinds_now
+    (spot : Spot) × Goes (AllOpen width height blocked) seed width height element g spot after
+    × IsElementPut spot width height blocked blocked_now kinds kinds_now
 IsStep seed width height element number g after blocked blocked_now kinds kinds_now (Err (NoRoom n)) =
     (n ≡ number) × HasNone (AllOpen width height blocked) seed width height element g
 IsStep seed width height element number g after blocked blocked_now kinds kinds_now (Err OutOfMemory) = Unit {0}

@@ -33,7 +33,8 @@ bare_kinds width height zero = []
 bare_kinds width height (suc n) = bare_kinds width height n ++ bare_kind (is_on_rim width height (pos_at width n)) ∷ []
 
 -- these cells are painted, and they and their neighbours are blocked
-pub record IsStamped (width height : ℕ) (cells : List Pos) (kind : Kind) (blocked blocked_now : List Bool) (kinds kinds_now : List Kind) : Type 0 where
+pub record IsStamped (width height : ℕ) (cells : List Pos) (kind : Kind) (blocked blocked_now : List Bool)
+    (kinds kinds_now : List Kind) : Type 0 where
   pub blocks : SetsWhere width height true (IsRoundAny cells) blocked blocked_now
   pub paints : SetsWhere width height kind (Contains cells) kinds kinds_now
   pub hills : hill_count kinds_now ≤ hill_count kinds + one_if (is_hill kind) * length cells
@@ -45,12 +46,15 @@ pub record IsTouched (spot : Spot) (p : Pos) : Type 0 where
   pub of : IsCell spot cell
   pub touching : IsTouching cell (point_of p)
 
--- what a world in the making keeps: where something stands or touches it is blocked, and nowhere else inside; each cell is painted
+-- what a world in the making keeps: where something stands or touches it is blocked, and nowhere else inside; each cell
+-- is painted
 pub record IsDraft (width height : ℕ) (placed : List Spot) (blocked : List Bool) (kinds : List Kind) : Type 0 where
   pub fenced : IsFenced width height blocked
-  pub shut : (p : Pos) (other : Spot) → IsInside width height p → Contains placed other → IsTouched other p → is_unblocked width height blocked p ≡ true → ⊥
+  pub shut : (p : Pos) (other : Spot) → IsInside width height p → Contains placed other → IsTouched other p
+      → is_unblocked width height blocked p ≡ true → ⊥
   pub off_rim : (other : Spot) (q : Point) → Contains placed other → IsCell other q → IsOffRim width height q
-  pub free : (p : Pos) → IsInner width height p → ((other : Spot) → Contains placed other → IsTouched other p → ⊥) → is_unblocked width height blocked p ≡ true
+  pub free : (p : Pos) → IsInner width height p → ((other : Spot) → Contains placed other → IsTouched other p → ⊥)
+      → is_unblocked width height blocked p ≡ true
   pub painted : IsPainted width height placed kinds
   pub fed : All IsFed kinds
 

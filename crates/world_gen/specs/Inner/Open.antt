@@ -14,7 +14,8 @@ use Rattle.world_gen.specs.declared.spot.Spot.{Spot}
 
 -- whether the cell at p is inside and not blocked
 abbrev pub is_unblocked : ℕ → ℕ → List Bool → Pos → Bool
-is_unblocked width height blocked p = nat_lt p.x width && (nat_lt p.y height && not (slice_index_or blocked (index_of width p) true))
+is_unblocked width height blocked p =
+    nat_lt p.x width && (nat_lt p.y height && not (slice_index_or blocked (index_of width p) true))
 
 -- one entry a cell, and the rim is blocked
 pub record IsFenced (width height : ℕ) (blocked : List Bool) : Type 0 where
@@ -44,7 +45,8 @@ pub record IsBallWithin (width height : ℕ) (centre : Pos) (radius : ℕ) : Typ
 
 -- p is in the ball and not open
 abbrev pub IsShut : ℕ → ℕ → List Bool → Pos → ℕ → Pos → Type 0
-IsShut width height blocked centre radius p = IsInBall (point_of centre) radius (point_of p) × (is_unblocked width height blocked p ≡ false)
+IsShut width height blocked centre radius p =
+    IsInBall (point_of centre) radius (point_of p) × (is_unblocked width height blocked p ≡ false)
 
 -- position number j of a row, counted from the ball's first column
 abbrev pub in_row : Pos → ℕ → ℕ → ℕ → Pos
@@ -52,7 +54,8 @@ in_row centre radius y j = record { x = centre.x - radius + j; y = y }
 
 -- of the first n positions of a row, those in the ball are open
 abbrev pub RowIsOpen : ℕ → ℕ → List Bool → Pos → ℕ → ℕ → ℕ → Type 0
-RowIsOpen width height blocked centre radius y n = (j : ℕ) → j < n → IsShut width height blocked centre radius (in_row centre radius y j) → ⊥
+RowIsOpen width height blocked centre radius y n =
+    (j : ℕ) → j < n → IsShut width height blocked centre radius (in_row centre radius y j) → ⊥
 
 -- the first n positions in a direction, from a start on, are open
 abbrev pub LineIsOpen : ℕ → ℕ → List Bool → Point → Dir → ℕ → Type 0
@@ -60,7 +63,8 @@ LineIsOpen width height blocked start way n = (j : ℕ) → j < n → IsOpen wid
 
 -- the first n lines of a blob are open
 abbrev pub LinesAreOpen : ℕ → ℕ → List Bool → Point → Dir → ℕ → Type 0
-LinesAreOpen width height blocked corner first n = (i : ℕ) → i < n → LineIsOpen width height blocked (point_after i first corner) (turned_by first Right) 5
+LinesAreOpen width height blocked corner first n =
+    (i : ℕ) → i < n → LineIsOpen width height blocked (point_after i first corner) (turned_by first Right) 5
 
 -- each cell of a blob is open
 abbrev pub BlobIsOpen : ℕ → ℕ → List Bool → Point → Dir → Type 0
@@ -88,7 +92,8 @@ line_from (suc n) d p = line_from n d p ++ walked n d p ∷ []
 -- the first n lines of a blob
 unfoldable pub lines_from : ℕ → Dir → Pos → List Pos
 lines_from zero first corner = []
-lines_from (suc n) first corner = lines_from n first corner ++ line_from 5 (turned_by first Right) (walked n first corner)
+lines_from (suc n) first corner =
+    lines_from n first corner ++ line_from 5 (turned_by first Right) (walked n first corner)
 
 -- the five positions of a line, and of each of a blob's five lines, have neighbours
 abbrev pub LineHasNeighbours : Pos → Dir → Type 0

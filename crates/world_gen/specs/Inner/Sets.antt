@@ -10,8 +10,10 @@ use Rattle.hex_geometry.specs.declared.position.Pos.{Pos}
 pub record SetsWhere {X : Type 0} (width height : ℕ) (v : X) (S : Pos → Type 0) (old new : List X) : Type 0 where
   pub same_length : length new ≡ length old
   pub on : (p : Pos) (d : X) → IsInside width height p → S p → slice_index_or new (index_of width p) d ≡ v
-  pub stay : (p : Pos) (d : X) → IsInside width height p → slice_index_or old (index_of width p) d ≡ v → slice_index_or new (index_of width p) d ≡ v
-  pub off : (p : Pos) (d : X) → IsInside width height p → (S p → ⊥) → slice_index_or new (index_of width p) d ≡ slice_index_or old (index_of width p) d
+  pub stay : (p : Pos) (d : X) → IsInside width height p → slice_index_or old (index_of width p) d ≡ v
+      → slice_index_or new (index_of width p) d ≡ v
+  pub off : (p : Pos) (d : X) → IsInside width height p → (S p → ⊥)
+      → slice_index_or new (index_of width p) d ≡ slice_index_or old (index_of width p) d
 
 -- p itself, or one of its neighbours
 abbrev pub IsRound : Pos → Pos → Type 0

@@ -1,6 +1,6 @@
--- What each text is read as: its world's kinds, or its first fault. These functions take a text as the code does; proofs/TextReads,
--- FaultReads and WrongReads show that a text is read as a world exactly where it is that world's text by Grammar, and as a fault exactly
--- where that is wrong with it by Faulty.
+-- What each text is read as: its world's kinds, or its first fault. These functions take a text as the code does;
+-- proofs/TextReads, FaultReads and WrongReads show that a text is read as a world exactly where it is that world's text
+-- by Grammar, and as a fault exactly where that is wrong with it by Faulty.
 use Rattle.std.specs.Prelude.{◌≡◌, ◌≤◌, ℕ, ◌+◌, ◌-◌, ◌*◌, zero, suc, Bool, not, ◌&&◌, List, [], ◌∷◌, ◌++◌, Option, Some, None, Result, Ok, Err, ok_or, drop, nat_le, nat_lt, ◌==◌, if◌then◌else◌}
 use Rattle.std.specs.List.{list_all}
 use Rattle.ant_base.specs.Lines.{lines_of, trimmed, is_blank}
@@ -93,7 +93,9 @@ open_rim width height kinds = first_of width (is_open_at width height kinds) (wi
 abbrev pub limited : ℕ → ℕ → List Kind → Option Pos → Result Plan WorldFault
 limited width height kinds (Some p) = Err (OpenRim p.x p.y)
 limited width height kinds None =
-    if nat_le (hill_count kinds) most_ants then Ok (record { width = width; height = height; kinds = kinds }) else Err (TooManyAnts (hill_count kinds))
+    if nat_le (hill_count kinds) most_ants
+    then Ok (record { width = width; height = height; kinds = kinds })
+    else Err (TooManyAnts (hill_count kinds))
 
 -- rows after which there are blank lines alone
 abbrev pub rows_ended : ℕ → ℕ → Result Rows WorldFault → Result Plan WorldFault

@@ -12,4 +12,5 @@ IsClosedBefore width height kinds n = first_of width (is_open_at width height ki
 -- the search of row y goes on where the rows above it have no open cell
 abbrev pub SearchesRow : ℕ → ℕ → List Kind → ℕ → Option Pos → Type 0
 SearchesRow width height kinds y found =
-    IsClosedBefore width height kinds (y * width) → first_of width (is_open_at width height kinds) (y * width + width) ≡ found
+    IsClosedBefore width height kinds (y * width)
+    → first_of width (is_open_at width height kinds) (y * width + width) ≡ found

@@ -1,4 +1,5 @@
--- what was taken is the content so far, which is at most one byte too long; a reader that is sure of as much gave a byte each turn
+-- what was taken is the content so far, which is at most one byte too long; a reader that is sure of as much gave a
+-- byte each turn
 use Rattle.std.proofs.Common.{◌+◌, ◌≤◌}
 use Rattle.std.specs.Io.KnownBytes.{Consumes}
 use Rattle.std.specs.Prelude.{vec_len}

@@ -1,7 +1,7 @@
 // The table of a board: it is laid, stepped on, and taken apart.
 //
-// A step is one of the functions below, each of them one call of `atomic_table` on one word, with these numbers. What is called elsewhere
-// knows of the table what these functions tell.
+// A step is one of the functions below, each of them one call of `atomic_table` on one word, with these numbers. What
+// is called elsewhere knows of the table what these functions tell.
 ghost use Rattle.std.specs.Prelude.{◌≡◌, ◌≢◌, [], ◌∷◌, ◌+◌, ◌-◌, ◌<◌, ◌≤◌, ◌^◌, ℕ, true, false, length, slice_index_or, Some, None, Option, replicate, IfErr, IfOk, OnOk, IsSomeAnd};
 ghost use Rattle.std.specs.List.{AllByRecursion};
 ghost use Rattle.std.specs.Vec.{vec_capacity, vec_len};
@@ -62,8 +62,8 @@ pub(crate) const FULL: u64 = 2;
 const EMPTIED: u64 = 3;
 
 impl Board {
-    // What `new` does, of a stock, to which is added what is wanted besides. Where it is refused, the stock has the rooms of looks still; else
-    // their list has room for those of the window.
+    // What `new` does, of a stock, to which is added what is wanted besides. Where it is refused, the stock has the
+    // rooms of looks still; else their list has room for those of the window.
     pub(crate) fn over(
         alloc: Global,
         field: &Field<'_>,
@@ -320,8 +320,8 @@ impl Board {
     }
 }
 
-// The table of a board for these turns of a field, with words and rooms that were kept, and what is wanted besides, and the hand of its
-// first seat. When out of memory, the rooms of looks that are there by then are kept.
+// The table of a board for these turns of a field, with words and rooms that were kept, and what is wanted besides, and
+// the hand of its first seat. When out of memory, the rooms of looks that are there by then are kept.
 fn lay(
     alloc: Global,
     field: &Field<'_>,
@@ -389,8 +389,8 @@ fn basis(field: &Field<'_>, from: u32, to: u32) -> Basis
     }
 }
 
-// The slots with which a board of so many turns begins, with the rooms that were kept, and such as are wanted besides. When out of
-// memory, those of looks that are there by then are kept.
+// The slots with which a board of so many turns begins, with the rooms that were kept, and such as are wanted besides.
+// When out of memory, those of looks that are there by then are kept.
 fn bare(
     alloc: Global,
     turns: usize,

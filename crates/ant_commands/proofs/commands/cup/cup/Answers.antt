@@ -1,4 +1,5 @@
--- what was read can be played, each world and each player has a name, and memory may be wanting after the reading; the standing is pushed last
+-- what was read can be played, each world and each player has a name, and memory may be wanting after the reading; the
+-- standing is pushed last
 use Rattle.std.proofs.Common.{◌≡◌, ◌*◌, ◌≤◌, ℕ, Bool, false, List, length, ap, arith, refl, sym, subst}
 use Rattle.ant_base.specs.Sink.{Pushed}
 use Rattle.ant_commands.specs.Jobs.{cup_job}
