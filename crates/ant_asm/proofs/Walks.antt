@@ -23,6 +23,7 @@ use Rattle.ant_asm.specs.Inner.Ways.{step_of, steps_of}
 use Rattle.ant_asm.proofs.FlatLemmas.{all_at, read_at}
 use Rattle.ant_asm.proofs.LabelSteps.{inner-split, line-size, line_states, lines-split, the_named, used_states}
 use Rattle.ant_asm.proofs.LabelWalk.{state-is}
+use Rattle.ant_asm.proofs.Lefts.{left_by-last}
 use Rattle.ant_asm.proofs.OutlineLemmas.{IsNamedAt, line_before-size, named-at, use_below-more}
 
 -- the lines that aren't labels
@@ -194,11 +195,7 @@ module _ (bodies : List NamedBody) (spot : Spot) (body : NamedBody) (good : AreG
 -- the last of the bodies that were left
 pub left-last : {A : Type 0} (tell : Spot → List WayStep → List A) (front : List Level) (level : Level) (way : List WayStep) →
     left_in tell (front ++ level ∷ []) way ≡ tell level.spot (way ++ steps_of front) ++ left_in tell front way
-left-last tell [] level way = ap (tell level.spot) (sym (append-nil way)) ∙ sym (append-nil (tell level.spot (way ++ [])))
-left-last tell (outer ∷ front) level way =
-    ap (λ (l : _). l ++ tell outer.spot way) (left-last tell front level (way ++ step_of outer ∷ []))
-    ∙ append_assoc (tell level.spot ((way ++ step_of outer ∷ []) ++ steps_of front)) (left_in tell front (way ++ step_of outer ∷ [])) (tell outer.spot way)
-    ∙ ap (λ (w : List WayStep). tell level.spot w ++ (left_in tell front (way ++ step_of outer ∷ []) ++ tell outer.spot way)) (append_assoc way (step_of outer ∷ []) (steps_of front))
+left-last tell front level way = left_by-last step_of (λ level way. tell level.spot way) front level way
 
 pub steps-last : (bodies : List NamedBody) (front : List Level) (level : Level) → steps_after bodies (front ++ level ∷ []) ≡ steps_after bodies front + steps_in (rest_at bodies level.spot)
 steps-last bodies [] level = omega arith
