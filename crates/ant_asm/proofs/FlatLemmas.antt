@@ -182,45 +182,6 @@ from_place-end trees [] = refl
 from_place-end trees (Item.Do action ∷ items) = from_place-end trees items
 from_place-end trees (Item.Use block handed ∷ items) = from_place-end trees items
 
--- what was emitted of a body's first k items, before what the others give, is all
-pub record IsUnderway (tree : Items) (numbers : Numbers) (path : List ℕ) (k : ℕ) (list start : List Instr) (addresses first : List (List ℕ)) : Type 0 where
-  pub on : list ++ emitted (from_place k tree) tree numbers k ≡ start ++ emitted tree tree numbers 0
-  pub along : addresses ++ places_of (from_place k tree) path k ≡ first ++ places_of tree path 0
-
-module _ (tree : Items) (numbers : Numbers) (path : List ℕ) (k : ℕ) (list start : List Instr) (addresses first : List (List ℕ)) where
-  -- an instruction more
-  pub underway_do : (action : Action Label) → from_place k tree ≡ Do action (from_place (suc k) tree) → (new : List Instr) (more : List (List ℕ)) →
-      new ≡ list ++ instruction_by (number_target tree numbers k) action ∷ [] → more ≡ addresses ++ (path ++ k ∷ []) ∷ [] →
-      IsUnderway tree numbers path k list start addresses first → IsUnderway tree numbers path (suc k) new start more first
-  underway_do action at new more is place underway = record {
-    on = ap (λ (l : List Instr). l ++ emitted (from_place (suc k) tree) tree numbers (suc k)) is
-        ∙ append_assoc list (instruction_by (number_target tree numbers k) action ∷ []) (emitted (from_place (suc k) tree) tree numbers (suc k))
-        ∙ ap (λ (i : Items). list ++ emitted i tree numbers k) (sym at) ∙ underway.on;
-    along = ap (λ (l : List (List ℕ)). l ++ places_of (from_place (suc k) tree) path (suc k)) place
-        ∙ append_assoc addresses ((path ++ k ∷ []) ∷ []) (places_of (from_place (suc k) tree) path (suc k))
-        ∙ ap (λ (i : Items). addresses ++ places_of i path k) (sym at) ∙ underway.along;
-  }
-
-  -- a block more
-  pub underway_use : (handed : List Label) (block : Items) → from_place k tree ≡ Use handed block (from_place (suc k) tree) → (new : List Instr) (more : List (List ℕ)) →
-      new ≡ list ++ emitted block block (inner_numbers tree numbers k handed) 0 → more ≡ addresses ++ places_of block (path ++ k ∷ []) 0 →
-      IsUnderway tree numbers path k list start addresses first → IsUnderway tree numbers path (suc k) new start more first
-  underway_use handed block at new more is place underway = record {
-    on = ap (λ (l : List Instr). l ++ emitted (from_place (suc k) tree) tree numbers (suc k)) is
-        ∙ append_assoc list (emitted block block (inner_numbers tree numbers k handed) 0) (emitted (from_place (suc k) tree) tree numbers (suc k))
-        ∙ ap (λ (i : Items). list ++ emitted i tree numbers k) (sym at) ∙ underway.on;
-    along = ap (λ (l : List (List ℕ)). l ++ places_of (from_place (suc k) tree) path (suc k)) place
-        ∙ append_assoc addresses (places_of block (path ++ k ∷ []) 0) (places_of (from_place (suc k) tree) path (suc k))
-        ∙ ap (λ (i : Items). addresses ++ places_of i path k) (sym at) ∙ underway.along;
-  }
-
-  -- the end
-  pub underway_end : from_place k tree ≡ End → IsUnderway tree numbers path k list start addresses first → (list ≡ start ++ emitted tree tree numbers 0) × (addresses ≡ first ++ places_of tree path 0)
-  underway_end at underway = (
-    sym (append-nil list) ∙ ap (λ (i : Items). list ++ emitted i tree numbers k) (sym at) ∙ underway.on,
-    sym (append-nil addresses) ∙ ap (λ (i : Items). addresses ++ places_of i path k) (sym at) ∙ underway.along,
-  )
-
 pub all_at : {A : Type 0} (P : A → Type 0) (list : List A) (i : ℕ) (x : A) → AllByRecursion P list → slice_get list i ≡ Some x → P x
 all_at P [] i x all at = absurd (cc)
 all_at P (y ∷ list) zero x all at = let same : y ≡ x = cc in subst P same all.0
@@ -275,10 +236,6 @@ module _ {bodies : List Body} {number : ℕ} {body : Body} {k : ℕ} {item : Ite
       let here : size_of (from_place k (tree_at bodies number)) ≡ size_of (tree_at bodies block) + size_of (from_place (suc k) (tree_at bodies number)) =
       ap size_of (item_tree ∙ ap (λ (i : Item). with_item (trees_of bodies) i (from_place (suc k) (tree_at bodies number))) puts) in
       let i : k < length body.items.items = a.inside in omega arith
-
--- the end of a body
-pub body_end : (bodies : List Body) (number : ℕ) (body : Body) → AreGood bodies → number < length bodies → body ≡ slice_index_or bodies number body → from_place (length body.items.items) (tree_at bodies number) ≡ End
-body_end bodies number body good known is = ap (from_place (length body.items.items)) (tree_is bodies number body good known is) ∙ from_place-end (trees_of bodies) body.items.items
 
 -- what the block of an item needs
 pub use_good : {bodies : List Body} {number : ℕ} {body : Body} {k : ℕ} {item : Item} → AtItem bodies number body k item → (block : ℕ) (handed : Vec Label Global) → item ≡ Item.Use block handed →

@@ -1,18 +1,17 @@
 -- What is told of a line of a body that is put in place, and of the lines after it.
 use Rattle.std.proofs.Common.{◌≡◌, ℕ, zero, suc, ◌+◌, ◌<◌, ◌≤◌, List, [], ◌∷◌, ◌++◌, drop, length, Some, refl, sym, ap, ◌∙◌, subst, arith}
-use Rattle.std.specs.Prelude.{◌==◌, if◌then◌else◌, slice_get, slice_index_or, Vec}
+use Rattle.std.specs.Prelude.{◌==◌, if◌then◌else◌, slice_get, slice_index_or}
 use Rattle.std.proofs.lemmas.List.{drop_more}
-use Rattle.std.specs.declared.alloc.Global.{Global}
-use Rattle.ant_base.specs.Sink.{PushedAll, SinkState}
+use Rattle.ant_base.specs.Sink.{SinkState}
 use Rattle.ant_asm.specs.declared.named.NamedBody.{NamedBody}
 use Rattle.ant_asm.specs.declared.named.NamedLine.{NamedLine}
 use Rattle.ant_asm.specs.Labels.{LabelState, Outline, WayStep, labels_text}
-use Rattle.ant_asm.specs.StateLines.{StateLine, state_lines_text}
+use Rattle.ant_asm.specs.StateLines.{StateLine}
 use Rattle.ant_asm.specs.Labels.Outline.{Closed}
 use Rattle.ant_asm.specs.Inner.Flat.{most}
 use Rattle.ant_asm.specs.Inner.Outlines.{AreGoodNamed, IsUseBelow, all_states, further, inner_states, label_of, line_before, line_size, lines_before, most_size, outline_at, outline_size, outlines_of, own_states, size_in, state_at, told_lines}
 use Rattle.ant_asm.proofs.FlatLemmas.{all_at, read_at}
-use Rattle.ant_asm.proofs.LabelTexts.{labels_text-append, state_lines_text-append}
+use Rattle.ant_asm.proofs.LabelTexts.{labels_text-append}
 use Rattle.ant_asm.proofs.LabelWalk.{AreTold, state-is, told-none}
 use Rattle.ant_asm.proofs.OutlineLemmas.{IsNamedAt, line_before-size, named-at, use_below-more}
 

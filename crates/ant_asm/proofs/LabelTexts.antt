@@ -1,12 +1,11 @@
 -- The texts of ways, of labels and of lines, in parts.
-use Rattle.std.proofs.Common.{◌≡◌, ℕ, ◌+◌, ◌<◌, List, [], ◌∷◌, ◌++◌, codes, drop, get_or, length, refl, sym, ap, ◌∙◌, append_assoc, append-nil}
+use Rattle.std.proofs.Common.{◌≡◌, ℕ, ◌+◌, ◌<◌, List, [], ◌∷◌, ◌++◌, codes, drop, get_or, length, refl, sym, ap, ◌∙◌, append_assoc}
 use Rattle.std.specs.Prelude.{decimal}
 use Rattle.std.proofs.lemmas.List.{drop_more}
 use Rattle.ant_base.specs.Layout.{◌+++◌}
 use Rattle.ant_asm.specs.declared.level.Level.{Level}
-use Rattle.ant_asm.specs.Labels.{LabelState, WayStep, label_text, labels_text, way_text}
+use Rattle.ant_asm.specs.Labels.{LabelState, label_text, labels_text, way_text}
 use Rattle.ant_asm.specs.StateLines.{StateLine, state_line_text, state_lines_text, uses_text}
-use Rattle.ant_asm.specs.Inner.Outlines.{further}
 use Rattle.ant_asm.specs.Inner.Ways.{steps_of}
 
 -- the text of one use

@@ -1,11 +1,10 @@
 -- What is told of a body, line by line.
-use Rattle.std.proofs.Common.{◌≡◌, ℕ, ◌+◌, Bool, true, false, List, [], ◌++◌, refl, sym, ap, ◌∙◌, subst, arith, append_assoc, append-nil}
+use Rattle.std.proofs.Common.{◌≡◌, ℕ, ◌+◌, Bool, true, false, List, [], ◌++◌, refl, sym, ap, ◌∙◌, subst, arith, append_assoc}
 use Rattle.std.specs.Prelude.{◌==◌, if◌then◌else◌}
 use Rattle.std.proofs.lemmas.Bool.{eq-eqb, eqb-true}
 use Rattle.ant_base.specs.Sink.{PushedAll, PushedFront, SinkState}
 use Rattle.ant_base.proofs.Pushes.{all_of_nothing, all_then, front_more, front_then}
 use Rattle.ant_asm.specs.Labels.{Outline}
-use Rattle.ant_asm.specs.Labels.Outline.{Closed}
 use Rattle.ant_asm.specs.Inner.Outlines.{outline_size, state_at}
 
 -- a text was told; that of the lines that are left, the first of whose instructions has this number, is the rest of it

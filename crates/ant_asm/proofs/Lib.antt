@@ -35,7 +35,9 @@ pub mod LabelStates
 pub mod LineStates
 pub mod LabelWalk
 pub mod LabelSteps
+pub mod Lefts
 pub mod Walks
+pub mod Works
 pub mod SourceRead
 pub mod LineInstructions
 -- Worked values.

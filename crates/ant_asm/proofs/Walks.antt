@@ -1,6 +1,6 @@
 -- A walk over the bodies of a program, step by step.
-use Rattle.std.proofs.Common.{◌≡◌, ℕ, zero, suc, ◌+◌, ◌<◌, ◌≤◌, List, [], ◌∷◌, ◌++◌, drop, length, Option, Some, refl, sym, ap, ap₂, ◌∙◌, subst, arith, append_assoc, append-nil}
-use Rattle.std.specs.Prelude.{◌==◌, if◌then◌else◌, slice_get, slice_index_or, Vec, map}
+use Rattle.std.proofs.Common.{◌≡◌, ℕ, suc, ◌+◌, ◌<◌, ◌≤◌, List, [], ◌∷◌, ◌++◌, drop, length, Option, Some, refl, sym, ap, ap₂, ◌∙◌, subst, arith, append_assoc, append-nil}
+use Rattle.std.specs.Prelude.{◌==◌, if◌then◌else◌, slice_get, slice_index_or, Vec}
 use Rattle.std.specs.List.{AllByRecursion}
 use Rattle.std.specs.declared.alloc.Global.{Global}
 use Rattle.std.proofs.lemmas.List.{drop_more, length_push}
@@ -11,19 +11,19 @@ use Rattle.ant_asm.specs.declared.level.Level.{Level}
 use Rattle.ant_asm.specs.declared.level.Spot.{Spot}
 use Rattle.ant_asm.specs.declared.named.NamedBody.{NamedBody}
 use Rattle.ant_asm.specs.declared.named.NamedLine.{NamedLine}
-use Rattle.ant_asm.specs.declared.walk.Met.{Met}
-use Rattle.ant_asm.specs.declared.walk.Met.TheVariants.{Nothing, Instruction, Body}
+use Rattle.ant_asm.specs.declared.walk.Met.TheVariants.{Nothing, Body}
 use Rattle.ant_asm.specs.declared.walk.Walk.{Walk}
 use Rattle.ant_asm.specs.Labels.{LabelState, Outline, WayStep}
 use Rattle.ant_asm.specs.StateLines.{StateLine}
 use Rattle.ant_asm.specs.Labels.Outline.{Closed}
 use Rattle.ant_asm.specs.Inner.Flat.{most}
 use Rattle.ant_asm.specs.Inner.Outlines.{AreGoodNamed, AreListed, IsUseBelow, all_states, counted_from, further, inner_states, line_before, line_size, lines_before, main_of, outline_at, outline_size, outlines_of, own_states, state_at, told_lines}
-use Rattle.ant_asm.specs.Inner.Walks.{AreLevelsIn, FitsMet, IsNext, IsSpotIn, IsStep, IsWalk, labels_from, labels_left, left_in, left_of, line_and, lines_at, lines_from, lines_left, met_labels, met_lines, rest_at, rest_in, steps_after, steps_in, steps_left}
+use Rattle.ant_asm.specs.Inner.Walks.{AreLevelsIn, IsNext, IsSpotIn, IsStep, IsWalk, labels_from, labels_left, left_in, left_of, line_and, lines_at, lines_from, lines_left, met_labels, rest_at, rest_in, steps_after, steps_in}
 use Rattle.ant_asm.specs.Inner.Ways.{step_of, steps_of}
 use Rattle.ant_asm.proofs.FlatLemmas.{all_at, read_at}
 use Rattle.ant_asm.proofs.LabelSteps.{inner-split, line-size, line_states, lines-split, the_named, used_states}
 use Rattle.ant_asm.proofs.LabelWalk.{state-is}
+use Rattle.ant_asm.proofs.Lefts.{left_by-last}
 use Rattle.ant_asm.proofs.OutlineLemmas.{IsNamedAt, line_before-size, named-at, use_below-more}
 
 -- the lines that aren't labels
@@ -195,11 +195,7 @@ module _ (bodies : List NamedBody) (spot : Spot) (body : NamedBody) (good : AreG
 -- the last of the bodies that were left
 pub left-last : {A : Type 0} (tell : Spot → List WayStep → List A) (front : List Level) (level : Level) (way : List WayStep) →
     left_in tell (front ++ level ∷ []) way ≡ tell level.spot (way ++ steps_of front) ++ left_in tell front way
-left-last tell [] level way = ap (tell level.spot) (sym (append-nil way)) ∙ sym (append-nil (tell level.spot (way ++ [])))
-left-last tell (outer ∷ front) level way =
-    ap (λ (l : _). l ++ tell outer.spot way) (left-last tell front level (way ++ step_of outer ∷ []))
-    ∙ append_assoc (tell level.spot ((way ++ step_of outer ∷ []) ++ steps_of front)) (left_in tell front (way ++ step_of outer ∷ [])) (tell outer.spot way)
-    ∙ ap (λ (w : List WayStep). tell level.spot w ++ (left_in tell front (way ++ step_of outer ∷ []) ++ tell outer.spot way)) (append_assoc way (step_of outer ∷ []) (steps_of front))
+left-last tell front level way = left_by-last step_of (λ level way. tell level.spot way) front level way
 
 pub steps-last : (bodies : List NamedBody) (front : List Level) (level : Level) → steps_after bodies (front ++ level ∷ []) ≡ steps_after bodies front + steps_in (rest_at bodies level.spot)
 steps-last bodies [] level = omega arith

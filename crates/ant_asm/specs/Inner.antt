@@ -8,4 +8,6 @@ pub mod View
 pub mod ProgramView
 pub mod Ways
 pub mod Outlines
+pub mod Left
 pub mod Walks
+pub mod Works

@@ -15,7 +15,7 @@ ghost use Rattle.ant_asm.specs.Inner.Flat.{tree_at};
 ghost use Rattle.ant_asm.specs.Inner.ProgramView.{AreBodiesOf, last_of};
 
 use crate::body::Body;
-use crate::expand::{Expansion, Frame, expand};
+use crate::expand::{Expansion, expand};
 use crate::fault::AsmFault;
 use crate::places::Places;
 use crate::program::read_bodies;
@@ -59,15 +59,8 @@ fn expand_main(alloc: Global, bodies: &[Body]) -> Result<Expansion, OutOfMemory>
     let mut out = Expansion {
         list: Vec::new(alloc),
         places: Vec::new(alloc),
-        path: Vec::new(alloc),
     };
-    let given: [u16; 0] = [];
-    let frame = Frame {
-        base: 0,
-        after: 0,
-        given: &given,
-    };
-    expand(alloc, bodies, bodies.len() - 1, frame, &mut out)?;
+    expand(alloc, bodies, bodies.len() - 1, &mut out)?;
     Ok(out)
 }
 

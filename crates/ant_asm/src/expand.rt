@@ -1,10 +1,12 @@
 // A program expanded.
-ghost use Rattle.std.specs.Prelude.{◌≡◌, ℕ, List, ◌+◌, ◌<◌, ◌≤◌, ◌++◌, length, OnOk, IfOk, map, [], ◌∷◌};
+ghost use Rattle.std.specs.Prelude.{◌≡◌, ℕ, List, ◌+◌, ◌<◌, ◌≤◌, ◌++◌, length, OnOk, IfOk, map, [], ◌∷◌, Some, slice_get};
+ghost use Rattle.ant_asm.specs.declared.body.Body.{Body};
 ghost use Rattle.ant_asm.specs.Program.{size_of};
 ghost use Rattle.ant_asm.specs.Places.{places_of};
 ghost use Rattle.ant_asm.specs.LabelGame.{instruction_by};
-ghost use Rattle.ant_asm.specs.Inner.Emission.{emitted, number_first};
-ghost use Rattle.ant_asm.specs.Inner.Flat.{AreGood, AreLabelsOf, HasGiven, IsActionOf, IsLabelOf, IsPlace, IsSpot, number_led, numbers_of, tree_at, most};
+ghost use Rattle.ant_asm.specs.Inner.Emission.{emitted, main_numbers, number_first};
+ghost use Rattle.ant_asm.specs.Inner.Works.{IsGone, IsWork, numbers_in};
+ghost use Rattle.ant_asm.specs.Inner.Flat.{AreGood, AreLabelsOf, IsActionOf, IsLabelOf, IsPlace, IsSpot, number_led, numbers_of, tree_at, most};
 
 use crate::action::{Action, Label};
 use crate::body::{Body, Item};
@@ -12,13 +14,13 @@ use crate::places::Address;
 use brain_read::Instr;
 use hex_geometry::OutOfMemory;
 use std::alloc::Global;
+use std::mem;
 
-/// What was expanded so far: the instructions, their addresses, and the path of the body that is put in place.
+/// What was expanded so far: the instructions, and their addresses.
 #[derive(Drop)]
 pub struct Expansion {
     pub list: Vec<Instr>,
     pub places: Vec<Address>,
-    pub path: Vec<u32>,
 }
 
 /// Where a body is put in place: the number of its first instruction, of what follows it, and of what is handed for its
@@ -28,6 +30,26 @@ pub struct Frame<'f> {
     pub base: u16,
     pub after: u16,
     pub given: &'f [u16],
+}
+
+/// A body that is put in place, by its number and its frame, and the place of the item that comes next, or of the use
+/// at which another body is put in place.
+#[derive(Drop)]
+pub struct Put {
+    pub number: usize,
+    pub place: usize,
+    pub base: u16,
+    pub after: u16,
+    pub given: Vec<u16>,
+}
+
+/// What is being expanded: the body that is put in place, those round it, from main on, and the places of the uses on
+/// the way.
+#[derive(Drop)]
+pub struct Work {
+    pub path: Vec<u32>,
+    pub outer: Vec<Put>,
+    pub top: Put,
 }
 
 // An item of a body that is put in place: the body's number, its frame, and the item's place in it.
@@ -99,57 +121,119 @@ fn leave(path: &mut Vec<u32>)
     path.pop();
 }
 
-// The instructions of the body of this number, put in place in this frame, and their addresses.
+// The instructions of the body of this number, which has no parameters, and their addresses.
 pub(crate) fn expand(
     alloc: Global,
     bodies: &[Body],
     number: usize,
-    frame: Frame,
     out: &mut Expansion,
 ) -> Result<(), OutOfMemory>
     requires good { AreGood bodies.now }
     requires known { number < length bodies.now }
-    requires given { HasGiven bodies.now number frame }
-    requires fits { frame.base + size_of (tree_at bodies.now number) ≤ most }
+    requires given { (body : Body) → slice_get bodies.now number ≡ Some body → 0 ≡ body.parameters }
+    requires fits { size_of (tree_at bodies.now number) ≤ most }
     ensures list { OnOk result (out.new.list.items ≡ out.old.list.items
-        ++ emitted (tree_at bodies.now number) (tree_at bodies.now number) (numbers_of frame.entry) 0) }
+        ++ emitted (tree_at bodies.now number) (tree_at bodies.now number) main_numbers 0) }
     ensures places { OnOk result (out.new.places.items ≡ out.old.places.items
-        ++ places_of (tree_at bodies.now number) out.old.path.items 0) }
-    ensures path { OnOk result (out.new.path.items ≡ out.old.path.items) }
+        ++ places_of (tree_at bodies.now number) [] 0) }
 {
-    let body = &bodies[number];
-    let items = body.items.as_slice();
-    for place in 0..items.len() {
-        let spot = Spot {
-            bodies,
+    let mut work = Work {
+        path: Vec::new(alloc),
+        outer: Vec::new(alloc),
+        top: Put {
             number,
-            frame,
-            place,
+            place: 0,
+            base: 0,
+            after: 0,
+            given: Vec::new(alloc),
+        },
+    };
+    'steps: loop {
+        if !work.step(alloc, bodies, out)? {
+            return Ok(());
+        }
+    }
+}
+
+impl Put {
+    // Its item that comes next.
+    fn spot<'s>(&'s self, bodies: &'s [Body]) -> Spot<'s>
+        ensures bodies { result.bodies.now ≡ bodies.now }
+        ensures number { result.number ≡ self.now.number }
+        ensures place { result.place ≡ self.now.place }
+        ensures numbers { numbers_of result.frame ≡ numbers_in self.now }
+    {
+        let given = self.given.as_slice();
+        let frame = Frame {
+            base: self.base,
+            after: self.after,
+            given,
         };
+        Spot {
+            bodies,
+            number: self.number,
+            frame,
+            place: self.place,
+        }
+    }
+}
+
+impl Work {
+    // An item more, or the end of a body; false at the end of all.
+    fn step(
+        &mut self,
+        alloc: Global,
+        bodies: &[Body],
+        out: &mut Expansion,
+    ) -> Result<bool, OutOfMemory>
+        requires good { AreGood bodies.now }
+        requires work { IsWork bodies.now self.old }
+        ensures { IfOk result (IsGone bodies.now self.old self.new out.old out.new) }
+    {
+        let number = self.top.number;
+        let place = self.top.place;
+        let body = &bodies[number];
+        let items = body.items.as_slice();
+        if place >= items.len() {
+            let Some(put) = self.outer.pop() else {
+                return Ok(false);
+            };
+            leave(&mut self.path);
+            self.top = put;
+            self.top.place += 1;
+            return Ok(true);
+        }
+        let spot = self.top.spot(bodies);
         match &items[place] {
             Item::Do(action) => {
-                emit(alloc, spot, *action, out)?;
+                let path = self.path.as_slice();
+                emit(alloc, spot, path, *action, out)?;
+                self.top.place = place + 1;
+                Ok(true)
             }
             Item::Use { block, handed } => {
-                out.path.push(place as u32)?;
                 let given = handed_numbers(alloc, spot, handed.as_slice())?;
-                let inner = Frame {
-                    base: frame.base + body.starts[place],
-                    after: number_first(bodies, number, frame, place + 1),
-                    given: given.as_slice(),
+                let top = Put {
+                    number: *block,
+                    place: 0,
+                    base: spot.frame.base + body.starts[place],
+                    after: number_first(bodies, number, spot.frame, place + 1),
+                    given,
                 };
-                expand(alloc, bodies, *block, inner, out)?;
-                leave(&mut out.path);
+                self.path.push(place as u32)?;
+                let outer = mem::replace(&mut self.top, top);
+                self.outer.push(outer)?;
+                Ok(true)
             }
         }
     }
-    Ok(())
 }
 
 // One instruction of a body.
 fn emit(
     alloc: Global,
     spot: Spot,
+    path: &[u32],
     action: Action<Label>,
     out: &mut Expansion,
 ) -> Result<(), OutOfMemory>
@@ -157,12 +241,11 @@ fn emit(
     requires action { IsActionOf spot.bodies.now spot.number action }
     ensures list { OnOk result (out.new.list.items ≡ out.old.list.items
         ++ instruction_by (number_led spot.entry) action ∷ []) }
-    ensures places { OnOk result (out.new.places.items ≡ out.old.places.items ++ (out.old.path.items ++ spot.entry.place ∷ []) ∷ []) }
-    ensures path { OnOk result (out.new.path.items ≡ out.old.path.items) }
+    ensures places { OnOk result (out.new.places.items ≡ out.old.places.items ++ (path.now ++ spot.entry.place ∷ []) ∷ []) }
 {
     let instruction = numbered_at(spot, action);
     out.list.push(instruction)?;
-    let address = with_place(alloc, out.path.as_slice(), spot.place)?;
+    let address = with_place(alloc, path, spot.place)?;
     out.places.push(address)?;
     Ok(())
 }

@@ -12,6 +12,7 @@ use Rattle.ant_asm.specs.Labels.Outline.{Closed, Labelled, Instructed, Used}
 use Rattle.ant_asm.specs.Standing.{most_blocks}
 use Rattle.ant_asm.specs.StateLines.{StateLine}
 use Rattle.ant_asm.specs.Inner.Flat.{most}
+use Rattle.ant_asm.specs.Inner.Left.{left_by}
 use Rattle.ant_asm.specs.Inner.Outlines.{AreGoodNamed, IsUseBelow, inner_states, line_before, lines_before, outline_at, outline_size, outlines_of, own_states, told_lines}
 use Rattle.ant_asm.specs.Inner.Ways.{step_of, steps_of}
 
@@ -39,10 +40,9 @@ lines_from bodies spot way = told_lines (rest_at bodies spot) spot.at way
 abbrev pub labels_from : List NamedBody → Spot → List WayStep → List LabelState
 labels_from bodies spot way = inner_states (rest_at bodies spot) spot.at spot.after way
 
--- the same of the bodies that were left at uses: of the last first
+-- the same of the bodies that were left at uses
 abbrev pub left_in : {A : Type 0} → (Spot → List WayStep → List A) → List Level → List WayStep → List A
-left_in tell [] way = []
-left_in tell (level ∷ levels) way = left_in tell levels (way ++ step_of level ∷ []) ++ tell level.spot way
+left_in tell levels way = left_by step_of (λ level way. tell level.spot way) levels way
 
 -- and of all
 abbrev pub left_of : {A : Type 0} → (Spot → List WayStep → List A) → Walk → List A

@@ -1,4 +1,4 @@
-use Rattle.std.proofs.Common.{◌≡◌, ◌∙◌, ◌++◌, [], List, ap, subst, sym}
+use Rattle.std.proofs.Common.{◌∙◌, ◌++◌, [], List, ap, subst, sym}
 use Rattle.std.proofs.lemmas.Result.{err_from_is_err_and}
 use Rattle.ant_asm.specs.declared.level.Level.{Level}
 use Rattle.ant_asm.specs.StateLines.{StateLine, state_lines_text}

@@ -1,6 +1,5 @@
-use Rattle.std.proofs.Common.{◌≡◌, ◌∷◌, ◌++◌, [], List, ap, ◌∙◌}
+use Rattle.std.proofs.Common.{◌++◌, ap, ◌∙◌}
 use Rattle.std.specs.Option.{option_to_list}
-use Rattle.ant_asm.specs.declared.level.Level.{Level}
 use Rattle.ant_asm.proofs.Walks.{leave-good, leave-step}
 use Rattle.ant_asm.proofs.walk.Walk.leave.Goals as goal
 
