@@ -177,11 +177,6 @@ from_place-tree trees (Item.Use block handed ∷ items) zero item at = let same 
 from_place-tree trees (Item.Do action ∷ items) (suc k) item at = from_place-tree trees items k item at
 from_place-tree trees (Item.Use block handed ∷ items) (suc k) item at = from_place-tree trees items k item at
 
-from_place-end : (trees : List Items) (items : List Item) → from_place (length items) (tree_of trees items) ≡ End
-from_place-end trees [] = refl
-from_place-end trees (Item.Do action ∷ items) = from_place-end trees items
-from_place-end trees (Item.Use block handed ∷ items) = from_place-end trees items
-
 pub all_at : {A : Type 0} (P : A → Type 0) (list : List A) (i : ℕ) (x : A) → AllByRecursion P list → slice_get list i ≡ Some x → P x
 all_at P [] i x all at = absurd (cc)
 all_at P (y ∷ list) zero x all at = let same : y ≡ x = cc in subst P same all.0
