@@ -1,5 +1,5 @@
 -- Bodies and their items.
-use Rattle.std.proofs.Common.{◌≡◌, ℕ, zero, suc, ◌+◌, ◌<◌, ◌≤◌, List, [], ◌∷◌, ◌++◌, length, Some, refl, sym, ap, ap₂, ◌∙◌, subst, append_assoc, append-nil, arith}
+use Rattle.std.proofs.Common.{◌≡◌, ℕ, zero, suc, ◌+◌, ◌<◌, ◌≤◌, List, [], ◌∷◌, ◌++◌, length, Some, refl, sym, ap, ap₂, ◌∙◌, subst, arith}
 use Rattle.std.proofs.lemmas.List.{length_push}
 use Rattle.std.specs.Prelude.{slice_get, slice_index_or, ◌==◌, Vec}
 use Rattle.std.specs.List.{AllByRecursion}
@@ -12,12 +12,8 @@ use Rattle.ant_asm.specs.declared.expand.Frame.{Frame}
 use Rattle.ant_asm.specs.declared.action.Label.TheVariants.{Parameter}
 use Rattle.ant_asm.specs.Program.{Items, from_place, size_of}
 use Rattle.ant_asm.specs.Program.Items.{End, Do, Use}
-use Rattle.brain_read.specs.declared.instr.Instr.{Instr}
-use Rattle.ant_asm.specs.declared.action.Action.{Action}
 use Rattle.ant_asm.specs.declared.action.Label.{Label}
-use Rattle.ant_asm.specs.Places.{places_of}
-use Rattle.ant_asm.specs.LabelGame.{instruction_by}
-use Rattle.ant_asm.specs.Inner.Emission.{Numbers, emitted, inner_numbers, number_first, number_target, offset}
+use Rattle.ant_asm.specs.Inner.Emission.{Numbers, number_first, offset}
 use Rattle.ant_asm.specs.Inner.Flat.{AreGood, HasGiven, IsGood, IsGoodItem, IsLabelOf, IsPlace, most, tree_at, tree_of, trees_from, trees_of}
 
 -- what stands before a place, and what stands from it on, is all

@@ -1,5 +1,5 @@
 -- A program that is being expanded, step by step.
-use Rattle.std.proofs.Common.{◌≡◌, ℕ, zero, suc, ◌+◌, ◌<◌, ◌≤◌, Bool, true, false, List, [], ◌∷◌, ◌++◌, length, map, Some, refl, sym, ap, ap₂, ◌∙◌, subst, arith, append_assoc, append-nil}
+use Rattle.std.proofs.Common.{◌≡◌, ℕ, zero, suc, ◌+◌, ◌<◌, ◌≤◌, true, false, List, [], ◌∷◌, ◌++◌, length, map, Some, refl, sym, ap, ap₂, ◌∙◌, subst, arith, append_assoc, append-nil}
 use Rattle.std.specs.Prelude.{slice_get, slice_index_or, Vec}
 use Rattle.std.specs.List.{AllByRecursion}
 use Rattle.std.specs.declared.alloc.Global.{Global}
@@ -21,7 +21,7 @@ use Rattle.ant_asm.specs.Places.{Address, places_of}
 use Rattle.ant_asm.specs.Inner.Emission.{Numbers, emitted, inner_numbers, main_numbers, number_first, number_target}
 use Rattle.ant_asm.specs.Inner.Flat.{AreGood, AreLabelsOf, IsActionOf, IsGoodAction, IsGoodItem, IsGoodLabel, IsSpot, most, number_led, numbers_of, tree_at, tree_of, trees_of}
 use Rattle.ant_asm.specs.Inner.Left.{left_by}
-use Rattle.ant_asm.specs.Inner.Works.{IsGone, IsPutAt, IsPutIn, IsWork, left_of_work, list_from, list_left, nodes_after, nodes_in, nodes_left, numbers_in, place_in, places_from, places_left}
+use Rattle.ant_asm.specs.Inner.Works.{IsGone, IsPutAt, IsPutIn, IsWork, left_of_work, list_from, list_left, nodes_after, nodes_in, numbers_in, place_in, places_from, places_left}
 use Rattle.ant_asm.proofs.FlatLemmas.{AtItem, item_good, item_short, item_start, item_tree, of_body, same_numbers, tree_is, use_fits, use_good, with_item}
 use Rattle.ant_asm.proofs.Lefts.{left_by-last}
 
