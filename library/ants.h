@@ -178,7 +178,7 @@
 extern "C" {
 #endif
 
-// The version of this source, which is the program's: three numbers, and `-dev` behind them where it is of no release (this project's own).
+// The version of this source and of the program: three numbers, followed by `-dev` between releases (this project's own).
 #define ANTS_VERSION "1.2.0-dev"
 
 // What a call answers.
@@ -294,39 +294,43 @@ struct ants_score_data {
 uint32_t ants_version(
     uint8_t *out, size_t out_len, size_t *used);
 
-// Plays a game by the contest's rules, turn after turn, and gives its score (the task's game play). The status is
-// - 0: the texts are those of a world and of two brains, and the score is that of their game after so many rounds with
-//   this seed;
+// Plays a game by the contest's rules, turn after turn, and returns its score (the task's game
+// play). The status is
+// - 0: done; the score is that of the game of this world and these brains, after this number of
+//   rounds with this seed;
 // - 2: there are more than 1,000,000 rounds;
-// - 5: a text is refused, the first one that is; the fault says which and why, and its words are laid over `words`, as
-//   far as they go;
-// - 6: memory could not be had.
+// - 5: a text is refused; the fault says which one, the first that is refused, and why, and its
+//   words are written to `words`, as many bytes as have room;
+// - 6: out of memory.
 //
-// The score is written at 0 alone, the fault and the words at 5 alone.
+// The score is written at 0 only, the fault and the words at 5 only.
 uint32_t ants_score(
     const uint8_t *world, size_t world_len, const uint8_t *red, size_t red_len, const uint8_t *black, size_t black_len,
     uint32_t seed, uint32_t rounds, struct ants_score_data *score, struct ants_fault_data *fault, uint8_t *words,
     size_t words_len);
 
-// Plays a game as `ants_score` does for each of these seeds, and reads the texts once (the task's game play). The
-// status is that of `ants_score`, or
+// Plays a game as `ants_score` does for each of these seeds, and reads the texts once (the task's
+// game play). The status is that of `ants_score`, or
 // - 4: there is room for fewer scores than there are seeds.
 //
-// The scores are written at 0 alone, in the order of the seeds, and those behind them stay; the fault and the words at
-// 5 alone. It takes memory for as many scores, and for a copy of the world.
+// The scores are written at 0 only, in the order of the seeds; elements of `scores` beyond them are
+// unchanged. The fault and the words are written at 5 only. It takes memory for the scores and for
+// a copy of the world.
 uint32_t ants_scores(
     const uint8_t *world, size_t world_len, const uint8_t *red, size_t red_len, const uint8_t *black, size_t black_len,
     const uint32_t *seeds, size_t seeds_len, uint32_t rounds, struct ants_score_data *scores, size_t scores_len,
     struct ants_fault_data *fault, uint8_t *words, size_t words_len);
 
-// Plays a game as `ants_score` does, and looks at it after each of these rounds: its score, and the ants of all ids
-// that were made, in order, those of one round behind those of the round before (the task's game play and biology).
-// The status is that of `ants_score`, or
-// - 2: a round is not above the one before it, or above 1,000,000;
-// - 4: there is room for fewer scores than there are rounds, or for fewer ants than the rounds have together.
+// Plays a game as `ants_score` does, and looks at it after each of these rounds (the task's game
+// play and biology). A look is the score, and an ant for each id of the game, in order. The ants of
+// a later round follow those of the round before it. The status is that of `ants_score`, or
+// - 2: a round isn't above the one before it, or is above 1,000,000;
+// - 4: there is room for fewer scores than there are rounds, or for fewer ants than all rounds have
+//   together.
 //
-// `ids` is how many ants a round has, at 0 and at 4. The scores and the ants are written at 0 alone, and those behind
-// them stay; the fault and the words at 5 alone.
+// `ids` is the number of ants of one round; it is written at 0 and at 4. The scores and the ants
+// are written at 0 only; elements beyond them are unchanged. The fault and the words are written at
+// 5 only.
 uint32_t ants_look(
     const uint8_t *world, size_t world_len, const uint8_t *red, size_t red_len, const uint8_t *black, size_t black_len,
     uint32_t seed, const uint32_t *rounds, size_t rounds_len, struct ants_score_data *scores, size_t scores_len,

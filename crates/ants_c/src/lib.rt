@@ -71,15 +71,16 @@ pub extern "C" fn ants_version(out: &mut [u8], used: &mut usize) -> u32
     put(&VersionText, out, used)
 }
 
-/// Plays a game by the contest's rules, turn after turn, and gives its score (the task's game play). The status is
-/// - 0: the texts are those of a world and of two brains, and the score is that of their game after so many rounds with
-///   this seed;
+/// Plays a game by the contest's rules, turn after turn, and returns its score (the task's game
+/// play). The status is
+/// - 0: done; the score is that of the game of this world and these brains, after this number of
+///   rounds with this seed;
 /// - 2: there are more than 1,000,000 rounds;
-/// - 5: a text is refused, the first one that is; the fault says which and why, and its words are laid over `words`, as
-///   far as they go;
-/// - 6: memory could not be had.
+/// - 5: a text is refused; the fault says which one, the first that is refused, and why, and its
+///   words are written to `words`, as many bytes as have room;
+/// - 6: out of memory.
 ///
-/// The score is written at 0 alone, the fault and the words at 5 alone.
+/// The score is written at 0 only, the fault and the words at 5 only.
 #[unsafe(no_mangle)]
 #[tactic(auto, using(crate::proofs::Stops::stopped_tells))]
 pub extern "C" fn ants_score(
@@ -119,12 +120,13 @@ pub extern "C" fn ants_score(
     }
 }
 
-/// Plays a game as `ants_score` does for each of these seeds, and reads the texts once (the task's game play). The
-/// status is that of `ants_score`, or
+/// Plays a game as `ants_score` does for each of these seeds, and reads the texts once (the task's
+/// game play). The status is that of `ants_score`, or
 /// - 4: there is room for fewer scores than there are seeds.
 ///
-/// The scores are written at 0 alone, in the order of the seeds, and those behind them stay; the fault and the words at
-/// 5 alone. It takes memory for as many scores, and for a copy of the world.
+/// The scores are written at 0 only, in the order of the seeds; elements of `scores` beyond them are
+/// unchanged. The fault and the words are written at 5 only. It takes memory for the scores and for
+/// a copy of the world.
 #[unsafe(no_mangle)]
 #[tactic(auto, using(crate::proofs::Stops::stopped_tells))]
 pub extern "C" fn ants_scores(
@@ -166,14 +168,16 @@ pub extern "C" fn ants_scores(
     }
 }
 
-/// Plays a game as `ants_score` does, and looks at it after each of these rounds: its score, and the ants of all ids
-/// that were made, in order, those of one round behind those of the round before (the task's game play and biology).
-/// The status is that of `ants_score`, or
-/// - 2: a round is not above the one before it, or above 1,000,000;
-/// - 4: there is room for fewer scores than there are rounds, or for fewer ants than the rounds have together.
+/// Plays a game as `ants_score` does, and looks at it after each of these rounds (the task's game
+/// play and biology). A look is the score, and an ant for each id of the game, in order. The ants of
+/// a later round follow those of the round before it. The status is that of `ants_score`, or
+/// - 2: a round isn't above the one before it, or is above 1,000,000;
+/// - 4: there is room for fewer scores than there are rounds, or for fewer ants than all rounds have
+///   together.
 ///
-/// `ids` is how many ants a round has, at 0 and at 4. The scores and the ants are written at 0 alone, and those behind
-/// them stay; the fault and the words at 5 alone.
+/// `ids` is the number of ants of one round; it is written at 0 and at 4. The scores and the ants
+/// are written at 0 only; elements beyond them are unchanged. The fault and the words are written at
+/// 5 only.
 #[unsafe(no_mangle)]
 #[tactic(auto, using(crate::proofs::Stops::stopped_tells))]
 pub extern "C" fn ants_look(

@@ -3,8 +3,8 @@ ghost use Rattle.ants_c.specs.Version.{version};
 
 use ant_base::{Failed, Layout, Sink};
 
-/// The version of this source, which is the program's: three numbers, and `-dev` behind them where it is of no release
-/// (this project's own).
+/// The version of this source and of the program: three numbers, followed by `-dev` between
+/// releases (this project's own).
 pub const VERSION: &str = "1.2.0-dev";
 
 /// The text of the version.

@@ -3,7 +3,7 @@
 //! Each function hands on what a slice and a reference are, which is all that the library asks of a pointer. So it is safe.
 #![allow(clippy::too_many_arguments)]
 
-/// The version of this source, which is the program's: three numbers, and `-dev` behind them where it is of no release (this project's own).
+/// The version of this source and of the program: three numbers, followed by `-dev` between releases (this project's own).
 pub const VERSION: &str = "1.2.0-dev";
 
 /// Done.
@@ -171,15 +171,16 @@ pub fn ants_version(out: &mut [u8], used: &mut usize) -> u32 {
     unsafe { c::ants_version(out.as_mut_ptr(), out.len(), used) }
 }
 
-/// Plays a game by the contest's rules, turn after turn, and gives its score (the task's game play). The status is
-/// - 0: the texts are those of a world and of two brains, and the score is that of their game after so many rounds with
-///   this seed;
+/// Plays a game by the contest's rules, turn after turn, and returns its score (the task's game
+/// play). The status is
+/// - 0: done; the score is that of the game of this world and these brains, after this number of
+///   rounds with this seed;
 /// - 2: there are more than 1,000,000 rounds;
-/// - 5: a text is refused, the first one that is; the fault says which and why, and its words are laid over `words`, as
-///   far as they go;
-/// - 6: memory could not be had.
+/// - 5: a text is refused; the fault says which one, the first that is refused, and why, and its
+///   words are written to `words`, as many bytes as have room;
+/// - 6: out of memory.
 ///
-/// The score is written at 0 alone, the fault and the words at 5 alone.
+/// The score is written at 0 only, the fault and the words at 5 only.
 pub fn ants_score(world: &[u8], red: &[u8], black: &[u8], seed: u32, rounds: u32, score: &mut Score, fault: &mut Fault, words: &mut [u8]) -> u32 {
     unsafe {
         c::ants_score(
@@ -199,12 +200,13 @@ pub fn ants_score(world: &[u8], red: &[u8], black: &[u8], seed: u32, rounds: u32
     }
 }
 
-/// Plays a game as `ants_score` does for each of these seeds, and reads the texts once (the task's game play). The
-/// status is that of `ants_score`, or
+/// Plays a game as `ants_score` does for each of these seeds, and reads the texts once (the task's
+/// game play). The status is that of `ants_score`, or
 /// - 4: there is room for fewer scores than there are seeds.
 ///
-/// The scores are written at 0 alone, in the order of the seeds, and those behind them stay; the fault and the words at
-/// 5 alone. It takes memory for as many scores, and for a copy of the world.
+/// The scores are written at 0 only, in the order of the seeds; elements of `scores` beyond them are
+/// unchanged. The fault and the words are written at 5 only. It takes memory for the scores and for
+/// a copy of the world.
 pub fn ants_scores(
     world: &[u8],
     red: &[u8],
@@ -235,14 +237,16 @@ pub fn ants_scores(
     }
 }
 
-/// Plays a game as `ants_score` does, and looks at it after each of these rounds: its score, and the ants of all ids
-/// that were made, in order, those of one round behind those of the round before (the task's game play and biology).
-/// The status is that of `ants_score`, or
-/// - 2: a round is not above the one before it, or above 1,000,000;
-/// - 4: there is room for fewer scores than there are rounds, or for fewer ants than the rounds have together.
+/// Plays a game as `ants_score` does, and looks at it after each of these rounds (the task's game
+/// play and biology). A look is the score, and an ant for each id of the game, in order. The ants of
+/// a later round follow those of the round before it. The status is that of `ants_score`, or
+/// - 2: a round isn't above the one before it, or is above 1,000,000;
+/// - 4: there is room for fewer scores than there are rounds, or for fewer ants than all rounds have
+///   together.
 ///
-/// `ids` is how many ants a round has, at 0 and at 4. The scores and the ants are written at 0 alone, and those behind
-/// them stay; the fault and the words at 5 alone.
+/// `ids` is the number of ants of one round; it is written at 0 and at 4. The scores and the ants
+/// are written at 0 only; elements beyond them are unchanged. The fault and the words are written at
+/// 5 only.
 pub fn ants_look(
     world: &[u8],
     red: &[u8],
