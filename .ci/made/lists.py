@@ -11,11 +11,11 @@ COSTS = "docs/gate_costs.txt"
 def crates_page():
     """Each crate with the first sentence of its root file and with the crates of this repository on which it stands, by layers."""
     every = crates()
-    names, out = [it.name for it in every], ["# Crates", "", "Each with what it is and what it stands on, by layers. Made by `.ci/make-documents` from `crates.txt` and the crates' root files."]
+    names, out = [it.name for it in every], ["# Crates", "", "Each crate with what it is and which crates of this repository it depends on, by layers. Made by\n`.ci/make-documents` from `crates.txt` and the crates' root files."]
     for layer in dict.fromkeys(it.layer for it in every):
         these = [it for it in every if it.layer == layer]
         found = [["[`%s`](../crates/%s/README.md)" % (it.name, it.name), it.summary.rstrip("."), " ".join("`%s`" % below for below in it.stands_on if below in names)] for it in these]
-        out += ["", "## %s" % layer, "", table(("crate", "what it is", "stands on"), found).rstrip()]
+        out += ["", "## %s" % layer, "", table(("crate", "what it is", "depends on"), found).rstrip()]
     return "\n".join(out) + "\n"
 
 
