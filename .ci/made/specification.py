@@ -8,7 +8,7 @@ import re
 from definitions import Call, CodeType, Definition
 from run_page import CRATE, LINES, PROSE, lines_of, minutes_of
 from tree import Unknown, table
-from words import number
+from words import Words, number
 
 CALLS, LAW = ("run_ants", "run_to_exit"), "headline"
 JOBS = "job_by"  # the job of a command, an equation a command
@@ -59,11 +59,13 @@ class Specification:
             self.add(title, says, [self.find(name) for name in names])
         jobs = self.find(JOBS)
         found = [(re.match(r"%s (\w+) \w+ = (\w+)_job\b" % JOBS, text), text) for _, text in jobs.equations()]
-        self.commands = {}
+        self.commands, seen, words = {}, set(), Words().kinds
         for it, text in found:
-            if it and it[2] not in self.commands:
-                self.commands[it[2]] = it[1]
-                self.add("The command %s" % it[2], "What `%s` reads and writes, as far as no chapter above has it." % it[2], tree.named(jobs, text), (JOBS,) + FILES)
+            if it and it[2] not in seen:
+                seen.add(it[2])
+                word = words[it[1]]
+                self.commands[word] = it[1]
+                self.add("The command %s" % word, "What `%s` reads and writes, except what the chapters above have." % word, tree.named(jobs, text), (JOBS,) + FILES)
         for title, names, says in LAST:
             self.add(title, says, [self.find(name) for name in names])
         self.add(ENDINGS[0], ENDINGS[1], self.roots)
@@ -152,7 +154,7 @@ def pages(spec):
             rows = [["[%s](../%s)" % (re.sub("^crates/", "", file), file), says_of(these), number(lines_of(these))] for file, these in reversed(files.items())]
             out.append(table(["file", "what it defines", "lines"], rows))
     rows = [["`%s`" % word, number(lines_of(spec.needed(it)))] for word, it in spec.commands.items()]
-    out += ["## Lines by command", "", "All that a command's promise reaches, of definitions by cases on commands and files only the cases that it meets.", "", table(["command", "lines"], rows), "## The clauses", ""]
+    out += ["## Lines by command", "", "All that the promise of a command reaches. Of a definition by cases on commands and files, only the\ncases that this command meets are counted.", "", table(["command", "lines"], rows), "## The clauses", ""]
     out += ["```text\n%s: %s\n```\n" % (call.name, call.clauses.strip()) for call in spec.calls]
     yield "docs/SPECIFICATION.md", "\n".join(out).rstrip() + "\n"
 
