@@ -11,11 +11,11 @@ COSTS = "docs/gate_costs.txt"
 def crates_page():
     """Each crate with the first sentence of its root file and with the crates of this repository on which it stands, by layers."""
     every = crates()
-    names, out = [it.name for it in every], ["# Crates", "", "Each with what it is and what it stands on, by layers. Made by `.ci/make-documents` from `crates.txt` and the crates' root files."]
+    names, out = [it.name for it in every], ["# Crates", "", "Each crate with what it is and which crates of this repository it depends on, by layers. Made by\n`.ci/make-documents` from `crates.txt` and the crates' root files."]
     for layer in dict.fromkeys(it.layer for it in every):
         these = [it for it in every if it.layer == layer]
         found = [["[`%s`](../crates/%s/README.md)" % (it.name, it.name), it.summary.rstrip("."), " ".join("`%s`" % below for below in it.stands_on if below in names)] for it in these]
-        out += ["", "## %s" % layer, "", table(("crate", "what it is", "stands on"), found).rstrip()]
+        out += ["", "## %s" % layer, "", table(("crate", "what it is", "depends on"), found).rstrip()]
     return "\n".join(out) + "\n"
 
 
@@ -45,18 +45,23 @@ def cost_table():
     for name in set(measured) - set(names):
         raise Unknown("%s: there is no crate %s" % (COSTS, name))
     figures = [["`%s`" % name] + [it.strip("-") for it in measured.get(name, ["not measured", "-", "-"])] + [str(len(wrong_bodies(name, it)) or "") for it in ("must-fail", "planted")] for name in names]
-    return table(("crate", "proved", "with its tests", "its planted bugs", "how many", "beside the gate"), figures)
+    heads = "crate", "proof, seconds", "proof with tests, seconds", "planted bugs, seconds", "planted bugs in the gate", "planted bugs outside of it"
+    return table(heads, figures)
 
 
 def mutants_text():
     """What `.ci/mutants` tries, and where it last refused all."""
     of_gate, others = (sum(len(wrong_bodies(it.name, folder)) for it in crates()) for folder in ("must-fail", "planted"))
     run = mutants_run.last()
-    told = "No complete run is recorded." if run is None else (
-        "The last complete run in which all were refused was of commit `%s`, on %s: %s planted bugs and %s changed definitions, in %s minutes." % (run.commit, run.date, run.bugs, run.changes, run.minutes))
+    told = "`docs/mutants.txt` records no complete run of `.ci/mutants` yet." if run is None else (
+        "In the last complete run all were refused. It was of commit `%s`, on %s, with %s planted bugs\nand %s changed definitions, and took %s minutes."
+        % (run.commit, run.date, run.bugs, run.changes, run.minutes))
     return (
-        "A *planted bug* is a body with one bug, which the check must refuse. The gate tries the %d of `must-fail/`; `.ci/mutants` tries these and the %d of `planted/`. A *changed definition*\n"
-        "is a wrong rule, which would be proved if the code were wrong in the same way. `.ci/mutants` tries the %d of `docs/changed_definitions.txt`: a worked value has to refuse each.\n%s\n"
+        "A *planted bug* is a body with one bug, which the check must refuse. The gate tries the %d in the\n"
+        "folders `must-fail/` of the crates. `.ci/mutants` tries these and the %d in `planted/`.\n\n"
+        "A *changed definition* is a wrong rule. If the code had the same mistake, its proof would succeed.\n"
+        "So each has to be refused by a worked value, which is a computed lemma. `.ci/mutants` tries the %d\n"
+        "of [changed_definitions.txt](changed_definitions.txt).\n\n%s\n"
         % (of_gate, others, len(changed_definitions.changes()), told))
 
 
@@ -68,17 +73,36 @@ def planted_table():
         if len(cells) != 7 or cells[0] not in names:
             raise Unknown("docs/planted.txt:%d: not a crate with six cells" % number)
         found.append(["`%s`" % cells[0]] + cells[1:])
-    return table(("crate", "functions", "refused", "not run", "by hand", "refused", "what passed the proofs, and what catches it"), found)
+    heads = "crate", "functions", "bodies refused", "bodies not tried", "bugs by hand", "refused", "what passed the proofs, and what catches it"
+    return table(heads, found)
+
+
+COSTS_SAY = """Processor seconds of `rt ci` for each crate. [gate_costs.txt](gate_costs.txt) says how they were
+measured. `.ci/gate-costs [CRATE..]` measures them again, and prints lines for that file.
+
+A crate with tests is proved twice. A crate with planted bugs is proved once more for them. One
+planted bug costs this proof; two or more share it, and each costs 10 to 40 seconds in addition.
+
+If the checker searches for the answer of a goal for seconds, write the answer down. Split a function
+that owns many values, since its cost grows faster than their number. A test that passes a table to a
+helper costs 1 to 5 seconds, and a test with assertions of its own 10 to 30. An example in `examples/`
+costs nothing here. A table of structs is a `static`. Texts cost by their number times their length.
+"""
+
+TRIED_SAYS = """`rt plant` makes bodies with bugs by itself, and tries them against the clauses of a function. The
+table says in how many functions it did so, how many bodies were refused, and how many were not tried
+because time ran out. Bugs *by hand* were put into the real code, one at a time.
+
+A body that returns out of memory instead of doing its work passes every clause, since out of memory
+may be returned at any time. So tests call each such function once with memory.
+"""
 
 
 def gate_page():
     return (
-        "# The gate\n\nMade by `.ci/make-documents` from `docs/gate_costs.txt`, `docs/planted.txt`, `docs/mutants.txt` and the planted bugs on disk.\n\n## What it costs\n\nProcessor seconds of `rt ci`; `docs/gate_costs.txt` says how they were measured.\n"
-        "`.ci/gate-costs [CRATE..]` measures them, and prints lines of that file.\n\n"
-        "A crate with tests is proved twice. A planted bug costs another proof of its crate; two or more begin with one, share it, and cost 10 to 40 seconds each beside it. So write the answer of a goal whose\n"
-        "search takes seconds, and split a function that owns many values: what it costs grows faster than their number. A test that hands a table to a helper costs 1 to 5 seconds, one with assertions of its own\n"
-        "10 to 30, an example of `examples/` nothing here. A table of structs is a `static`. Texts cost by their number times their length.\n\n" + cost_table()
+        "# The gate\n\nWhat the full check `rt ci` costs, which planted bugs it tries, and which other bugs were tried. Made\n"
+        "by `.ci/make-documents` from `docs/gate_costs.txt`, `docs/planted.txt`, `docs/mutants.txt` and the\nplanted bugs on disk.\n\n"
+        "## What it costs\n\n" + COSTS_SAY + "\n" + cost_table()
         + "\n## Planted bugs and changed definitions\n\n" + mutants_text()
-        + "\n## Bugs that were tried\n\n`rt plant` tries wrong bodies of its own making against the clauses of a function: in how many functions, how many bodies were refused, how many were not run because time ran out. By hand: bugs in the real\n"
-        "code, one at a time. A body that answers out of memory in place of its work passes every clause, since that may be answered at any time; tests call each such function once where there is memory.\n\n" + planted_table()
+        + "\n## Bugs that were tried\n\n" + TRIED_SAYS + "\n" + planted_table()
     )

@@ -8,7 +8,7 @@ import re
 from definitions import Call, CodeType, Definition
 from run_page import CRATE, LINES, PROSE, lines_of, minutes_of
 from tree import Unknown, table
-from words import number
+from words import Words, number
 
 CALLS, LAW = ("run_ants", "run_to_exit"), "headline"
 JOBS = "job_by"  # the job of a command, an equation a command
@@ -17,21 +17,33 @@ FILES = ("FileKind", "FileContent")  # the data with a constructor for each kind
 GAME, COUNTS = "PrintsTheGame", "TellsItsCounts"  # of the law's page what a game prints; and what its counts are, where they are asked for
 
 FIRST = (
-    ("The rules of the contest", ("world_after", "score_of"), "The world after a number of rounds, and its score. Whoever believes this chapter knows the game."),
+    ("The rules of the contest", ("world_after", "score_of"), "The world after a number of rounds, and its score. If you believe this chapter, you know the game."),
     ("Worlds and brains as texts", ("OpensAs", "IsBrainText"), "Which bytes are the text of a world or of a brain, and what is read of them."),
     ("The text of a game", ("run_text",), "What `run` prints: the seed line, the chosen dumps, and the score."),
     ("Words", ("IsCommand", "IsRefusedAt"), "Which words are a command, what they say, and which word is refused."),
 )
 LAST = (("What is wrong with a file", ("Refuses",), "The one fault of each text that isn't of its file's kind."),)
 ENDINGS = ("Endings", "Which files were fetched, how a run ended, what it reported, and its status. The first definitions are those that the clauses name.")
-READING = """**How to read it.** `ℕ` are the whole numbers from 0 on, and `a - b` is 0 where b is greater. `[]` is the empty list, `x ∷ xs` has x before xs, `++` and `+++` join lists;
-`codes "text"` and `decimal n` are texts as lists of bytes, `slice_index_or list i x` is the element at i, or x where there is none. `zero` is 0 and `suc n` is n + 1;
-`record x { f = y }` is x with y for its field f; `==`, `nat_eq`, `nat_lt`, `nat_le`, `&&`, `||` are tests that compute, as in a program. `a ≡ b` says that they are
-equal, `≢` that they aren't, `¬` not, `↔` just where, `×` and, `⊎` or; `⊥` never holds, `⊤` and `Unit` always do. `(x : A) → B` says that B holds for every x, `(x : A) × B` that it does for some x.
-`IfSome`, `IfOk` and their like say something where there is such a value, `AllByRecursion` something of each element of a list, `AllZip` of each two of two lists;
-`prefix_len test list` is how many elements at its beginning pass a test, `suffix_len` how many at its end. `λ x. b` is the function that gives b at x. A `record` has all of its fields; where a
-field is a fact, it says so. A definition by several equations means the first that fits. `unfoldable` and `abbrev` tell the checker when to open a definition,
-and mean nothing to a reader. [RUN.md](RUN.md) has the words of the library in a table."""
+READING = """**How to read it.** These are the signs that the files use most. [RUN.md](RUN.md#how-to-read-it) has
+more, and the words of the standard library in a table.
+
+- `ℕ` are the whole numbers from 0 on. `zero` is 0, and `suc n` is n + 1. `a - b` is 0 if b is
+  greater.
+- `[]` is the empty list, and `x ∷ xs` has x before xs. `++` and `+++` join lists. `codes "text"` and
+  `decimal n` are texts as lists of bytes. `slice_index_or list i x` is the element at i, or x if
+  there is none. `prefix_len test list` is the number of elements at its beginning that pass a test,
+  and `suffix_len` the number at its end.
+- `record x { f = y }` is x with its field f replaced by y. A `record` has all of its fields; if a
+  field is a fact, the `record` claims it.
+- `==`, `nat_eq`, `nat_lt`, `nat_le`, `&&`, `||` are tests that compute, as in a program.
+- `a ≡ b` says that they are equal, and `≢` that they aren't. `¬` is "not", `↔` is "exactly if", `×` is
+  "and", and `⊎` is "or". `⊥` never holds, and `⊤` and `Unit` always do. `(x : A) → B` says that B
+  holds for every x, and `(x : A) × B` that it holds for some x.
+- `IfSome`, `IfOk` and similar names claim a fact of a value, if there is such a value.
+  `AllByRecursion` claims it of each element of a list, and `AllZip` of each two elements at the same
+  place of two lists.
+- `λ x. b` is the function that gives b at x. Of several equations, the first one that fits counts.
+- `unfoldable` and `abbrev` tell the checker when to open a definition, and mean nothing to you."""
 
 
 class Specification:
@@ -47,11 +59,13 @@ class Specification:
             self.add(title, says, [self.find(name) for name in names])
         jobs = self.find(JOBS)
         found = [(re.match(r"%s (\w+) \w+ = (\w+)_job\b" % JOBS, text), text) for _, text in jobs.equations()]
-        self.commands = {}
+        self.commands, seen, words = {}, set(), Words().kinds
         for it, text in found:
-            if it and it[2] not in self.commands:
-                self.commands[it[2]] = it[1]
-                self.add("The command %s" % it[2], "What `%s` reads and writes, as far as no chapter above has it." % it[2], tree.named(jobs, text), (JOBS,) + FILES)
+            if it and it[2] not in seen:
+                seen.add(it[2])
+                word = words[it[1]]
+                self.commands[word] = it[1]
+                self.add("The command %s" % word, "What `%s` reads and writes, except what the chapters above have." % word, tree.named(jobs, text), (JOBS,) + FILES)
         for title, names, says in LAST:
             self.add(title, says, [self.find(name) for name in names])
         self.add(ENDINGS[0], ENDINGS[1], self.roots)
@@ -124,9 +138,11 @@ def pages(spec):
     told, counted = spec.game_lines()
     calls = " and ".join("[%s](../%s)" % (it.name, it.file) for it in spec.calls)
     out = ["# Specification", "", (
-        "Made from the tree by `.ci/make-documents`; not edited by hand. These files have exactly the definitions that the clauses of %s reach: whoever believes them, and the types of the code that they name, "
-        "knows what the program does. For one `run`, [RUN.md](RUN.md) has all of it on one page. Lines are those of the sources without comments and lone brackets, types of the code counted, of what is reached: the contest %s, a game from its files to its text %s, "
-        "all that a `run` rests on %s, all commands together %s. The law [%s](../%s) says the promise of every command in %s lines; `%s` of it rests on %s for a `run` without `--stats`, which adds %s."
+        "Made from the tree by `.ci/make-documents`, and not edited by hand. These files have exactly the\ndefinitions that the clauses of\n%s\nreach. If you believe them, and the types of the code that they name, you know what the program does.\n"
+        "For one `run`, [RUN.md](RUN.md) has all of it on one page.\n\n"
+        "This is how many lines are reached, without comments and lines with only a bracket, and with types of\nthe code: %s for the contest's rules, %s for a game from its files to its text,\n"
+        "%s for all that a `run` rests on, and %s for all commands together.\n\n"
+        "The law [%s](../%s) says the promise of every command\nin %s lines. Its part `%s` rests on %s lines for a `run` without `--stats`, and the counts of\n`--stats` add %s."
         % (calls, number(contest), number(game), number(run), number(whole), LAW, spec.law.file, number(lines_of(spec.page)), GAME, number(told), number(counted))
     ), "", READING, ""]
     for title, says, parts in [("The headline", "The law's own words, which follow from the clauses.", spec.page)] + spec.chapters:
@@ -138,7 +154,7 @@ def pages(spec):
             rows = [["[%s](../%s)" % (re.sub("^crates/", "", file), file), says_of(these), number(lines_of(these))] for file, these in reversed(files.items())]
             out.append(table(["file", "what it defines", "lines"], rows))
     rows = [["`%s`" % word, number(lines_of(spec.needed(it)))] for word, it in spec.commands.items()]
-    out += ["## Lines by command", "", "All that a command's promise reaches, of definitions by cases on commands and files only the cases that it meets.", "", table(["command", "lines"], rows), "## The clauses", ""]
+    out += ["## Lines by command", "", "All that the promise of a command reaches. Of a definition by cases on commands and files, only the\ncases that this command meets are counted.", "", table(["command", "lines"], rows), "## The clauses", ""]
     out += ["```text\n%s: %s\n```\n" % (call.name, call.clauses.strip()) for call in spec.calls]
     yield "docs/SPECIFICATION.md", "\n".join(out).rstrip() + "\n"
 
