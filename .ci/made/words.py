@@ -33,7 +33,8 @@ class Words:
         helps = {kind: (names, says) for kind, names, says in only(texts, r'^help_row (\w+) = command_help \(codes "([^"]*)"\) \(codes "([^"]*)"\)$')}
         self.kinds = {kind: rows[kind][0] for kind in kinds}
         self.names = {rows[kind][0]: helps[kind][0] for kind in kinds}
-        self.says = {rows[kind][0]: helps[kind][1] for kind in kinds}
+        # `help` says "this page" of what it prints, which elsewhere is another page
+        self.says = {rows[kind][0]: helps[kind][1].replace("this page", "a page with all commands and options") for kind in kinds}
         self.keywords = list(dict(only(texts, r'^keyword_of (\w+) = codes "([^"]+)"')).values())
         self.options = {}
         self.forms = {word: form for _, form, word, _, _ in options}
