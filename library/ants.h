@@ -184,12 +184,12 @@ extern "C" {
 // What a call answers.
 enum ants_status {
     ANTS_DONE = 0, // Done.
-    ANTS_UNREADABLE = 1, // What a call of the program is given can't be read: its words, or the names and sizes of its files.
-    ANTS_NUMBER = 2, // A number is beyond its limits; of a call of the program, its words are no command.
-    ANTS_NO_FILE = 3, // A file that the words of a call of the program name isn't there.
+    ANTS_UNREADABLE = 1, // The words of a command, or the names and sizes of its files, can't be read.
+    ANTS_NUMBER = 2, // A number is beyond its limits, or the words are not a command.
+    ANTS_NO_FILE = 3, // A file that the words of a command name isn't there.
     ANTS_NO_ROOM = 4, // The caller's room is too small.
     ANTS_REFUSED = 5, // A text was refused, or an element of a generated world has no room.
-    ANTS_MEMORY = 6, // Memory could not be had.
+    ANTS_MEMORY = 6, // Out of memory.
 };
 
 // The kinds of faults.

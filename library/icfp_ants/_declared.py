@@ -5,12 +5,12 @@ from ctypes import POINTER, c_char_p, c_size_t, c_uint16, c_uint32, c_uint64, c_
 
 VERSION = "1.2.0-dev"
 DONE = 0  # Done.
-UNREADABLE = 1  # What a call of the program is given can't be read: its words, or the names and sizes of its files.
-NUMBER = 2  # A number is beyond its limits; of a call of the program, its words are no command.
-NO_FILE = 3  # A file that the words of a call of the program name isn't there.
+UNREADABLE = 1  # The words of a command, or the names and sizes of its files, can't be read.
+NUMBER = 2  # A number is beyond its limits, or the words are not a command.
+NO_FILE = 3  # A file that the words of a command name isn't there.
 NO_ROOM = 4  # The caller's room is too small.
 REFUSED = 5  # A text was refused, or an element of a generated world has no room.
-MEMORY = 6  # Memory could not be had.
+MEMORY = 6  # Out of memory.
 
 
 class Kind(enum.IntEnum):

@@ -11,8 +11,8 @@ head_lines =
     +++ codes "\n"
     +++ codes "usage: ants COMMAND WORD.. [OPTION]..\n"
     +++ codes "\n"
-    +++ codes "Words in capitals are names of files, or numbers where they say so; - is\n"
-    +++ codes "standard input. Options stand behind all other words, in any order.\n"
+    +++ codes "Give a file for each word in capitals, or a number if its line says so; - is\n"
+    +++ codes "standard input. Options come last, in any order.\n"
     +++ codes "\n"
 
 -- what workers are for, the exit statuses, and where to read on
@@ -24,16 +24,16 @@ tail_lines =
     +++ codes "\n"
     +++ codes "Exit status:\n"
     +++ codes "  0  all of the output was written\n"
-    +++ codes "  1  a word is no UTF-8, and nothing is written\n"
-    +++ codes "  2  the words are no command\n"
-    +++ codes "  3  a file was not read\n"
+    +++ codes "  1  a word isn't UTF-8; nothing is written\n"
+    +++ codes "  2  the words are not a command\n"
+    +++ codes "  3  a file could not be read\n"
     +++ codes "  4  the output failed\n"
     +++ codes "  5  a file was refused, or an element of a world has no room\n"
     +++ codes "  6  out of memory\n"
     +++ codes "\n"
-    +++ codes "README.md and docs/RULES.md have the rules, the form of each file and examples.\n"
+    +++ codes "docs/RULES.md has the rules and the files, docs/COMMANDS.md the commands.\n"
 
--- the output of `--help`: a page that is made of the table of words
+-- the output of `--help`: a page that is made from the table of words
 unfoldable pub help_text : List ℕ
 help_text = head_lines +++ table_text +++ tail_lines
 

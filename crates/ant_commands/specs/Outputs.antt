@@ -178,7 +178,7 @@ told_sheet setup = record { surround = setup.surround; corpse = setup.corpse; re
 abbrev pub minds_named : RunSetup → List Instr → List Instr → Minds
 minds_named setup red black = record { red = red; black = black; sheet = sheet_named setup }
 
--- the output of `run`: the line of the seed, the chosen dumps, the score, and the counts where they are asked for
+-- the output of `run`: the line of the seed, the chosen dumps, the score, and the counts if they are requested
 unfoldable pub match_output : RunSetup → ReadGame → List ℕ
 match_output setup game =
     whole_text (minds_named setup game.red game.black) setup.seed setup.rounds
@@ -190,7 +190,7 @@ save_output setup game =
     save_text
     (saved_after (minds_named setup game.red game.black) setup.seed setup.window (world_of game.world) setup.rounds)
 
--- the output of `advance`: the save of the game that it is a save of, once the given number of rounds is done in all
+-- the output of `advance`: the save of the same game after the given total number of rounds
 unfoldable pub advance_output : ℕ → SavedValue → List ℕ
 advance_output rounds saved = save_text (advanced saved rounds)
 
@@ -208,9 +208,9 @@ unfoldable pub trace_output : ℕ → ReportSetup → ReadGame → List ℕ
 trace_output id setup game =
     trace_text (told_minds setup.told game) setup.told.seed (world_of game.world) setup.told.rounds id setup.from
 
--- the output of `events`: the line of the seed, and for each turn from round `--from` on, in order, a line for each ant
--- that is killed in it, with `--food` one for the particle that its ant takes or drops, and one for the score if it
--- changed
+-- the output of `events`: the line of the seed, and the lines of each turn from round `--from` on, in order: one for
+-- each ant that is killed in it; with `--food` one for the particle that its ant takes or drops; one for the score if
+-- it changed
 unfoldable pub events_output : Bool → ReportSetup → ReadGame → List ℕ
 events_output food setup game =
     report_text (event_lines food) setup.from (told_minds setup.told game) setup.told.seed
@@ -241,8 +241,8 @@ pub record TellsWay (pair : ReadPair) (text : List ℕ) : Type 0 where
   pub is : IsWayComparison pair.first pair.second comparison steps
   pub told : text ≡ way_text comparison steps
 
--- the output of `same`: whether the brains are the same, or where they first differ; with `--way` the answers that lead
--- there too
+-- the output of `same`: whether the brains are the same, or the first place at which they differ; with `--way` the
+-- answers that lead there too
 abbrev pub TellsSame : Bool → ReadPair → List ℕ → Type 0
 TellsSame false = TellsComparison
 TellsSame true = TellsWay

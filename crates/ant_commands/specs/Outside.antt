@@ -2,7 +2,7 @@
 use Rattle.ant_base.specs.Shelf.{ShelfState}
 use Rattle.ant_base.specs.Sink.{SinkState}
 
--- the shelf of its files, its output, and the place for its errors, of `main` standard error
+-- the shelf of its files, its output, and the place for its errors, which is standard error for `main`
 pub record Outside : Type 0 where
   pub shelf : ShelfState
   pub out : SinkState

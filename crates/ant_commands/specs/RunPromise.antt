@@ -38,8 +38,8 @@ pub data IsDumps : (ℕ → Bool) → List ℕ → Type 0 where
       → AllZip (IsNumber 0 1000000) rounds (slice_split (λ byte. byte == 44) word)
       → IsDumps (λ round. list_any (λ number. nat_eq number round) rounds) word
 
--- what a run is asked for: the names of its files, the seed, how many rounds are played, which are dumped, and the
--- numbers of the rules
+-- what a run has to do: the names of its files, the seed, how many rounds are played, which are dumped, and the numbers
+-- of the rules
 pub record RunAsked : Type 0 where
   pub world : List ℕ
   pub red : List ℕ
@@ -49,8 +49,8 @@ pub record RunAsked : Type 0 where
   pub dumps : ℕ → Bool
   pub sheet : Sheet
 
--- `IsOption others name words asked`: the option of this name, with these words behind it, makes `asked` of `others`:
--- `--seed 7` makes the seed 7. `--workers`, `--window` and `--far` change nothing
+-- `IsOption others name words asked`: the option of this name, followed by these words, turns `others` into `asked`. So
+-- `--seed 7` sets the seed to 7. `--workers`, `--window` and `--far` change nothing
 pub data IsOption (others : RunAsked) : List ℕ → List (List ℕ) → RunAsked → Type 0 where
   Seed : (n : ℕ) (word : List ℕ) → IsNumber 0 4294967295 n word
       → IsOption others (codes "--seed") (word ∷ []) (record others { seed = n })
@@ -75,8 +75,8 @@ abbrev pub bare_run : List ℕ → List ℕ → List ℕ → RunAsked
 bare_run world red black =
     record { world = world; red = red; black = black; seed = 0; rounds = 0; dumps = λ round. false; sheet = record { surround = 5; corpse = 3; rest = 14 } }
 
--- options, each a name and the words behind it, make `asked` of `start`, one by one, the last first; as each stands
--- once at most, their order doesn't matter
+-- options, each a name and the words that follow it, turn `start` into `asked`, one by one, the last first. Each is
+-- given at most once, so their order doesn't matter
 abbrev pub AreOptions : RunAsked → List (List ℕ × List (List ℕ)) → RunAsked → Type 0
 AreOptions start [] asked = asked ≡ start
 AreOptions start (option ∷ options) asked =
@@ -93,7 +93,7 @@ pub record IsRunOf (words : List (List ℕ)) (asked : RunAsked) : Type 0 where
   pub seeded : Contains (map (λ option. option.0) options) (codes "--seed")
   pub limited : Contains (map (λ option. option.0) options) (codes "--rounds")
 
--- a fetch: the name that was asked for, and what was answered
+-- a fetch: the name, and the answer
 abbrev pub fetch : List ℕ → Result (List ℕ) FetchFault → Fetched
 fetch name answer = record { name = name; answer = answer }
 
@@ -153,11 +153,11 @@ pub record Plays (IsWritten : SinkState → SinkState → List ℕ → Type 0) (
   pub rules : minds.sheet ≡ asked.sheet
   pub written : IsWritten before.out after.out (run_text minds asked.seed asked.rounds asked.dumps (world_of grid))
 
--- the errors got this line, or a prefix of it where they failed
+-- the errors got this line, or a prefix of it if they failed
 abbrev pub HasLine : SinkState → SinkState → List ℕ → Type 0
 HasLine err new_err line = PushedAll err new_err line ⊎ PushedFront err new_err line
 
--- 0: the whole text was written; where the output can tell, all of it was flushed. The errors got nothing
+-- 0: the whole text was written. If the output reports what waits, all of it was flushed. The errors got nothing
 pub record IsPrinted (asked : RunAsked) (before after : Outside) : Type 0 where
   pub plays : Plays PushedAll asked before after
   pub flushed : NothingWaits after.out.waiting
@@ -175,14 +175,14 @@ pub record IsCutOff (asked : RunAsked) (before after : Outside) : Type 0 where
   pub plays : Plays PushedFront asked before after
   pub line : HasLine before.err after.err (codes "ants: output failed\n")
 
--- bytes came that are no such text, and `says` is anything; or the fetch answered that the file is too long, and `says`
--- is `too long`
+-- the bytes that were fetched are no such text, and `says` is anything; or the fetch answered that the file is too
+-- long, and `says` is `too long`
 abbrev pub IsUnfit : TextKind → Result (List ℕ) FetchFault → List ℕ → Type 0
 IsUnfit kind (Ok bytes) _ = ¬ IsText kind bytes
 IsUnfit kind (Err fault) says = (fault ≡ TooLong) × (says ≡ codes "too long")
 
--- 5: a file is no world or no brain, or its fetch answered that it is too long. Which fault of a text the line tells,
--- the law `headline` says
+-- 5: a file is no world or no brain, or its fetch answered that it is too long. The law `headline` says which fault of
+-- a text the line names
 pub record IsNotAccepted (asked : RunAsked) (before after : Outside) : Type 0 where
   pub kind : TextKind
   pub name : List ℕ
@@ -217,10 +217,10 @@ RunEnds asked before after number =
     ⊎ ((number ≡ 5) × IsNotAccepted asked before after)
     ⊎ ((number ≡ 6) × IsOutOfMemory asked before after)
 
--- the promise of a run. `IsRunOf words asked`: these words ask for this run. `IsRunTo words before after number`: the
--- program, called with these words, ended with this number. So a run ended as `RunEnds` says; words ask for one run at
--- most; and where the program, called with `run` and other words, no `--stats` among them, didn't end with 2, `run` and
--- these words ask for a run
+-- the promise of a run. `IsRunOf words asked`: these words request this run. `IsRunTo words before after number`: the
+-- program, called with these words, ended with this number. So a run ended as `RunEnds` says. Words request at most one
+-- run. And if the program was called with `run` and other words, without `--stats`, and didn't end with 2, then `run`
+-- and these words request a run
 pub record RunPromise : Type 0 where
   pub kept : (words : List (List ℕ)) (asked : RunAsked) → IsRunOf words asked
       → (before after : Outside) (number : ℕ) → IsRunTo words before after number → RunEnds asked before after number

@@ -3,13 +3,13 @@
 /// Done.
 pub const DONE: u32 = 0;
 
-/// What a call of the program is given can't be read: its words, or the names and sizes of its files.
+/// The words of a command, or the names and sizes of its files, can't be read.
 pub const UNREADABLE: u32 = 1;
 
-/// A number is beyond its limits; of a call of the program, its words are no command.
+/// A number is beyond its limits, or the words are not a command.
 pub const NUMBER: u32 = 2;
 
-/// A file that the words of a call of the program name isn't there.
+/// A file that the words of a command name isn't there.
 pub const NO_FILE: u32 = 3;
 
 /// The caller's room is too small.
@@ -18,5 +18,5 @@ pub const NO_ROOM: u32 = 4;
 /// A text was refused, or an element of a generated world has no room.
 pub const REFUSED: u32 = 5;
 
-/// Memory could not be had.
+/// Out of memory.
 pub const MEMORY: u32 = 6;

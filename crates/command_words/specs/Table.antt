@@ -88,7 +88,7 @@ help_row Advance =
     command_help (codes " SAVE") (codes "goes on with a saved game up to a round, and prints a save of it there")
 help_row View =
     command_help (codes " WORLD RED BLACK BREAKS")
-    (codes "plays a game up to the first of its breaks, and prints the world there")
+    (codes "plays a game until one of your conditions holds, and prints the world there")
 help_row Trace =
     command_help (codes " WORLD RED BLACK ID") (codes "plays a game, and prints where one ant is after each round")
 help_row Events =
@@ -221,7 +221,7 @@ about_of Surround = codes "foes around an ant that kill it"
 about_of Corpse = codes "food that a dead ant leaves"
 about_of Rest = codes "turns that an ant rests after a step"
 about_of From = codes "the first round that is looked at"
-about_of Ant = codes "the one ant that is told of"
+about_of Ant = codes "the one ant that is reported"
 about_of Stats = codes "adds the counts of turns and looks"
 about_of Food = codes "adds who takes and who drops food"
 about_of Far = codes "keeps the workers for the whole game, and sends them their jobs"

@@ -87,7 +87,7 @@ pub enum Choice {
     Blobs,
     /// `--from N`, the first round that is looked at; without it 0
     From,
-    /// `--ant N`, the one ant that is told of; without it all are
+    /// `--ant N`, the one ant that is reported; without it all are
     Ant,
     /// `--labels`, whether to print the state of each label instead of the brain
     Labels,
@@ -241,7 +241,7 @@ impl CommandKind {
                 places: &[FILE, FILE, FILE, FILE],
                 choices: &[Choice::Seed, Choice::Rounds, Choice::From],
                 names: " WORLD RED BLACK BREAKS",
-                says: "plays a game up to the first of its breaks, and prints the world there",
+                says: "plays a game until one of your conditions holds, and prints the world there",
             },
             CommandKind::Workload => CommandRow {
                 word: "workload",
@@ -583,7 +583,7 @@ impl Choice {
             Choice::Rocks => free("--rocks", &[ELEMENTS], 14, "rocks that are placed"),
             Choice::Blobs => free("--blobs", &[ELEMENTS], 11, "heaps of food that are placed"),
             Choice::From => free("--from", &[ROUNDS], 0, "the first round that is looked at"),
-            Choice::Ant => one_of_all("--ant", &[ANT], "the one ant that is told of"),
+            Choice::Ant => one_of_all("--ant", &[ANT], "the one ant that is reported"),
             Choice::Labels => flag(
                 "--labels",
                 "prints which state each label leads to, not the brain",

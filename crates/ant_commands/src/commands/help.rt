@@ -22,8 +22,8 @@ impl Layout for HeadLines {
             "\n",
             "usage: ants COMMAND WORD.. [OPTION]..\n",
             "\n",
-            "Words in capitals are names of files, or numbers where they say so; - is\n",
-            "standard input. Options stand behind all other words, in any order.\n",
+            "Give a file for each word in capitals, or a number if its line says so; - is\n",
+            "standard input. Options come last, in any order.\n",
             "\n"
         )
         .push_to(sink)
@@ -46,14 +46,14 @@ impl Layout for TailLines {
             "\n",
             "Exit status:\n",
             "  0  all of the output was written\n",
-            "  1  a word is no UTF-8, and nothing is written\n",
-            "  2  the words are no command\n",
-            "  3  a file was not read\n",
+            "  1  a word isn't UTF-8; nothing is written\n",
+            "  2  the words are not a command\n",
+            "  3  a file could not be read\n",
             "  4  the output failed\n",
             "  5  a file was refused, or an element of a world has no room\n",
             "  6  out of memory\n",
             "\n",
-            "README.md and docs/RULES.md have the rules, the form of each file and examples.\n"
+            "docs/RULES.md has the rules and the files, docs/COMMANDS.md the commands.\n"
         )
         .push_to(sink)
     }

@@ -19,8 +19,8 @@ static ASKED: Table<'static> = Table {
 // How the page of all commands begins, some of its lines, and how it ends.
 static PAGE: Told<'static> = Told {
     start: "ants 1.2.0-dev plays the ant world of the ICFP Programming Contest 2004.\n\nusage: ants COMMAND WORD.. [OPTION]..\n",
-    lines: "  run WORLD RED BLACK --seed N --rounds N [OPTION]..\n  view WORLD RED BLACK BREAKS --seed N --rounds N [OPTION]..\n  cup --worlds WORLD.. --brains BRAIN.. --seed N --rounds N [OPTION]..\n  workload SEED ROUNDS WORKERS\n  show WORLD SEED\n  --help\nOptions:\n  --dump D      dumps after rounds: none, all, or as 0,10,100; none\n  --corpse N    food that a dead ant leaves, 0 to 9; 3\n  --labels      prints which state each label leads to, not the brain\nWorkers of run, save, resume and advance look ahead, which is slower; those of\ncup play games at the same time, which is faster. None changes what is printed.\n  0  all of the output was written\n  1  a word is no UTF-8, and nothing is written\n  2  the words are no command\n  3  a file was not read\n  4  the output failed\n  5  a file was refused, or an element of a world has no room\n  6  out of memory\n",
-    end: "README.md and docs/RULES.md have the rules, the form of each file and examples.\n",
+    lines: "  run WORLD RED BLACK --seed N --rounds N [OPTION]..\n  view WORLD RED BLACK BREAKS --seed N --rounds N [OPTION]..\n  cup --worlds WORLD.. --brains BRAIN.. --seed N --rounds N [OPTION]..\n  workload SEED ROUNDS WORKERS\n  show WORLD SEED\n  --help\nOptions:\n  --dump D      dumps after rounds: none, all, or as 0,10,100; none\n  --corpse N    food that a dead ant leaves, 0 to 9; 3\n  --labels      prints which state each label leads to, not the brain\nWorkers of run, save, resume and advance look ahead, which is slower; those of\ncup play games at the same time, which is faster. None changes what is printed.\n  0  all of the output was written\n  1  a word isn't UTF-8; nothing is written\n  2  the words are not a command\n  3  a file could not be read\n  4  the output failed\n  5  a file was refused, or an element of a world has no room\n  6  out of memory\n",
+    end: "docs/RULES.md has the rules and the files, docs/COMMANDS.md the commands.\n",
 };
 
 // The words that ask for the page.
@@ -43,7 +43,7 @@ static CUTS: [CutRun<'static>; 1] = [CutRun {
         failing_push: 2,
         ..HELP
     },
-    held: "ants 1.2.0-dev plays the ant world of the ICFP Programming Contest 2004.\n\nusage: ants COMMAND WORD.. [OPTION]..\n\nWords in capitals are names of files, or numbers where they say so; - is\nstandard input. Options stand behind all other words, in any order.\n\n",
+    held: "ants 1.2.0-dev plays the ant world of the ICFP Programming Contest 2004.\n\nusage: ants COMMAND WORD.. [OPTION]..\n\nGive a file for each word in capitals, or a number if its line says so; - is\nstandard input. Options come last, in any order.\n\n",
     line: "ants: output failed\n",
 }];
 
