@@ -19,6 +19,7 @@ pub mod WordLaws
 pub mod SaidLemmas
 -- Worked lines, and the laws used on them.
 pub mod WorkedLines
+pub mod WorkedCups
 pub mod WorkedFronts
 pub mod WorkedOptions
 pub mod WorkedHelp
