@@ -129,7 +129,7 @@ way_help = refl
 other_commands_help :
     (command_text Save ≡ codes "  save WORLD RED BLACK --seed N --rounds N [OPTION]..\n      plays a game up to a round, and prints a save of it\n      takes --workers --window --surround --corpse --rest\n")
     × (command_text Resume ≡ codes "  resume SAVE --rounds N [OPTION]..\n      goes on with a saved game, and prints the rest of what run prints\n      takes --dump --workers --stats\n")
-    × (command_text View ≡ codes "  view WORLD RED BLACK BREAKS --seed N --rounds N [OPTION]..\n      plays a game until one of your conditions holds, and prints the world there\n      takes --from\n")
+    × (command_text View ≡ codes "  view WORLD RED BLACK BREAKS --seed N --rounds N [OPTION]..\n      plays a game until a given condition holds, and prints the world there\n      takes --from\n")
     × (command_text Show ≡ codes "  show WORLD SEED\n      prints a world as it is at the start of a game\n      SEED, 0 to 4294967295\n")
     × (command_text Gen ≡ codes "  gen SEED [OPTION]..\n      prints a world like the contest's, generated from a number\n      SEED, 0 to 4294967295\n      takes --width --height --rocks --blobs\n")
     × (command_text Brain ≡ codes "  brain FILE\n      checks a brain, and prints it with one instruction a line\n")

@@ -88,7 +88,7 @@ help_row Advance =
     command_help (codes " SAVE") (codes "goes on with a saved game up to a round, and prints a save of it there")
 help_row View =
     command_help (codes " WORLD RED BLACK BREAKS")
-    (codes "plays a game until one of your conditions holds, and prints the world there")
+    (codes "plays a game until a given condition holds, and prints the world there")
 help_row Trace =
     command_help (codes " WORLD RED BLACK ID") (codes "plays a game, and prints where one ant is after each round")
 help_row Events =

@@ -241,7 +241,7 @@ impl CommandKind {
                 places: &[FILE, FILE, FILE, FILE],
                 choices: &[Choice::Seed, Choice::Rounds, Choice::From],
                 names: " WORLD RED BLACK BREAKS",
-                says: "plays a game until one of your conditions holds, and prints the world there",
+                says: "plays a game until a given condition holds, and prints the world there",
             },
             CommandKind::Workload => CommandRow {
                 word: "workload",
