@@ -62,8 +62,9 @@ def lemma_files(crate):
 def lemmas_of(row, files):
     """The lemmas that a row names, those of worked values if others have their names; Unknown if one isn't there once."""
     found = []
-    for name in row.names:
-        there = files.get(name, [])
+    for said in row.names:
+        module, _, name = said.rpartition(".")
+        there = [it for it in files.get(name, []) if it.endswith("/%s.antt" % module)] if module else files.get(name, [])
         worked = [it for it in there if "Worked" in it]
         one = there if len(there) == 1 else worked
         if len(one) != 1:
