@@ -1,5 +1,5 @@
 // A text assembled: its brain, and where the brain's instructions stand.
-ghost use Rattle.std.specs.Prelude.{◌≡◌, ◌≤◌, ℕ, List, length, IfOk, IfErr, [], ◌<◌};
+ghost use Rattle.std.specs.Prelude.{◌≡◌, ◌≤◌, ℕ, List, length, IfOk, IfErr, ◌<◌};
 ghost use Rattle.brain_read.specs.Soundness.{IsBrain};
 ghost use Rattle.ant_base.specs.Answers.{AnswersFault, IsFaultOr};
 ghost use Rattle.ant_base.specs.Shelf.{longest};

@@ -1,5 +1,5 @@
 // Cups whose games are printed.
-ghost use Rattle.std.specs.Prelude.{◌≡◌, ◌≢◌, ℕ, ◌+◌, ◌*◌, ◌/◌, ◌<◌, ◌≤◌, ◌^◌, All, length, OnOk};
+ghost use Rattle.std.specs.Prelude.{◌≢◌, ℕ, ◌+◌, ◌*◌, ◌<◌, ◌≤◌, ◌^◌, All, length, OnOk};
 ghost use Rattle.ant_base.specs.Sink.{Pushed};
 ghost use Rattle.tournament.specs.Games.{IsGame, worlds_played};
 ghost use Rattle.tournament.specs.Names.{texts_of};
