@@ -2,7 +2,7 @@
 use Rattle.std.specs.Prelude.{ℕ, zero, suc, List, [], ◌++◌, Option, Some, None}
 
 infixr 65 ◌+++◌
--- one text and then another; it groups to the right
+-- one text and then another; the operator groups to the right
 abbrev pub ◌+++◌ : List ℕ → List ℕ → List ℕ
 a +++ b = a ++ b
 

@@ -22,7 +22,7 @@ abbrev pub first_line : List ℕ → List ℕ
 first_line [] = []
 first_line (byte ∷ text) = if is_lf byte then [] else byte ∷ first_line text
 
--- what stands after the first line and its LF
+-- what follows the first line and its LF
 abbrev pub after_line : List ℕ → List ℕ
 after_line [] = []
 after_line (byte ∷ text) = if is_lf byte then text else after_line text
@@ -35,11 +35,11 @@ has_no_lf text = list_all (λ byte. not (is_lf byte)) text
 abbrev pub is_separator : ℕ → Bool
 is_separator byte = (byte == 32) || (byte == 9) || (byte == 13)
 
--- whether a line has separators alone
+-- whether a line has only separators
 abbrev pub is_blank : List ℕ → Bool
 is_blank line = list_all is_separator line
 
--- what stands after the separators at the front of a line
+-- what follows the separators at the front of a line
 abbrev pub after_separators : List ℕ → List ℕ
 after_separators line = drop (prefix_len is_separator line) line
 

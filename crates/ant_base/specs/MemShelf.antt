@@ -13,8 +13,8 @@ abbrev pub content_of : List (List ℕ × List ℕ) → List ℕ → Option (Lis
 content_of [] name = None
 content_of (file ∷ files) name = if bytes_eq file.0 name then Some file.1 else content_of files name
 
--- the names with their bytes in the order in which they were added, and for how many names more and for how many bytes
--- more there is room
+-- the names with their bytes, in the order in which they were added; and for how many more names and for how many more
+-- bytes there is room
 pub record FileList : Type 0 where
   pub files : List (List ℕ × List ℕ)
   pub spare : ℕ
@@ -34,7 +34,7 @@ abbrev pub none_fails : List ℕ → Bool
 none_fails [] = true
 none_fails (_ ∷ _) = false
 
--- it tells its contents; where no call fails it is sure of each name that it has, and else of none
+-- it reports its contents; if no call fails it is sure of each name that it has, and otherwise of none
 abbrev pub shelf_of : MemShelfState → ShelfState
 shelf_of s = record {
   files = Some (content_of s.files);
@@ -43,11 +43,11 @@ shelf_of s = record {
   log = s.log;
 }
 
--- whether the next fetch fails: its number is among the failing ones, or its name isn't there
+-- whether the next fetch fails: its number is among the failing ones, or the shelf doesn't have the name
 abbrev pub fails : MemShelfState → List ℕ → Bool
 fails s name = is_failing s.failing (one_more s.calls) || is_none (content_of s.files name)
 
--- whether the content of a name is there and longer than the longest
+-- whether the content of a name exists and is longer than the longest allowed
 abbrev pub is_long : MemShelfState → List ℕ → Bool
 is_long s name = nat_lt longest (length (unwrap_or (content_of s.files name) []))
 

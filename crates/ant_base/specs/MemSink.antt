@@ -4,7 +4,7 @@ use Rattle.ant_base.specs.Faults.{one_more}
 use Rattle.ant_base.specs.Sink.{SinkState}
 use Rattle.ant_base.specs.Calls.{is_failing}
 
--- the bytes held, at most how many, the calls that fail, and how many calls and faults there were
+-- the bytes held, the most that it can hold, the calls that fail, and how many calls and faults there were
 pub record MemSinkState : Type 0 where
   pub held : List ℕ
   pub room : ℕ
@@ -24,6 +24,6 @@ takes_whole s piece = not (is_failing_push s) && nat_le (length s.held + length 
 abbrev pub bytes_taken : MemSinkState → List ℕ → ℕ
 bytes_taken s piece = if is_failing_push s then 0 else min (length piece) (s.room - length s.held)
 
--- it tells its bytes, of which none waits
+-- it reports its bytes, and none of them waits
 abbrev pub sink_of : MemSinkState → SinkState
 sink_of s = record { held = Some s.held; waiting = Some []; faults = s.faults }

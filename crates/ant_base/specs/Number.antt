@@ -7,11 +7,11 @@ use Rattle.std.specs.Str.Parse.{digits_value}
 unfoldable pub decimal_value : List ℕ → Option ℕ
 decimal_value text = if nat_le 1 (length text) && nat_le (length text) 10 && all_ascii_digits text then Some (digits_value 10 text) else None
 
--- a number, where it lies between the least and the greatest that are accepted
+-- a number, if it is between the least and the greatest that are accepted
 abbrev pub within : ℕ → ℕ → Option ℕ → Option ℕ
 within least most None = None
 within least most (Some n) = if nat_le least n && nat_le n most then Some n else None
 
--- the value of a text, where it lies between them
+-- the value of a text, if it is between them
 abbrev pub number_within : ℕ → ℕ → List ℕ → Option ℕ
 number_within least most text = within least most (decimal_value text)

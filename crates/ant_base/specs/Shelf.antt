@@ -1,4 +1,4 @@
--- What a shelf has, and what a fetch answers (this project's own).
+-- What a shelf has, and what a fetch returns (this project's own).
 use Rattle.std.specs.Prelude.{◌≡◌, ℕ, ◌<◌, ◌≤◌, Bool, true, false, ⊤, List, [], ◌∷◌, ◌++◌, length, Option, Some, Result, Ok, Err, Vec, IfSome, IsSomeAnd}
 use Rattle.std.specs.List.{AllByRecursion}
 use Rattle.ant_base.specs.Faults.{Rose}
@@ -6,7 +6,7 @@ use Rattle.ant_base.specs.Fetched.{Fetched, fetched}
 use Rattle.ant_base.specs.declared.shelf.FetchFault.{FetchFault}
 use Rattle.ant_base.specs.declared.shelf.FetchFault.TheVariants.{Failed, TooLong, OutOfMemory}
 
--- the content under each name, where the shelf tells it; of which names it is sure; the count of faults; and the log:
+-- the content under each name, if the shelf reports it; of which names it is sure; the count of faults; and the log:
 -- all fetches with their answers, in order
 pub record ShelfState : Type 0 where
   pub files : Option (List ℕ → Option (List ℕ))
@@ -14,13 +14,13 @@ pub record ShelfState : Type 0 where
   pub faults : ℕ
   pub log : List Fetched
 
--- the length of the longest content that is answered, in bytes
+-- the length of the longest content that a fetch returns, in bytes
 abbrev pub longest : ℕ
 longest = 4194304
 
--- an answer that agrees with what is told: the bytes are no more than the longest and, where contents are told, the one
--- of the name; or it is too long: where contents are told, the name has one that is longer than that; a fetch that
--- failed or wanted memory says nothing
+-- an answer agrees with the reported contents. Bytes are no more than the longest and, if contents are reported, the
+-- content of the name. "Too long" means, if contents are reported, that the name has a content longer than that. A
+-- fetch that failed or ran out of memory says nothing
 abbrev pub AnswerIsTold : Option (List ℕ → Option (List ℕ)) → List ℕ → Result (List ℕ) FetchFault → Type 0
 AnswerIsTold files name (Ok bytes) = IfSome files (λ at. at name ≡ Some bytes) × (length bytes ≤ longest)
 AnswerIsTold files name (Err TooLong) = IfSome files (λ at. IsSomeAnd (at name) (λ content. longest < length content))
@@ -31,15 +31,15 @@ pub record IsFailed (old new : ShelfState) (name : List ℕ) : Type 0 where
   pub unsure : old.sure name ≡ false
   pub rose : Rose old.faults new.faults
 
--- what each answer says
+-- what each answer means
 abbrev pub Answers : {A : Type 0} → ShelfState → ShelfState → List ℕ → Result (Vec ℕ A) FetchFault → Type 0
 Answers old new name (Ok content) = AnswerIsTold old.files name (Ok content.items)
 Answers old new name (Err Failed) = IsFailed old new name
 Answers old new name (Err TooLong) = AnswerIsTold old.files name (Err TooLong)
 Answers old new name (Err OutOfMemory) = ⊤
 
--- what a fetch did: it is the last of the log, contents stay, the shelf stays sure of what it was sure of, and the
--- count of faults falls never and rises for no sure name
+-- what a fetch did: it is the last of the log, contents are unchanged, the shelf stays sure of what it was sure of, and
+-- the count of faults never falls, and doesn't rise if the shelf was sure of the name
 pub record Fetches {A : Type 0} (old new : ShelfState) (name : List ℕ)
     (result : Result (Vec ℕ A) FetchFault) : Type 0 where
   pub answer : Answers old new name result
@@ -49,7 +49,7 @@ pub record Fetches {A : Type 0} (old new : ShelfState) (name : List ℕ)
   pub quiet : old.sure name ≡ true → new.faults ≡ old.faults
   pub later : old.faults ≤ new.faults
 
--- a fetch whose answer agrees with what is told
+-- a fetch whose answer agrees with the reported contents
 abbrev pub IsTold : Option (List ℕ → Option (List ℕ)) → Fetched → Type 0
 IsTold files fetch = AnswerIsTold files fetch.name fetch.answer
 
@@ -57,9 +57,9 @@ IsTold files fetch = AnswerIsTold files fetch.name fetch.answer
 abbrev pub AreSure : ShelfState → List Fetched → Type 0
 AreSure shelf fetches = AllByRecursion (λ fetch. shelf.sure fetch.name ≡ true) fetches
 
--- what some fetches one after another did: they are the last of the log, they agree with what is told, contents stay,
--- the shelf stays sure of what it was sure of, and the count of faults falls never and stays where the shelf was sure
--- of all their names
+-- what several fetches did, one after another: they are the last of the log, they agree with the reported contents,
+-- contents are unchanged, the shelf stays sure of what it was sure of, and the count of faults never falls, and doesn't
+-- rise if the shelf was sure of all their names
 pub record FetchesEach (old new : ShelfState) (fetches : List Fetched) : Type 0 where
   pub log : new.log ≡ old.log ++ fetches
   pub told : AllByRecursion (λ fetch. AnswerIsTold old.files fetch.name fetch.answer) fetches

@@ -1,7 +1,7 @@
 -- The state of the sinks and shelves over the streams and files of the system (this project's own).
 --
 -- The bytes that a stream took and the log of a shelf of files are ghost data: no memory holds them. They are what the
--- system's own calls answered: each write adds the bytes that it answered to have taken, and each fetch adds its name
+-- system's own calls returned. Each write adds the bytes that it took by its own answer, and each fetch adds its name
 -- with its answer.
 use Rattle.std.specs.Prelude.{◌≡◌, ◌⊎◌, ℕ, ◌<◌, Bool, List, ◌++◌, [], Option, Result, Ok, Err, true, false, None, Some}
 use Rattle.std.specs.Io.KnownBytes.{Appends}
@@ -12,8 +12,8 @@ use Rattle.ant_base.specs.Lines.{ends_in_lf}
 use Rattle.ant_base.specs.Shelf.{ShelfState}
 use Rattle.ant_base.specs.Sink.{SinkState}
 
--- the bytes that the stream took since the sink was made, those that still wait in its buffer, those that it tells by
--- itself where it does, the count of faults, and whether the stream never fails
+-- the bytes that the stream took since the sink was made, those that still wait in its buffer, those that the stream
+-- itself reports (if it does), the count of faults, and whether the stream never fails
 pub record StreamState : Type 0 where
   pub taken : List ℕ
   pub waiting : List ℕ
@@ -21,11 +21,11 @@ pub record StreamState : Type 0 where
   pub faults : ℕ
   pub sure : Bool
 
--- where no push failed, and what the stream took ends in LF or is nothing, nothing waits in its buffer
+-- if no push failed, and what the stream took is empty or ends in LF, nothing waits in its buffer
 abbrev pub IsFlushedByLines : (faults : ℕ) (taken waiting : List ℕ) → Type 0
 IsFlushedByLines faults taken waiting = faults ≡ 0 → (taken ≡ []) ⊎ (ends_in_lf taken ≡ true) → waiting ≡ []
 
--- a write was done, and took one byte or more
+-- a write was done, and took at least one byte
 abbrev pub TakesSome : Result ℕ Error → Type 0
 TakesSome (Ok taken) = 0 < taken
 TakesSome (Err _) = ⊥
@@ -34,7 +34,7 @@ TakesSome (Err _) = ⊥
 abbrev pub sink_of_stream : StreamState → SinkState
 sink_of_stream s = record { held = Some s.taken; waiting = Some s.waiting; faults = s.faults }
 
--- a prefix of the piece was taken, and this rest of it is left; what the stream tells by itself grew by that prefix
+-- a prefix of the piece was taken, and this rest of it is left; what the stream itself reports grew by that prefix
 pub record TookUpTo (taken new_taken : List ℕ) (written new_written : Option (List ℕ))
     (piece rest : List ℕ) : Type 0 where
   pub front : List ℕ
@@ -54,6 +54,6 @@ pub record FileShelfState (R : Type 0) : Type 0 where
   pub faults : ℕ
   pub log : List Fetched
 
--- a shelf of files tells no content and is sure of no name
+-- a shelf of files reports no contents and is sure of no name
 abbrev pub shelf_of_files : {R : Type 0} → FileShelfState R → ShelfState
 shelf_of_files s = record { files = None; sure = λ _. false; faults = s.faults; log = s.log }

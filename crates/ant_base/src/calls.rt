@@ -6,7 +6,7 @@ use crate::OutOfMemory;
 use std::alloc::Global;
 use std::marker::Model;
 
-/// A list of call numbers, counted from 1. Contracts see its numbers, and how many more it takes before it is full.
+/// A list of call numbers, counted from 1. Contracts see its numbers, and how many more can be added before it is full.
 #[derive(Drop)]
 pub struct Calls {
     numbers: Vec<u64>,
@@ -32,7 +32,7 @@ impl Calls {
     }
 
     /// Adds a call number, counted from 1, at the end. It fails only if the list is full and there is no memory for
-    /// more; then it changes nothing. Each add uses at most one spare place.
+    /// more; then it changes nothing. Each add uses at most one free place.
     pub fn add(&mut self, number: u64) -> Result<(), OutOfMemory>
         ensures added { OnOk result (self.new.numbers ≡ self.old.numbers ++ number ∷ []) }
         ensures refused { OnErr result (self.new ≡ self.old) }

@@ -16,14 +16,14 @@ use std::alloc::Global;
 use std::io::{self, ErrorKind};
 use std::marker::Model;
 
-// How many bytes one read asks for at most.
+// The most bytes that one read requests.
 const CHUNK: usize = 8192;
 
 /// Files by their names, and standard input under the name `-`.
 ///
-/// It tells no content, and is sure of no name. A second fetch of `-` gets what is left there, commonly nothing. It
-/// reads no further than 4,194,305 bytes. The count of faults rises by one at each fetch that is `Failed` and at no
-/// other, and stays at the last value of a u64.
+/// Contracts don't see the contents, and it is sure of no name. A second fetch of `-` returns what is left of standard
+/// input, usually nothing. It reads at most 4,194,305 bytes. The count of faults rises by one at each fetch that
+/// returns `Failed` and at no other, and stays at the largest `u64`.
 #[derive(Drop)]
 pub struct FileShelf<'r, R: System> {
     rt: &'r R,
@@ -40,7 +40,7 @@ impl<'r, R: System> Model for FileShelf<'r, R> {
 }
 
 impl<'r, R: System> FileShelf<'r, R> {
-    /// The files and the standard input of this runtime, without a fault.
+    /// The files and the standard input of this runtime, with a count of 0 faults.
     pub fn new(rt: &'r R) -> Self
         ensures { result ≡ record { system = rt.now; faults = 0; log = [] } }
     {
@@ -66,9 +66,9 @@ impl<R: System> Shelf for FileShelf<'_, R> {
         ensures shelf { Fetches (shelf_of_files self.old) (shelf_of_files self.new) name.now result }
         ensures count { self.new.faults ≡ (if is_failed result then one_more self.old.faults else self.old.faults) }
         ensures system { self.new.system ≡ self.old.system }
-        // Under each other name the file of that very name was opened, and the answer is made of it.
+        // For any name except `-`, the file of exactly that name was opened, and the answer was read from it.
         ensures named { name.now ≢ dash → (answer : Result R.File Error) × R.opened self.old.system name.now answer × IsMadeOfOpen R.File.sure R.File.remaining R.File.closed answer result }
-        // Under `-` the answer is made of standard input.
+        // For `-`, the answer was read from standard input.
         ensures input { name.now ≡ dash → (input : R.Input) × R.standard self.old.system input × IsMadeOf R.Input.sure R.Input.remaining R.Input.closed input result }
     {
         let content = if name == "-" {
@@ -92,7 +92,7 @@ fn fetch_input<S: System>(system: &S, alloc: Global) -> Result<Vec<u8>, FetchFau
     read_to_end(alloc, system.standard_input())
 }
 
-// The content of the file of this name.
+// The content of the file with this name.
 fn fetch_named<S: System>(system: &S, alloc: Global, name: &str) -> Result<Vec<u8>, FetchFault>
     ensures short { IfOk result (λ content. length content.items ≤ longest) }
     ensures made { (answer : Result S.File Error) × S.opened system.now name.now answer × IsMadeOfOpen S.File.sure S.File.remaining S.File.closed answer result }
@@ -100,7 +100,7 @@ fn fetch_named<S: System>(system: &S, alloc: Global, name: &str) -> Result<Vec<u
     read_opened(alloc, system.open(name))
 }
 
-// The content of a file that was opened, or why it has none.
+// The content of an opened file, or why there is none.
 fn read_opened<R: SureReader + Drop>(
     alloc: Global,
     opened: io::Result<R>,
@@ -114,7 +114,7 @@ fn read_opened<R: SureReader + Drop>(
     }
 }
 
-// What a reader has left, which is then closed.
+// What is left of a reader. It is closed afterwards.
 fn read_to_end<R: SureReader + Drop>(alloc: Global, mut reader: R) -> Result<Vec<u8>, FetchFault>
     ensures short { IfOk result (λ content. length content.items ≤ longest) }
     ensures made { IsMadeOf R.sure R.remaining R.closed reader result }
@@ -124,7 +124,7 @@ fn read_to_end<R: SureReader + Drop>(alloc: Global, mut reader: R) -> Result<Vec
     content
 }
 
-// What a reader has left, if it isn't too long. One byte more than the longest content is taken from it at most.
+// What is left of a reader, if it isn't too long. At most one byte more than the longest content is read.
 fn read_content<R: SureReader>(alloc: Global, reader: &mut R) -> Result<Vec<u8>, FetchFault>
     ensures short { IfOk result (λ content. length content.items ≤ longest) }
     ensures made { IsReadFrom (R.sure reader.old) (R.remaining reader.old) result }
@@ -132,7 +132,7 @@ fn read_content<R: SureReader>(alloc: Global, reader: &mut R) -> Result<Vec<u8>,
 {
     let mut content = Vec::new(alloc);
     let mut chunk = [0; CHUNK];
-    // As many turns as std's own loops have: nothing says how often a read is interrupted.
+    // The same number of turns as std's own loops: no clause says how often a read is interrupted.
     for _turn in 0..u64::MAX {
         if content.len() > LONGEST {
             return Err(FetchFault::TooLong);
@@ -145,7 +145,7 @@ fn read_content<R: SureReader>(alloc: Global, reader: &mut R) -> Result<Vec<u8>,
     Err(FetchFault::Failed)
 }
 
-// Reads once, by way of the chunk to the end of the content, and answers whether the reader has nothing left.
+// Reads once into the chunk, appends what was read to the content, and returns whether the reader has nothing left.
 fn read_more<R: SureReader>(
     reader: &mut R,
     content: &mut Vec<u8>,
@@ -169,7 +169,7 @@ fn read_more<R: SureReader>(
     Ok(given == 0)
 }
 
-// How many bytes a read gave; none where it was interrupted, which is no fault.
+// How many bytes a read returned; `None` if it was interrupted, which is not a fault.
 fn given_by(answer: io::Result<usize>) -> Result<Option<usize>, FetchFault>
     ensures { result ≡ given_of answer }
 {
@@ -182,7 +182,7 @@ fn given_by(answer: io::Result<usize>) -> Result<Option<usize>, FetchFault>
     }
 }
 
-// Want of memory is told from a failed open or read.
+// Out of memory is distinguished from a failed open or read.
 fn fault_of(error: io::Error) -> FetchFault
     ensures { result ≡ fetch_fault_at (error_kind error) }
 {

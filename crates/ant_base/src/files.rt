@@ -6,16 +6,16 @@ use crate::OutOfMemory;
 use std::alloc::Global;
 use std::marker::Model;
 
-/// A list of names with bytes. A name that was added twice has the bytes that were added first. Contracts see its names
-/// with their bytes, and for how many more names and for how many more bytes it has room.
+/// A list of names with bytes. If a name was added twice, the bytes that were added first count. Contracts see its
+/// names with their bytes, and for how many more names and bytes it has room.
 #[derive(Drop)]
 pub struct Files {
-    // Each name and the bytes under it, end to end.
+    // Each name, followed by its bytes, end to end.
     texts: Vec<u8>,
     sizes: Vec<Sizes>,
 }
 
-// How many bytes a name has, and how many are under it.
+// How many bytes a name has, and how many bytes were added under it.
 #[derive(Clone, Copy, Drop)]
 struct Sizes {
     name: usize,
@@ -50,7 +50,7 @@ impl Files {
     }
 
     /// Adds a name with its bytes at the end. It fails only if the list has no room for the name or the bytes and there
-    /// is no memory for more; the list then keeps its names, its bytes and at least its room. An add uses no more room
+    /// is no memory for more. The list then keeps its names, its bytes and at least its room. An add uses no more room
     /// than it needs.
     pub fn add(&mut self, name: &str, bytes: &[u8]) -> Result<(), OutOfMemory>
         ensures added { OnOk result (self.new.files ≡ self.old.files ++ (name.now, bytes.now) ∷ []) }

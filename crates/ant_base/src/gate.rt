@@ -1,8 +1,8 @@
-// What a worker announces its looks to.
+// What a worker calls before its looks.
 
 /// What each worker calls before each look that it makes. The call changes nothing that the simulator sees.
 pub trait Gate: Sync {
-    /// The worker of this number, from 0, is about to make the look at the turn of the ant with this id.
+    /// The worker with this number, from 0, is about to make the look at the turn of the ant with this id.
     fn before_look(&self, worker: u32, ticket: u32);
 }
 

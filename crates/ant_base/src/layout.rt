@@ -7,7 +7,7 @@ ghost use Rattle.ant_base.specs.Layout.{text_of_option};
 use crate::{Failed, Sink};
 use itoa::Buffer;
 
-/// A value that is printed as one exact text.
+/// A value with one exact text.
 pub trait Layout {
     /// The text that is printed.
     ghost text: { Self → List ℕ };
@@ -91,7 +91,7 @@ impl<A: Layout, B: Layout> Layout for (A, B) {
     }
 }
 
-/// One value of several, in right-nested pairs: `layout!("cell (", x, ", ", y, ")")`.
+/// Several values as one, in right-nested pairs: `layout!("cell (", x, ", ", y, ")")`.
 #[macro_export]
 macro_rules! layout {
     ($part:expr $(,)?) => {

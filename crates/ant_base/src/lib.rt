@@ -1,13 +1,13 @@
 //! The outside of the simulator: where input comes from, where output goes, what workers announce, and texts as values.
 //!
 //! The crates above rely on five promises. A push that returns Ok appended the whole piece. A fetch that returns Ok
-//! gave the content. A fault is returned only if a count of faults rose, and a fetch of a name of which the shelf is
-//! sure never returns `Failed`. A gate changes nothing. A value that is a `Layout` is pushed as one exact text. Lines,
-//! separators and numbers of the contest's files are read here, once for all readers.
+//! returned the content. A fault is returned only if a count of faults rose, and a fetch of a name of which the shelf
+//! is sure never returns `Failed`. A gate changes nothing. A value that is a `Layout` is pushed as one exact text.
+//! Lines, separators and numbers of the contest's files are read here, once for all readers.
 //!
-//! It depends on lemmas alone in this repository, and prints numbers by `itoa`.
+//! In this repository it depends only on lemmas. It prints numbers by `itoa`.
 //!
-//! What names no section of the contest's task is this project's own.
+//! Whatever names no section of the contest's task is this project's own.
 #![tactic(auto)]
 
 mod calls;

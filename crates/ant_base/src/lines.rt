@@ -6,8 +6,8 @@ ghost use Rattle.ant_base.specs.Lines.{lines_of, first_line, after_line, is_lf, 
 
 use std::marker::Model;
 
-/// The lines of a text that are left, from the first on: the pieces between LF bytes, with no further line after a last
-/// LF (the contest's files). It takes no memory, and reads each byte once.
+/// The remaining lines of a text, from the first on: the pieces between LF bytes, with no further line after a last LF
+/// (the contest's files). It takes no memory, and reads each byte once.
 #[derive(Drop)]
 pub struct Lines<'t> {
     rest: &'t [u8],
@@ -23,7 +23,7 @@ impl<'t> Model for Lines<'t> {
 }
 
 impl<'t> Lines<'t> {
-    /// All lines of the text (the contest's files). The text may be empty, and then has none.
+    /// All lines of the text (the contest's files). An empty text has none.
     pub fn new(text: &'t [u8]) -> Self
         ensures lines { result ≡ lines_of text.now }
         ensures few { length result ≤ length text.now }
@@ -49,7 +49,7 @@ impl<'t> Iterator for Lines<'t> {
     }
 }
 
-/// The first line of a text without its LF, and what stands after that LF; of an empty text both are empty (the
+/// The first line of a text without its LF, and the rest after that LF. Both are empty if the text is empty (the
 /// contest's files).
 pub fn cut_line(text: &[u8]) -> (&[u8], &[u8])
     ensures line { result.0.now ≡ first_line text.now }
@@ -70,7 +70,7 @@ fn after_first(text: &[u8]) -> &[u8]
     }
 }
 
-// How many bytes stand before the first LF.
+// How many bytes there are before the first LF.
 fn line_length(text: &[u8]) -> usize
     ensures first { result ≡ prefix_len (λ byte. not (is_lf byte)) text.now }
     ensures within { result ≤ length text.now }
@@ -85,14 +85,14 @@ pub fn is_separator(byte: u8) -> bool
     matches!(byte, b' ' | b'\t' | b'\r')
 }
 
-/// Whether a line has separators alone, as an empty one has (the contest's files).
+/// Whether a line has only separators. An empty line is blank (the contest's files).
 pub fn is_blank(line: &[u8]) -> bool
     ensures { result ≡ is_blank line.now }
 {
     line.iter().all(|byte| is_separator(*byte))
 }
 
-/// What stands after the separators at the front of a text (the contest's files).
+/// What follows the separators at the front of a text (the contest's files).
 pub fn after_separators(text: &[u8]) -> &[u8]
     ensures { result.now ≡ after_separators text.now }
 {

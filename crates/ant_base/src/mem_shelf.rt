@@ -12,10 +12,10 @@ use crate::{Calls, FetchFault, Files, Shelf};
 use std::alloc::Global;
 use std::marker::Model;
 
-/// A shelf in memory, some of whose calls fail.
+/// A shelf in memory, with calls that fail by their number.
 ///
-/// It tells its contents. Where no call is to fail it is sure of each name that it has, and else of none. The counts of
-/// calls and of faults stay at the last value of a u64.
+/// Contracts see its contents. If no call is to fail, it is sure of each name that it has; otherwise of none. The
+/// counts of calls and of faults stay at the largest `u64`.
 #[derive(Drop)]
 pub struct MemShelf {
     files: Files,
@@ -34,7 +34,7 @@ impl Model for MemShelf {
 }
 
 impl MemShelf {
-    /// A shelf that has these files, whose fetches of the given numbers fail; the first fetch has the number 1.
+    /// A shelf with these files. The fetches with the given numbers fail; the first fetch has the number 1.
     pub fn new(files: Files, failing: Calls) -> Self
         ensures { result ≡ record { files = files.files; failing = failing.numbers; calls = 0; faults = 0; log = [] } }
     {
@@ -57,7 +57,7 @@ impl MemShelf {
         FetchFault::Failed
     }
 
-    // What the next fetch of this name answers.
+    // The answer to the next fetch of this name.
     fn answer(&mut self, alloc: Global, name: &str) -> Result<Vec<u8>, FetchFault>
         ensures shelf { Fetches (shelf_of self.old) (shelf_of (noted self.new (fetched name.now result))) name.now result }
         ensures failed { is_failed result ≡ fails self.old name.now }
@@ -83,7 +83,7 @@ impl Shelf for MemShelf {
 
     fn fetch(&mut self, alloc: Global, name: &str) -> Result<Vec<u8>, FetchFault>
         ensures shelf { Fetches (shelf_of self.old) (shelf_of self.new) name.now result }
-        // It fails exactly where its number is one of the failing ones, or the name isn't there.
+        // It fails exactly if its number is one of the failing ones or the shelf doesn't have the name.
         ensures failed { is_failed result ≡ fails self.old name.now }
         ensures too_long { is_too_long result ≡ (not (fails self.old name.now) && is_long self.old name.now) }
         ensures after { self.new ≡ record self.old {

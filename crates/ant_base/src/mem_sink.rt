@@ -8,9 +8,9 @@ use crate::{Calls, Failed, OutOfMemory, Sink};
 use std::alloc::Global;
 use std::marker::Model;
 
-/// A sink in memory with a fixed room, some of whose calls fail.
+/// A sink in memory with a fixed room, with calls that fail by their number.
 ///
-/// It tells its bytes. The counts of calls and of faults stay at the last value of a u64.
+/// Contracts see its bytes. The counts of calls and of faults stay at the largest `u64`.
 #[derive(Drop)]
 pub struct MemSink {
     bytes: Vec<u8>,
@@ -32,8 +32,8 @@ impl Model for MemSink {
 }
 
 impl MemSink {
-    /// An empty sink with room for `room` bytes, whose pushes of the given numbers fail; the first push has the number
-    /// 1. It fails if there is no memory for the room.
+    /// An empty sink with room for `room` bytes. The pushes with the given numbers fail; the first push has the number
+    /// 1. The call fails if there is no memory for the room.
     pub fn with_room(alloc: Global, room: u64, failing: Calls) -> Result<Self, OutOfMemory>
         ensures { IfOk result (λ s. s ≡ record { held = []; room = room; failing = failing.numbers; calls = 0; faults = 0 }) }
     {
@@ -46,7 +46,7 @@ impl MemSink {
         })
     }
 
-    /// The bytes held, the first that were pushed first.
+    /// The bytes held, in the order in which they were pushed.
     pub fn held(&self) -> &[u8]
         ensures { result.now ≡ self.now.held }
     {
@@ -67,7 +67,7 @@ impl Sink for MemSink {
 
     fn push(&mut self, piece: &[u8]) -> Result<(), Failed>
         ensures sink { Pushed (sink_of self.old) (sink_of self.new) piece.now result }
-        // It fails exactly where its number is one of the failing ones, or the piece doesn't fit.
+        // It fails exactly if its number is one of the failing ones or the piece doesn't fit.
         ensures answer { is_ok result ≡ takes_whole self.old piece.now }
         ensures held { self.new.held ≡ self.old.held ++ take (bytes_taken self.old piece.now) piece.now }
         ensures faults { self.new.faults ≡ (if takes_whole self.old piece.now then self.old.faults else one_more self.old.faults) }

@@ -1,10 +1,10 @@
-// Want of memory, as every crate of the simulator answers it.
+// Out of memory, as every crate of the simulator returns it.
 use crate::{Failed, Layout, Sink, show};
 use std::alloc::{AllocError, AllocFailed};
 use std::error::Error;
 use std::fmt;
 
-/// Memory could not be had. What the refused call was lent is as before, but where its entry says otherwise.
+/// Memory ran out. What was passed to the refused call is unchanged, unless the call's comment says otherwise.
 #[derive(Clone, Copy, Debug, PartialEq, Eq)]
 pub struct OutOfMemory;
 

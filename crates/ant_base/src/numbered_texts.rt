@@ -10,14 +10,14 @@ pub trait NumberedTexts {
     /// How many there are.
     ghost count: { Self → ℕ };
 
-    /// The text of a number.
+    /// The text with this number.
     ghost part: { Self → ℕ → List ℕ };
 
     /// How many there are.
     fn count(&self) -> usize
         ensures { result ≡ count self.now };
 
-    /// Pushes the text of this number.
+    /// Pushes the text with this number. At `Failed` a prefix of it was appended, and the count of faults rose.
     fn push_part<K: Sink>(&self, at: usize, sink: &mut K) -> Result<(), Failed>
         requires { at < count self.now }
         ensures { Pushed (K.state sink.old) (K.state sink.new) (part self.now at) result };

@@ -1,4 +1,4 @@
-// Why a text that is made as it is pushed stops.
+// Why a text that is built while it is pushed stops.
 ghost use Rattle.std.specs.Prelude.{◌≡◌};
 
 use crate::{Failed, Layout, OutOfMemory, Sink, show};
@@ -10,7 +10,7 @@ use std::fmt;
 pub enum PushFault {
     /// The sink failed.
     WriteFault,
-    /// Memory could not be had.
+    /// Memory ran out.
     OutOfMemory,
 }
 

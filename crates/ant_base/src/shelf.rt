@@ -7,17 +7,17 @@ use std::alloc::{AllocError, AllocFailed, Global};
 use std::error::Error;
 use std::fmt;
 
-/// The length of the longest content that a shelf returns, in bytes; no longer text is read.
+/// The length of the longest content that a shelf returns, in bytes. A longer text is refused.
 pub const LONGEST: usize = 4_194_304;
 
-/// Why a name's content was not fetched. The shelf's contents stay as they were.
+/// Why the content of a name wasn't fetched. The contents of the shelf are unchanged.
 #[derive(Clone, Copy, Debug, PartialEq, Eq)]
 pub enum FetchFault {
     /// The content could not be read, and the shelf's count of faults rose.
     Failed,
     /// The content is longer than 4,194,304 bytes.
     TooLong,
-    /// Memory could not be had.
+    /// Memory ran out.
     OutOfMemory,
 }
 
@@ -60,7 +60,8 @@ impl From<AllocError> for FetchFault {
 
 /// Where input comes from.
 pub trait Shelf {
-    /// The content under each name, if the shelf reports it; the names of which it is sure; and the count of faults.
+    /// The content under each name, if the shelf reports it; the names of which it is sure; the count of faults; and
+    /// the log of all fetches with their answers.
     ghost state: { Self → ShelfState };
 
     /// The content under the name, at most 4,194,304 bytes; `TooLong` if it has more.

@@ -1,4 +1,4 @@
-// Values with a text, printed by `{}`; and what is said of a line.
+// Values with a text, printed by `{}`; and the text of a fault with the number of its line.
 ghost use Rattle.std.specs.Prelude.{◌≡◌, ◌++◌, OnOk, OnErr};
 ghost use Rattle.std.specs.Fmt.{WritesOnOk};
 ghost use Rattle.ant_base.specs.FaultText.{line_says};
@@ -17,7 +17,7 @@ struct ShortText {
     faults: u64,
 }
 
-// Appends the piece, where it is a text and has room.
+// Appends the piece, if it is valid UTF-8 and there is room.
 fn append(text: &mut ArrayString<{ ROOM }>, piece: &[u8]) -> Result<(), Failed>
     ensures whole { OnOk result (text.new.bytes ≡ text.old.bytes ++ piece.now) }
     ensures kept { OnErr result (text.new ≡ text.old) }
@@ -59,7 +59,7 @@ pub fn show<L: Layout, W: fmt::Write>(value: &L, f: &mut fmt::Formatter<W>) -> f
     }
 }
 
-/// What is said of a line, which is counted from 1: `line 3: bad number`.
+/// A fault's text after the number of its line, which is counted from 1: `line 3: bad number`.
 #[derive(Clone, Copy)]
 pub struct AtLine<A>(pub u32, pub A);
 

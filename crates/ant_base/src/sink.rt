@@ -34,7 +34,8 @@ impl Error for Failed {}
 
 /// Where output goes.
 pub trait Sink {
-    /// The bytes held, where the sink tells them, and the count of faults.
+    /// The bytes held, if the sink reports them; those that wait in its buffer, if it reports those; and the count of
+    /// faults.
     ghost state: { Self → SinkState };
 
     /// Appends the piece. At `Failed` a prefix of it was appended, and the count of faults rose.

@@ -15,9 +15,9 @@ use std::marker::Model;
 /// A sink over a stream. It reports the bytes that the stream took.
 ///
 /// It writes in a loop. A write that was interrupted is tried again. After each piece that ends in LF the stream is
-/// flushed. A write that takes no bytes is a fault, and so is a flush that fails; over a stream that never fails, no
+/// flushed. A write that takes no bytes is a fault, and so is a flush that fails. Over a stream that never fails, no
 /// push fails. The count of faults rises by one at each push that returns `Failed` and at no other, and stays at the
-/// largest `u64`. So if it is 0, and the bytes that the stream took are none or end in LF, nothing waits in the
+/// largest `u64`. So if it is 0, and the bytes that the stream took are empty or end in LF, nothing waits in the
 /// stream's buffer.
 #[derive(Drop)]
 pub struct StreamSink<W: Writer> {
@@ -26,7 +26,7 @@ pub struct StreamSink<W: Writer> {
     system_log: SystemLog,
 }
 
-/// A sink on standard output, which gets what was pushed at each piece that ends in LF.
+/// A sink on standard output. It is flushed after each piece that ends in LF.
 pub type OutSink = StreamSink<BufWriter<Stdout>>;
 
 /// A sink on standard error.
@@ -43,7 +43,7 @@ impl<W: Writer> Model for StreamSink<W> {
 }
 
 impl<W: Writer> StreamSink<W> {
-    /// A sink over this stream, in which nothing waits and which took nothing yet, without a fault.
+    /// A sink over this stream, which took nothing yet and in which nothing waits, with a count of 0 faults.
     pub fn new(stream: W) -> Self
         requires { W.waiting stream ≡ [] }
         ensures { result ≡ record { taken = []; waiting = W.waiting stream; written = W.contents stream; faults = 0; sure = W.sure stream } }
@@ -55,7 +55,7 @@ impl<W: Writer> StreamSink<W> {
         }
     }
 
-    /// The count of faults, from 0. Where it is 0, all that the stream took up to the end of a line was flushed.
+    /// The count of faults, from 0. If it is 0, all that the stream took up to the end of a line was flushed.
     pub fn faults(&self) -> u64
         ensures count { result ≡ self.now.faults }
         ensures flushed { IsFlushedByLines self.now.faults self.now.taken self.now.waiting }
@@ -70,11 +70,11 @@ impl<W: Writer> Sink for StreamSink<W> {
     fn push(&mut self, piece: &[u8]) -> Result<(), Failed>
         ensures sink { Pushed (sink_of_stream self.old) (sink_of_stream self.new) piece.now result }
         ensures count { self.new.faults ≡ (if is_ok result then self.old.faults else one_more self.old.faults) }
-        // The stream took the bytes, also by what it tells of itself.
+        // The stream took the bytes, and what the stream itself reports agrees.
         ensures taken { Takes self.old.taken self.new.taken self.old.written self.new.written piece.now result }
-        // Nothing waits behind the end of a line.
+        // After the end of a line nothing waits.
         ensures sent { OnOk result (ends_in_lf piece.now ≡ true → self.new.waiting ≡ []) }
-        // It fails only where the stream does.
+        // It fails only if the stream does.
         ensures sure { self.old.sure ≡ true → IsOk result × (self.new.sure ≡ true) }
     {
         if piece.is_empty() {
@@ -88,7 +88,7 @@ impl<W: Writer> Sink for StreamSink<W> {
     }
 }
 
-// Writes the whole piece, and sends it on where it ends in LF.
+// Writes the whole piece, and flushes the stream if the piece ends in LF.
 fn write_whole<W: Writer>(
     stream: &mut W,
     system_log: &mut SystemLog,
@@ -99,7 +99,7 @@ fn write_whole<W: Writer>(
     ensures sure { W.sure stream.old ≡ true → IsOk result × (W.sure stream.new ≡ true) }
 {
     let mut rest = piece;
-    // As many turns as std's own loops have: nothing says how often a write is interrupted.
+    // The same number of turns as std's own loops: no clause says how often a write is interrupted.
     for _turn in 0..u64::MAX {
         if rest.is_empty() {
             return flush_line(stream, piece);
@@ -111,8 +111,7 @@ fn write_whole<W: Writer>(
     Err(Failed)
 }
 
-// How many bytes a write took. One that was interrupted took none, and is no fault; one that takes none by itself is
-// one.
+// How many bytes a write took. An interrupted write took none and is not a fault. A write that returns 0 is a fault.
 fn taken_by(answer: io::Result<usize>) -> Result<usize, Failed>
     ensures { result ≡ taken_of answer }
 {
@@ -126,7 +125,7 @@ fn taken_by(answer: io::Result<usize>) -> Result<usize, Failed>
     }
 }
 
-// Sends on what waits where the piece ends in LF.
+// Flushes the stream if the piece ends in LF.
 fn flush_line<W: Writer>(stream: &mut W, piece: &[u8]) -> Result<(), Failed>
     ensures kept { Keeps (W.contents stream.old) (W.contents stream.new) }
     ensures sent { OnOk result (ends_in_lf piece.now ≡ true → W.waiting stream.new ≡ []) }

@@ -10,14 +10,14 @@ use std::io::{self, Read, Stdin};
 
 /// A reader that may be sure of its next bytes.
 pub trait SureReader: Read {
-    /// The number of bytes from here on for which no read fails that requests no more. It is 0 for every file and
-    /// stream of the system.
+    /// The number of bytes, from here on, of which it is sure: a read that requests no more than these doesn't fail. It
+    /// is 0 for every file and stream of the system.
     ghost sure: { Self → ℕ };
 
     /// Holds of a reader that was closed.
     ghost closed: { Self → Type 0 };
 
-    /// Reads once: `Read::read`, and what a reader that is sure answers to it.
+    /// Reads once, as `Read::read` does. The clauses say what a reader that is sure returns.
     fn read_some(&mut self, chunk: &mut [u8]) -> io::Result<usize>
         ensures bound { ReadsAtMost result chunk.new }
         ensures bytes { ReadConsumes (Self.remaining self.old) (Self.remaining self.new) result chunk.new }
@@ -30,7 +30,7 @@ pub trait SureReader: Read {
 
 /// What a shelf of files needs from the system: files by their names, and standard input.
 ///
-/// Answers come from these calls alone. So a caller that has the answer to a name has opened that very name.
+/// Answers come only from these calls. So a caller that has the answer for a name has opened exactly that name.
 pub trait System {
     /// A file that was opened.
     type File: SureReader + Drop;
@@ -38,17 +38,17 @@ pub trait System {
     /// Standard input.
     type Input: SureReader + Drop;
 
-    /// Holds of a system, a name and each answer that an open of this name may have.
+    /// Holds of a system, a name and each answer that opening this name may have.
     ghost opened: { Self → List ℕ → Result Self.File Error → Type 0 };
 
     /// Holds of a system and its standard input.
     ghost standard: { Self → Self.Input → Type 0 };
 
-    /// Opens the file of this name to read it.
+    /// Opens the file with this name for reading.
     fn open(&self, name: &str) -> io::Result<Self::File>
         ensures { opened self.now name.now result };
 
-    /// Standard input, at what is left of it.
+    /// What is left of standard input.
     fn standard_input(&self) -> Self::Input
         ensures { standard self.now result };
 }

@@ -1,4 +1,4 @@
-// What an adapter of the system was answered and took. It exists in clauses alone.
+// What the system answered to an adapter, and what it took. It exists only in clauses.
 ghost use Rattle.std.specs.Prelude.{◌≡◌, ◌++◌, ℕ, List, [], ◌∷◌};
 ghost use Rattle.std.specs.Borrow.{ftrue};
 ghost use Rattle.ant_base.specs.Fetched.{Fetched, fetched};
@@ -7,7 +7,7 @@ ghost use Rattle.ant_base.specs.Inner.SystemLog.{noted_fetches, noted_bytes};
 use crate::FetchFault;
 use std::marker::Model;
 
-// What was fetched and which bytes were taken, the first first. It takes no memory.
+// What was fetched and which bytes were taken, in order. It takes no memory.
 #[derive(Drop)]
 pub(crate) struct SystemLog {
     pub ghost fetches: { List Fetched },
@@ -18,7 +18,7 @@ impl Model for SystemLog {
     ghost also_owns = { λ _. ftrue };
 }
 
-// What a log gets.
+// What is added to a log.
 #[derive(Clone, Copy, Drop)]
 enum Note<'n> {
     Bytes(&'n [u8]),
@@ -33,14 +33,14 @@ impl SystemLog {
         SystemLog {}
     }
 
-    // The log with one note more. Its body does nothing: ghost data is set by a proof.
+    // The log with one more note. Its body does nothing: ghost data is set by a proof.
     fn with(&self, _note: &Note<'_>) -> SystemLog
         ensures { (result.fetches ≡ self.now.fetches ++ noted_fetches _note.now) × (result.bytes ≡ self.now.bytes ++ noted_bytes _note.now) }
     {
         SystemLog {}
     }
 
-    // Notes what a fetch of this name answered.
+    // Notes the answer to a fetch of this name.
     pub(crate) fn note_fetch(&mut self, name: &str, answer: &Result<Vec<u8>, FetchFault>)
         ensures { self.new.fetches ≡ self.old.fetches ++ fetched name.now answer.now ∷ [] }
     {

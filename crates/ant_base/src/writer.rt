@@ -1,4 +1,4 @@
-// Writers that may hold back what they took.
+// Writers that may buffer what they took.
 ghost use Rattle.std.specs.Prelude.{◌≡◌, ◌≢◌, [], List, ℕ, Bool, true, false, IsOk, OnOk};
 ghost use Rattle.std.specs.Io.{WritesAtMost};
 ghost use Rattle.std.specs.Io.KnownBytes.{Keeps, WriteAppends};
@@ -6,22 +6,22 @@ ghost use Rattle.ant_base.specs.Streams.{TakesSome};
 
 use std::io::{self, BufWriter, Stderr, Write};
 
-/// A writer that may hold back some of what it took.
+/// A writer that may buffer some of what it took.
 pub trait Writer: Write {
-    /// The bytes that wait in the writer's buffer, the first first.
+    /// The bytes that wait in the writer's buffer, in order.
     ghost waiting: { Self → List ℕ };
 
-    /// Whether no write and no sending on of this writer fails. It is known of no stream of the system.
+    /// Whether no write and no flush of this writer fails. It is true for no stream of the system.
     ghost sure: { Self → Bool };
 
-    /// Takes a prefix of the piece, and answers how many bytes that is: `Write::write`, and what a writer that is sure
-    /// answers to it.
+    /// Takes a prefix of the piece and returns its length in bytes, as `Write::write` does. The clauses say what a
+    /// writer that is sure returns.
     fn write_some(&mut self, piece: &[u8]) -> io::Result<usize>
         ensures bound { WritesAtMost result piece.now }
         ensures taken { WriteAppends (Self.contents self.old) (Self.contents self.new) result piece.now }
         ensures sure { sure self.old ≡ true → piece.now ≢ [] → TakesSome result × (sure self.new ≡ true) };
 
-    /// Sends on what waits.
+    /// Flushes the bytes that wait.
     fn flush_waiting(&mut self) -> io::Result<()>
         ensures kept { Keeps (Self.contents self.old) (Self.contents self.new) }
         ensures sent { OnOk result (waiting self.new ≡ []) }

@@ -1,7 +1,7 @@
 -- The stream of random numbers (the task's number generation).
 use Rattle.std.specs.Prelude.{ℕ, zero, suc, ◌+◌, ◌*◌, ◌/◌, ◌%◌}
 
--- what a contract sees of a stream: its seed, and how many numbers were drawn of it
+-- what a contract sees of a stream: its seed, and how many numbers were drawn from it
 pub record SeedAndPlace : Type 0 where
   pub seed : ℕ
   pub place : ℕ
@@ -15,6 +15,6 @@ state_at seed (suc i) = state_at seed i * 22695477 + 1
 unfoldable pub random_at : ℕ → ℕ → ℕ
 random_at seed i = state_at seed (i + 4) / 65536 % 16384
 
--- what a draw below n gives at a place of a seed's stream (number generation)
+-- what a draw below n returns at a place of a seed's stream (number generation)
 unfoldable pub drawn : ℕ → ℕ → ℕ → ℕ
 drawn seed place n = random_at seed place % n

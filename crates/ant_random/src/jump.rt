@@ -1,4 +1,4 @@
-// Steps through the stream: one place on at no count, and jumps whose every use is counted.
+// Steps through the stream: one place on, uncounted; and jumps, each use of which is counted.
 ghost use Rattle.std.specs.Prelude.{◌≡◌, ℕ, ◌+◌};
 ghost use Rattle.ant_random.specs.Inner.Jump.{next_state};
 
@@ -9,7 +9,7 @@ const MULTIPLIER: u32 = 22_695_477;
 
 const INCREMENT: u32 = 1;
 
-/// The state one place on.
+/// The state one place later.
 #[inline]
 pub(crate) fn next_state(state: u32) -> u32
     ensures { result ≡ next_state state }
@@ -17,7 +17,7 @@ pub(crate) fn next_state(state: u32) -> u32
     state.wrapping_mul(MULTIPLIER).wrapping_add(INCREMENT)
 }
 
-/// An affine step that takes the state some places on at once. It is made, doubled and used by counted calls alone.
+/// An affine step, which moves the state several places at once. Only counted calls make, double and use it.
 #[derive(Drop)]
 pub(crate) struct Jump {
     times: u32,

@@ -1,11 +1,10 @@
-// A counter of steps that is there for contracts alone.
+// A counter of steps that exists only for contracts.
 ghost use Rattle.std.specs.Prelude.{◌≡◌, ℕ, ◌+◌, ◌<◌};
 
 use std::marker::Model;
 use std::sync::ledger::{Blank, Book, Ledger, Share};
 
-/// A count of steps that were taken, from 0. It takes no bytes, counting costs nothing when the program runs, and it
-/// never falls.
+/// A count of steps, from 0. It takes no bytes, counting costs nothing when the program runs, and it never falls.
 #[derive(Drop)]
 pub struct Steps<L: Ledger> {
     book: Book<L>,
@@ -21,7 +20,7 @@ impl<L: Ledger> Model for Steps<L> {
 }
 
 impl<L: Ledger> Steps<L> {
-    /// A count of 0, over a ledger that has a part, as that of `Blank::new(1)`.
+    /// A count of 0, over a ledger that has a part, such as that of `Blank::new(1)`.
     pub fn new(blank: Blank) -> Steps<L>
         requires name { blank.name ≡ L.name }
         requires parts { blank.parts ≡ L.parts }

@@ -13,7 +13,7 @@ use std::sync::ledger::{Blank, Ledger};
 pub struct Stream {
     seed: u32,
     place: u64,
-    // 32 bits of the state four places on, off which the next number is read
+    // 32 bits of the state four places later; the next number is read from them
     ahead: u32,
 }
 
@@ -26,7 +26,7 @@ impl Model for Stream {
 }
 
 impl Stream {
-    /// The stream of a seed, from 0 to 4,294,967,295, at place 0, as a game begins with it (number generation).
+    /// The stream of a seed, from 0 to 4,294,967,295, at place 0, where a game begins (number generation).
     pub fn from_seed(seed: u32) -> Stream
         ensures seed { result.seed ≡ seed }
         ensures place { result.place ≡ 0 }
@@ -38,8 +38,8 @@ impl Stream {
         }
     }
 
-    /// The stream of a seed at a place, from 0 to 2^63 - 1. A step that `steps` counts is the making, the doubling or
-    /// the use of an affine step: at most two for each binary digit of the place, and two more.
+    /// The stream of a seed at a place, from 0 to 2^63 - 1. `steps` counts each affine step that is made, doubled or
+    /// used: at most two for each binary digit of the place, plus two.
     pub fn at_place<L: Ledger>(seed: u32, place: u64, steps: &mut Steps<L>) -> Stream
         requires { place < 2 ^ 63 }
         ensures seed { result.seed ≡ seed }
@@ -78,8 +78,8 @@ impl Stream {
         self.seed
     }
 
-    /// A random number below n, which is at least 1: `x(place) mod n` (number generation). The place rises by one, also
-    /// where n is 1, and the seed stays.
+    /// A random number below n, which is at least 1: `x(place) mod n` (number generation). The place rises by one, even
+    /// if n is 1, and the seed is unchanged.
     #[inline]
     pub fn draw(&mut self, n: u32) -> u32
         requires some { 1 ≤ n }
@@ -96,7 +96,7 @@ impl Stream {
     }
 }
 
-/// 32 bits of the fourth state of a seed, off which the number of place 0 is read.
+/// 32 bits of the fourth state of a seed, from which the number of place 0 is read.
 fn fourth_state(seed: u32) -> u32
     ensures { result ≡ state_at seed 4 % 2 ^ 32 }
 {
@@ -107,7 +107,7 @@ fn fourth_state(seed: u32) -> u32
     state
 }
 
-/// 32 bits of the state four places on from a place, by a jump for each binary digit of the place that is set.
+/// 32 bits of the state four places after a place, by one jump for each binary digit 1 of the place.
 fn state_ahead<L: Ledger>(seed: u32, place: u64, steps: &mut Steps<L>) -> u32
     ensures state { result ≡ state_at seed (place + 4) % 2 ^ 32 }
     ensures cost { (digits : ℕ) → place < 2 ^ digits → steps.new ≤ steps.old + (2 * digits + 2) }

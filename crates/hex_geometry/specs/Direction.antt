@@ -14,7 +14,7 @@ number_of West = 3
 number_of NorthWest = 4
 number_of NorthEast = 5
 
--- the direction of a number below 6: what stands at that place of this list, and NorthEast at 5
+-- the direction with a number below 6: the entry with that number in this list, which is NorthEast for 5
 abbrev pub dir_of : ℕ → Dir
 dir_of number = slice_index_or (East ∷ SouthEast ∷ SouthWest ∷ West ∷ NorthWest ∷ []) number NorthEast
 
@@ -22,7 +22,7 @@ dir_of number = slice_index_or (East ∷ SouthEast ∷ SouthWest ∷ West ∷ No
 unfoldable pub directions : List Dir
 directions = East ∷ SouthEast ∷ SouthWest ∷ West ∷ NorthWest ∷ NorthEast ∷ []
 
--- the direction after a turn to a side: the number rises by 1 to the right, and falls by 1 to the left, modulo 6
+-- the direction after a turn to a side: the number rises by 1 for right, and falls by 1 for left, modulo 6
 unfoldable pub turned_by : Dir → Side → Dir
 turned_by d Left = dir_of ((number_of d + 5) % 6)
 turned_by d Right = dir_of ((number_of d + 1) % 6)

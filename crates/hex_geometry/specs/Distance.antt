@@ -1,4 +1,4 @@
--- Walks over all pairs of whole numbers, the distance of two of them, and balls (the task's geometry).
+-- Walks over all pairs of whole numbers, the distance between two of them, and balls (the task's geometry).
 use Rattle.std.specs.Prelude.{◌≡◌, ℕ, ◌+◌, ◌≤◌, List, [], ◌∷◌, length, AllPairs, Contains}
 use Rattle.hex_geometry.specs.Neighbourhood.{adjacent_point}
 use Rattle.hex_geometry.specs.Position.{Point, point_of}
@@ -6,11 +6,11 @@ use Rattle.hex_geometry.specs.RowOrder.{IsBefore}
 use Rattle.hex_geometry.specs.declared.direction.Dir.{Dir}
 use Rattle.hex_geometry.specs.declared.position.Pos.{Pos}
 
--- the one is the neighbour of the other in some direction
+-- one point is the neighbour of the other in some direction
 abbrev pub IsAdjacent : Point → Point → Type 0
 IsAdjacent p q = (d : Dir) × (adjacent_point p d ≡ q)
 
--- from p one comes to q by these positions, one after another, each adjacent to the one before
+-- these positions lead from p to q, one after another, each adjacent to the one before
 abbrev pub LeadsTo : Point → List Point → Point → Type 0
 LeadsTo p [] q = p ≡ q
 LeadsTo p (next ∷ rest) q = IsAdjacent p next × LeadsTo next rest q
@@ -26,7 +26,7 @@ pub record IsDistance (p q : Point) (k : ℕ) : Type 0 where
   pub reached : Walk k p q
   pub least : (n : ℕ) → Walk n p q → k ≤ n
 
--- p is at distance at most this radius from the centre
+-- the distance of p from the centre is at most this radius
 pub record IsInBall (centre : Point) (radius : ℕ) (p : Point) : Type 0 where
   pub far : ℕ
   pub distance : IsDistance centre p far
@@ -39,7 +39,7 @@ pub record HasBall (centre : Pos) (radius : ℕ) : Type 0 where
   pub from_top : radius ≤ centre.y
   pub to_bottom : centre.y + radius ≤ 65535
 
--- the list of a ball: its positions and no others, each once, in row order
+-- the list of a ball: exactly its positions, each once, in row order
 pub record ListsBall (centre : Pos) (radius : ℕ) (items : List Pos) : Type 0 where
   pub within : (p : Pos) → Contains items p → IsInBall (point_of centre) radius (point_of p)
   pub every : (q : Point) → IsInBall (point_of centre) radius q → (p : Pos) × (point_of p ≡ q) × Contains items p

@@ -1,4 +1,4 @@
--- Which positions are beside which, and what an ant senses (the task's geometry).
+-- Which positions are adjacent, and what an ant senses (the task's geometry).
 use Rattle.std.specs.Prelude.{◌+◌, ◌-◌, ◌%◌, ℤ, pos, negsuc, ◌+ℤ◌, ◌-ℤ◌, Bool, ◌==◌, if◌then◌else◌, List, map}
 use Rattle.hex_geometry.specs.Direction.{directions, turned_by}
 use Rattle.hex_geometry.specs.Position.{Point}
@@ -36,8 +36,8 @@ beside_in_odd x y NorthEast = record { x = x +ℤ pos 1; y = y -ℤ pos 1 }
 unfoldable pub adjacent_point : Point → Dir → Point
 adjacent_point p d = if is_even p.y then beside_in_even p.x p.y d else beside_in_odd p.x p.y d
 
--- the neighbour of a position in a direction: an odd row is shifted half a cell to the right. An ant never stands in
--- column or row 0, where this would be wrong
+-- the neighbour of a position in a direction: an odd row is shifted half a cell to the right. No ant is ever in column
+-- or row 0, where this would be wrong
 unfoldable pub adjacent_pos : Pos → Dir → Pos
 adjacent_pos p East = record { x = p.x + 1; y = p.y }
 adjacent_pos p SouthEast = record { x = p.x + p.y % 2; y = p.y + 1 }

@@ -11,11 +11,11 @@ pub record Point : Type 0 where
 abbrev pub point_of : Pos → Point
 point_of p = record { x = pos p.x; y = pos p.y }
 
--- whether two positions are one, as a test that computes
+-- whether two positions are equal, as a test that computes
 unfoldable pub same_pos : Pos → Pos → Bool
 same_pos p q = (p.x == q.x) && (p.y == q.y)
 
--- a position each of whose six neighbours is a position too: neither coordinate is 0 or the greatest
+-- a position whose six neighbours are all positions: neither coordinate is 0 or the greatest
 pub record HasNeighbours (p : Pos) : Type 0 where
   pub from_left : 1 ≤ p.x
   pub to_right : p.x ≤ 65534
@@ -38,7 +38,7 @@ pub record IsInner (width height : ℕ) (p : Pos) : Type 0 where
 abbrev pub is_on_rim : ℕ → ℕ → Pos → Bool
 is_on_rim width height p = (p.x == 0) || (p.y == 0) || (p.x + 1 == width) || (p.y + 1 == height)
 
--- of the positions inside, those that aren't on the rim are the inner ones
+-- the positions inside that aren't on the rim are the inner ones
 abbrev pub RimIsOutermost : Type 0
 RimIsOutermost =
     (width height : ℕ) (p : Pos) → IsInside width height p → (is_on_rim width height p ≡ false) ↔ IsInner width height p

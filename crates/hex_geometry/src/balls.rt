@@ -9,8 +9,8 @@ use std::alloc::Global;
 
 /// The positions at distance at most `radius` from `centre`, each once, in row order: row by row from the top, each row
 /// from the left (the task's geometry). There are `3 * radius * (radius + 1) + 1` of them. The radius is at most each
-/// coordinate of the centre, and its sum with each is at most 65,535, so that all of them are positions. The one
-/// refusal is out of memory.
+/// coordinate of the centre, and its sum with each is at most 65,535, so that all of them are positions. The only error
+/// is out of memory.
 pub fn ball(alloc: Global, centre: Pos, radius: u16) -> Result<Vec<Pos>, OutOfMemory>
     requires { HasBall centre radius }
     ensures ball { IfOk result (λ found. ListsBall centre radius found.items) }

@@ -23,14 +23,14 @@ pub enum Dir {
 /// The side to which an ant turns (the task's geometry).
 #[derive(Clone, Copy, Debug, PartialEq, Eq)]
 pub enum Side {
-    /// Against the clock.
+    /// Anticlockwise.
     Left,
-    /// With the clock.
+    /// Clockwise.
     Right,
 }
 
 impl Dir {
-    /// The direction of this number, which is below 6 (the task's geometry).
+    /// The direction with this number, which is below 6 (the task's geometry).
     #[inline]
     pub fn new(number: u8) -> Dir
         requires { number < 6 }
@@ -62,8 +62,8 @@ impl Dir {
     }
 }
 
-/// The direction after a turn to this side: its number changes by one, left downwards and right upwards, modulo 6 (the
-/// task's geometry).
+/// The direction after a turn to this side: its number falls by one for a left turn and rises by one for a right turn,
+/// modulo 6 (the task's geometry).
 #[inline]
 pub fn turned(d: Dir, side: Side) -> Dir
     ensures { result ≡ turned_by d side }
@@ -74,7 +74,7 @@ pub fn turned(d: Dir, side: Side) -> Dir
     }
 }
 
-// Against the clock.
+// Anticlockwise.
 #[inline]
 #[tactic(auto, unfolding(crate::specs::Direction::turned_by))]
 fn turn_left(d: Dir) -> Dir
@@ -90,7 +90,7 @@ fn turn_left(d: Dir) -> Dir
     }
 }
 
-// With the clock.
+// Clockwise.
 #[inline]
 #[tactic(auto, unfolding(crate::specs::Direction::turned_by))]
 fn turned_right(d: Dir) -> Dir

@@ -1,14 +1,14 @@
 // Laws of distances. Each is proved by a function that does nothing.
 ghost use Rattle.hex_geometry.specs.DistanceLaws.{BallsAreCounted, DistanceIsMetric, StepsChangeByOne};
 
-/// A law: each two places have one distance, which is zero exactly from a place to itself, the same both ways, and no
-/// more than that over a third place (the task's geometry).
+/// A law: each two places have one distance. It is zero exactly from a place to itself, the same both ways, and no more
+/// than the sum of the distances to and from a third place (the task's geometry).
 pub fn distance_is_metric()
     ensures { DistanceIsMetric }
 {}
 
-/// A law: a step changes the distance to any place by one at most, and the neighbours of a place are the places at
-/// distance one, so that neighbourhood is mutual (the task's geometry).
+/// A law: a step changes the distance to any place by at most one, and the neighbours of a place are the places at
+/// distance one, so neighbourhood is mutual (the task's geometry).
 pub fn steps_change_by_one()
     ensures { StepsChangeByOne }
 {}

@@ -6,7 +6,7 @@ ghost use Rattle.hex_geometry.specs.RowOrder.{index_of, pos_at};
 use crate::position::Pos;
 
 /// The number of `p` in row order in a world of this width, counted from 0: row by row from the top, each row from the
-/// left. A position of another column than the world's has the number of a position further down.
+/// left. If the column of `p` is outside the world, the result is the number of a position further down.
 #[inline]
 pub fn index_of(width: u16, p: Pos) -> usize
     ensures { result ≡ index_of width p }
@@ -14,8 +14,8 @@ pub fn index_of(width: u16, p: Pos) -> usize
     p.y as usize * width as usize + p.x as usize
 }
 
-/// The position of this number in row order, counted from 0, in a world of this width, which is at least 1. Its row is
-/// at most 65,535.
+/// The position with this number in row order, counted from 0, in a world of this width, which is at least 1. Its row
+/// is at most 65,535.
 #[inline]
 pub fn pos_at(width: u16, number: usize) -> Pos
     requires wide { 1 ≤ width }

@@ -11,9 +11,9 @@
 //! - The positions of a world and their numbers in row order determine each other. Its rim is every position that isn't
 //!   an inner one.
 //!
-//! No call takes memory except the list of a ball. The crate depends on `OutOfMemory` of `ant_base`, and on lemmas.
+//! Only the list of a ball takes memory. The crate depends on `OutOfMemory` of `ant_base`, and on lemmas.
 //!
-//! What names no section of the contest's task is this project's own.
+//! Whatever names no section of the contest's task is this project's own.
 #![tactic(auto)]
 
 mod balls;

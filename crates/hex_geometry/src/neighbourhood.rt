@@ -1,4 +1,4 @@
-// Which positions are beside which, and what an ant senses.
+// Which positions are adjacent, and what an ant senses.
 ghost use Rattle.std.specs.Prelude.{◌≡◌};
 ghost use Rattle.hex_geometry.specs.Neighbourhood.{adjacent_point, adjacent_pos, neighbours_of, sensed_pos};
 ghost use Rattle.hex_geometry.specs.Position.{HasNeighbours, point_of};

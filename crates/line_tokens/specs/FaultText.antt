@@ -1,4 +1,4 @@
--- What is said of a line at fault (this project's own).
+-- The texts of faults in a line (this project's own).
 use Rattle.std.specs.Prelude.{ℕ, List, codes, if◌then◌else◌}
 use Rattle.line_tokens.specs.declared.refusal.LineFault.{LineFault}
 use Rattle.line_tokens.specs.declared.refusal.LineFault.TheVariants.{UnknownWord, MissingToken, BadNumber, ExtraToken}
@@ -11,7 +11,7 @@ line_fault_text MissingToken = codes "missing token"
 line_fault_text BadNumber = codes "bad number"
 line_fault_text ExtraToken = codes "extra token"
 
--- what is said of a token that has a bad byte
+-- the text for a token that has a bad byte
 abbrev pub bad_byte_text : List ℕ
 bad_byte_text = codes "bad byte"
 

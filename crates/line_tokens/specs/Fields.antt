@@ -1,4 +1,4 @@
--- The fields of a line: which tokens spell them, and the text that is printed of them (this project's own).
+-- The fields of a line: which tokens spell them, and how they are printed (this project's own).
 use Rattle.std.specs.Prelude.{◌≡◌, ℕ, List, [], ◌∷◌, find, Option, Some, codes, decimal}
 use Rattle.std.specs.List.{AllZip}
 use Rattle.std.specs.Str.{str_eq_ignore_ascii_case}
@@ -6,7 +6,7 @@ use Rattle.ant_base.specs.Layout.{◌+++◌}
 use Rattle.ant_base.specs.Number.{decimal_value}
 use Rattle.word_table.specs.Words.{IsSameWord}
 
--- which of some things a token names: the first whose word it is, in any ASCII case
+-- which of several things a token names: the first one whose word equals it, in any ASCII case
 abbrev pub named : {A : Type 0} → (A → List ℕ) → List A → List ℕ → Option A
 named word things token = find (λ thing. str_eq_ignore_ascii_case (word thing) token) things
 
@@ -29,12 +29,12 @@ abbrev pub field_text : LineField → List ℕ
 field_text (Word word) = word
 field_text (Number n) = decimal n
 
--- further tokens, a space before each, and the LF
+-- further tokens, each after a space, and the LF
 abbrev pub further_text : List LineField → List ℕ
 further_text [] = codes "\n"
 further_text (field ∷ fields) = codes " " +++ field_text field +++ further_text fields
 
--- the tokens of a line, one space between them, and the LF
+-- the tokens of a line, with one space between them, and the LF
 abbrev pub line_text : List LineField → List ℕ
 line_text [] = codes "\n"
 line_text (field ∷ fields) = field_text field +++ further_text fields

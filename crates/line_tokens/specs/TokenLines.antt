@@ -1,4 +1,5 @@
--- The lines of a text that have a token, and whose they are (the task's neurology, as this project spells its files).
+-- The lines of a text that have a token, and the items they spell (the task's neurology, as this project spells its
+-- files).
 use Rattle.std.specs.Prelude.{ℕ, ◌+◌, List, [], ◌∷◌}
 use Rattle.std.specs.List.{AllZip}
 use Rattle.ant_base.specs.Lines.{lines_of}
@@ -14,7 +15,7 @@ abbrev pub with_line : ℕ → List (List ℕ) → List TokenLine → List Token
 with_line number [] lines = lines
 with_line number (token ∷ tokens) lines = record { number = number; tokens = token ∷ tokens } ∷ lines
 
--- the lines that have a token, where the first line has this number
+-- the lines that have a token, if the first line has this number
 abbrev pub token_lines : ℕ → List (List ℕ) → List TokenLine
 token_lines number [] = []
 token_lines number (line ∷ lines) = with_line number (tokens_of line) (token_lines (number + 1) lines)
@@ -23,6 +24,6 @@ token_lines number (line ∷ lines) = with_line number (tokens_of line) (token_l
 abbrev pub lines_with_tokens : List ℕ → List TokenLine
 lines_with_tokens text = token_lines 1 (lines_of text)
 
--- the lines are those of the items of a list, one to one and in order; Says tells of which item a line's tokens are
+-- the lines are those of the items of a list, one to one and in order; Says holds if a line's tokens spell an item
 abbrev pub AreLinesOf : {A : Type 0} → (List (List ℕ) → A → Type 0) → List TokenLine → List A → Type 0
 AreLinesOf Says lines list = AllZip (λ line item. Says line.tokens item) lines list

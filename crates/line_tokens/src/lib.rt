@@ -4,10 +4,10 @@
 //! neurology. [`Tokens`] gives the tokens of a line one after another, as words of a table or as numbers, and refuses
 //! the first position at fault. It promises that each call takes one token and returns exactly its meaning or why it is
 //! refused, and which token has a [bad byte](has_bad_byte). For crates that read whole texts, this crate also defines,
-//! once, what a line with a token is and when a line is the first at fault, and proves that a reader which stops at a
+//! once, what a line with a token is and when a line is the first at fault. It proves that a reader which stops at a
 //! refused line returns that fault. It depends on the lines and numbers of `ant_base` and the tables of `word_table`.
 //!
-//! What names no section of the contest's task is this project's own.
+//! Whatever names no section of the contest's task is this project's own.
 #![tactic(auto)]
 
 mod bytes;

@@ -3,19 +3,19 @@ use ant_base::{Failed, Layout, Sink, show};
 use std::error::Error;
 use std::fmt;
 
-/// What is said of a token that has a bad byte.
+/// The text for a token that has a bad byte.
 pub const BAD_BYTE: &str = "bad byte";
 
-/// What is wrong with the first position at fault of a line.
+/// What is wrong with the first position at fault in a line.
 #[derive(Clone, Copy, Debug, PartialEq, Eq)]
 pub enum LineFault {
-    /// A token that should be a word is none of its position.
+    /// The position needs a word, and its token is none of its words.
     UnknownWord,
-    /// A position that the form needs has no token.
+    /// The form needs this position, and it has no token.
     MissingToken,
-    /// A token that should be a number is none that its position accepts.
+    /// The position needs a number, and its token is none that it accepts.
     BadNumber,
-    /// A token stands beyond the end of the form.
+    /// There is a token after the end of the form.
     ExtraToken,
 }
 
@@ -47,11 +47,11 @@ impl fmt::Display for LineFault {
 
 impl Error for LineFault {}
 
-/// Why a line is refused: what is wrong with its first position at fault, and whether the token there has a bad byte,
-/// which is none of tab, LF, CR and 32 to 126.
+/// Why a line is refused: what is wrong with its first position at fault, and whether the token there has a bad byte
+/// (any byte except tab, LF, CR and 32 to 126).
 #[derive(Clone, Copy, Debug, PartialEq, Eq)]
 pub struct Refusal {
-    /// What is wrong with the position, whatever bytes its token has.
+    /// What is wrong with the position, regardless of bad bytes.
     pub fault: LineFault,
     /// Whether the token there has a bad byte; false if there is no token.
     pub bad_byte: bool,

@@ -10,9 +10,9 @@ mod steps;
 use ant_base::{after_separators, is_separator};
 use std::marker::Model;
 
-/// The tokens of a line that are left, from the first on. A `;` begins a comment that goes to the end of the line, and
-/// what stands before it is cut into tokens by spaces, tabs and CR bytes (the task's neurology). It takes no memory.
-/// Contracts see the list of the tokens that are left.
+/// The remaining tokens of a line, from the first on. A `;` begins a comment that goes to the end of the line. What
+/// precedes it is cut into tokens by spaces, tabs and CR bytes (the task's neurology). It takes no memory. Contracts
+/// see the list of the tokens that are left.
 #[derive(Drop)]
 pub struct Tokens<'t> {
     rest: &'t [u8],
@@ -70,7 +70,7 @@ fn begins_token(text: &[u8]) -> bool
     }
 }
 
-// How many bytes of a token stand at the front.
+// How many bytes at the front belong to a token.
 fn token_length(text: &[u8]) -> usize
     ensures bytes { result ≡ prefix_len is_token_byte text.now }
     ensures bound { result ≤ length text.now }

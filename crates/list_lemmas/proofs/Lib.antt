@@ -1,4 +1,4 @@
--- Elements of lists, at which number they stand, and what holds of all of them.
+-- Elements of lists, their numbers, and what holds for all of them.
 pub mod Elements
 pub mod Entries
 pub mod AllElements

@@ -1,4 +1,4 @@
--- Where a word stands.
+-- The place of a word.
 pub mod Places
 -- Worked values.
 pub mod Worked

@@ -7,7 +7,7 @@ use Rattle.std.proofs.lemmas.Slice.Eq.{bytes_eq-Decides}
 use Rattle.std.specs.Str.{str_to_ascii_lowercase, str_eq_ignore_ascii_case}
 use Rattle.word_table.specs.Words.{IsSameWord, are_distinct, word_place, IsWordAt}
 
--- the test means that the texts are one word
+-- the test means that the texts are the same word
 pub str_eq_ignore_ascii_case-true : (a b : List ℕ) → str_eq_ignore_ascii_case a b ≡ true → IsSameWord a b
 str_eq_ignore_ascii_case-true a b = (bytes_eq-Decides (str_to_ascii_lowercase a) (str_to_ascii_lowercase b)).0
 
@@ -42,7 +42,7 @@ word_place-found (word ∷ words) text i e = go (str_eq_ignore_ascii_case word t
         let found = counted (word_place words text) i (sym (word_place-later word words text no_word) ∙ e) in
         subst (λ k. IsWordAt (word ∷ words) k text) (sym found.2) (one_further word words found.0 text (rest found.0 found.1))
 
--- a word that stands in the list makes the test of the whole list true
+-- a word that is in the list makes the test of the whole list true
 any_at : (word : List ℕ) (words : List (List ℕ)) (i : ℕ) (text : List ℕ) → IsWordAt words i text → str_eq_ignore_ascii_case word text ≡ true → list_any (str_eq_ignore_ascii_case word) words ≡ true
 any_at word [] i text at is_word = (let e : None ≡ Some at.word = at.stands in cc)
 any_at word (first ∷ words) zero text at is_word =
@@ -55,7 +55,7 @@ any_at word (first ∷ words) (suc i) text at is_word = go (str_eq_ignore_ascii_
     go true e rest = ap (λ b. b || list_any (str_eq_ignore_ascii_case word) words) e
     go false e rest = ap (λ b. b || list_any (str_eq_ignore_ascii_case word) words) e ∙ rest
 
--- of distinct words only one is the text
+-- only one of several distinct words is the text
 pub word_place-only : (words : List (List ℕ)) (text : List ℕ) (i : ℕ) → IsTrue (are_distinct words) → IsWordAt words i text → word_place words text ≡ Some i
 word_place-only [] text i distinct at = (let e : None ≡ Some at.word = at.stands in cc)
 word_place-only (word ∷ words) text zero distinct at =

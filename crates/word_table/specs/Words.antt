@@ -12,7 +12,7 @@ abbrev pub are_distinct : List (List ℕ) → Bool
 are_distinct [] = true
 are_distinct (word ∷ words) = not (list_any (str_eq_ignore_ascii_case word) words) && are_distinct words
 
--- the place, counted from 0, of the first word that is the text in some ASCII case
+-- the place, counted from 0, of the first word that equals the text in some ASCII case
 abbrev pub word_place : List (List ℕ) → List ℕ → Option ℕ
 word_place [] text = None
 word_place (word ∷ words) text =
@@ -24,7 +24,7 @@ pub record IsWordAt (words : List (List ℕ)) (i : ℕ) (text : List ℕ) : Type
   pub stands : slice_get words i ≡ Some word
   pub same : IsSameWord word text
 
--- in a table whose words differ in any ASCII case, a word is found at the place where it stands
+-- in a table whose words differ in any ASCII case, each word is found at its own place
 abbrev pub WordIsFound : Type 0
 WordIsFound =
     (words : List (List ℕ)) (i : ℕ) (word : List ℕ) → IsTrue (are_distinct words) → slice_get words i ≡ Some word

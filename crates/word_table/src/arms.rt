@@ -1,9 +1,8 @@
-// From a word's place to what it stands for.
+// From a word's place to its meaning.
 ghost use Rattle.std.specs.Prelude.{◌≡◌, ◌<◌};
 
-/// The match from a word's place in its table, counted from 0, to what the word means: `word_arms!(i; Side::Left,
-/// Side::Right)` is `Side::Left` at 0, and `Side::Right` at every other place. Use it in a function's body, for up to
-/// 12 words.
+/// The match from a word's place in its table, counted from 0, to its meaning: `word_arms!(i; Side::Left, Side::Right)`
+/// is `Side::Left` at 0, and `Side::Right` at every other place. Use it in a function's body, for up to 12 words.
 #[macro_export]
 macro_rules! word_arms {
     (@match $place:expr; [$($number:tt $value:expr;)*]; $last:expr) => {
@@ -23,7 +22,7 @@ macro_rules! word_arms {
     };
 }
 
-// The arms of a table of 12 words stand in the order of its places.
+// The arms of a table of 12 words are in the order of its places.
 fn arm_of_twelve(place: usize) -> usize
     requires { place < 12 }
     ensures { result ≡ place }

@@ -36,15 +36,15 @@ impl<T: AsStr, const N: usize> Words<T, N> {
         Words { words }
     }
 
-    /// The place, counted from 0, of the word that the text is in some ASCII case; `None` if it is no word of the
-    /// table.
+    /// The place, counted from 0, of the word that equals the text in any ASCII case; `None` if the table has no such
+    /// word.
     pub fn find(&self, text: &[u8]) -> Option<usize>
         ensures place { result ≡ word_place self.now text.now }
         ensures below { IfSome result (λ i. i < N) }
         ensures found { IfSome result (λ i. IsWordAt self.now i text.now) }
         ensures only { (i : ℕ) → IsWordAt self.now i text.now → result ≡ Some i }
     {
-        // Reading the field makes known here what it keeps: its words are pairwise different.
+        // Reading the field makes its invariant known here: its words are pairwise different.
         let _table = &self.words;
         self.place(text)
     }
@@ -57,7 +57,7 @@ impl<T: AsStr, const N: usize> Words<T, N> {
         self.words[i].as_str()
     }
 
-    // Where the text first stands in the table, in any case of its letters.
+    // The first place of the text in the table, in any case of its letters.
     fn place(&self, text: &[u8]) -> Option<usize>
         ensures place { result ≡ word_place self.now text.now }
         ensures below { IfSome result (λ i. i < N) }
@@ -71,12 +71,12 @@ impl<T: AsStr, const N: usize> Words<T, N> {
     }
 }
 
-/// A law: in a table whose words differ in any ASCII case, a word is found at the place where it stands.
+/// A law: in a table whose words differ in any ASCII case, each word is found at its own place.
 pub fn word_is_found()
     ensures { WordIsFound }
 {}
 
-// The word is the text in some ASCII case.
+// Whether the word equals the text in any ASCII case.
 fn is_word(word: &str, text: &[u8]) -> bool
     ensures { result ≡ str_eq_ignore_ascii_case word.now text.now }
 {

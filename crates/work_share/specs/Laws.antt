@@ -11,7 +11,7 @@ pub record IsRow (workers n : ℕ) : Type 0 where
 abbrev pub PiecesAreTheRow : Type 0
 PiecesAreTheRow = (workers n : ℕ) → 0 < workers → IsRow workers n
 
--- each piece has as many things as the row has for each worker, or one more
+-- each piece has the number of tasks divided by that of workers, rounded down, or one more
 pub record IsEven (workers n k : ℕ) : Type 0 where
   pub least : n / workers ≤ border workers n (k + 1) - border workers n k
   pub most : border workers n (k + 1) - border workers n k ≤ n / workers + 1

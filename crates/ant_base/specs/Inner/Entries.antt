@@ -1,4 +1,4 @@
--- The names and bytes of a list of files, which lie end to end (this project's own).
+-- The names and bytes of a list of files, end to end (this project's own).
 use Rattle.std.specs.Prelude.{ℕ, ◌+◌, List, [], ◌∷◌, take, drop}
 use Rattle.ant_base.specs.declared.files.Sizes.{Sizes}
 

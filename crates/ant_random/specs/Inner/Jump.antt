@@ -2,7 +2,7 @@
 use Rattle.std.specs.Prelude.{ℕ, ◌+◌, ◌*◌, ◌%◌, ◌^◌}
 use Rattle.ant_random.specs.declared.jump.Jump.{Jump}
 
--- the state one place on, where 32 bits are kept of each (number generation)
+-- the state one place later, keeping 32 bits of each (number generation)
 unfoldable pub next_state : ℕ → ℕ
 next_state state = (state * 22695477 + 1) % 2 ^ 32
 

@@ -16,7 +16,7 @@ first_column centre radius y = (centre.x + y / 2 + (centre.y - y)) - (centre.y /
 abbrev pub column_count : Pos → ℕ → ℕ → ℕ
 column_count centre radius y = 2 * radius + 1 - abs_diff centre.y y
 
--- so many positions of row y, from column x on
+-- the given number of positions of row y, from column x on
 unfoldable pub line : ℕ → ℕ → ℕ → List Pos
 line x y zero = []
 line x y (suc n) = line x y n ++ record { x = x + n; y = y } ∷ []

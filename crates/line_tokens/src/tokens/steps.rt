@@ -9,9 +9,9 @@ use ant_base::read_number_within;
 use word_table::WordTable;
 
 impl<'t> Tokens<'t> {
-    /// The place in a table, counted from 0, of the next token, which should be a word of it in any ASCII case. A token
-    /// that is none is refused as `UnknownWord`, a line without one as `MissingToken`; a token that is refused is
-    /// passed.
+    /// Takes the next token, which should be a word of the table in any ASCII case, and returns its place there,
+    /// counted from 0. Any other token is refused as `UnknownWord`, and is taken too. If no token is left, it refuses
+    /// as `MissingToken`.
     pub fn word<const N: usize>(&mut self, table: &WordTable<N>) -> Result<usize, Refusal>
         ensures step { take_word table.now self.old ≡ with_rest self.new result }
         ensures passed { self.new ≡ drop 1 self.old }
@@ -25,9 +25,9 @@ impl<'t> Tokens<'t> {
         }
     }
 
-    /// The value of the next token, which should be a number from `least` to `most`, both included, in 1 to 10 digits.
-    /// A token that is none is refused as `BadNumber`, a line without one as `MissingToken`; a token that is refused is
-    /// passed.
+    /// Takes the next token, which should be a number of 1 to 10 digits from `least` to `most`, both included, and
+    /// returns its value. Any other token is refused as `BadNumber`, and is taken too. If no token is left, it refuses
+    /// as `MissingToken`.
     pub fn number(&mut self, least: u64, most: u64) -> Result<u64, Refusal>
         ensures step { take_number least most self.old ≡ with_rest self.new result }
         ensures passed { self.new ≡ drop 1 self.old }
@@ -42,7 +42,7 @@ impl<'t> Tokens<'t> {
         }
     }
 
-    /// Nothing, where no token is left; a token is refused as `ExtraToken`.
+    /// Ok if no token is left; otherwise the next token is refused as `ExtraToken`.
     pub fn end(&mut self) -> Result<(), Refusal>
         ensures step { take_end self.old ≡ with_rest self.new result }
         ensures passed { self.new ≡ drop 1 self.old }
