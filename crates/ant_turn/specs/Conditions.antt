@@ -34,10 +34,10 @@ clear_meets cell FoeMarker colour = has_any_mark (marks_of (foe_of colour) cell)
 clear_meets cell Home colour = is_hill_of colour cell.hill
 clear_meets cell FoeHome colour = is_hill_of (foe_of colour) cell.hill
 
--- whether a cell meets a condition for an ant of this colour: on a rocky cell Rock holds and no other
+-- whether a cell meets a condition for an ant of this colour: a rocky cell meets only Rock
 unfoldable pub meets : Cell → Cond → Colour → Bool
 meets cell condition colour = if cell.rocky then is_rock_condition condition else clear_meets cell condition colour
 
--- whether the cell at a position does
+-- whether the cell at a position meets it
 abbrev pub matches_at : World → Pos → Cond → Colour → Bool
 matches_at w p condition colour = meets (w.cells p) condition colour

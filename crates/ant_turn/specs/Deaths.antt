@@ -1,4 +1,5 @@
--- Who is killed in a turn, each where and as it stood when its cell was checked (the task's martial arts).
+-- The ants that are killed in a turn, each with its position and as it was when its cell was checked (the task's
+-- martial arts).
 use Rattle.std.specs.Prelude.{ℕ, zero, suc, if◌then◌else◌, List, [], ◌∷◌, ◌++◌, Option, Some, None, option_map}
 use Rattle.hex_geometry.specs.declared.position.Pos.{Pos}
 use Rattle.hex_geometry.specs.Neighbourhood.{adjacent_pos}
@@ -30,7 +31,7 @@ dead_all sheet cells (p ∷ places) = dead_at sheet cells p ++ dead_all sheet (c
 abbrev pub dead_around : Sheet → Cells → Pos → List (Option PlacedAnt)
 dead_around sheet cells p = dead_all sheet cells (places_around p)
 
--- the ants that are killed where the ant of p executes an instruction: some only after a step ahead
+-- the ants that are killed when the ant at p executes an instruction; only a step ahead can kill
 abbrev pub dead_by : Sheet → Cells → Pos → Ant → Instr → List (Option PlacedAnt)
 dead_by sheet cells p ant (Sense sight met unmet condition) = []
 dead_by sheet cells p ant (Mark i next) = []
@@ -42,26 +43,26 @@ dead_by sheet cells p ant (Move met unmet) =
     let ahead = adjacent_pos p ant.facing in if is_blocked (cells ahead) then [] else dead_around sheet (stepped sheet cells p ant ahead met) ahead
 dead_by sheet cells p ant (Flip bound met unmet) = []
 
--- in the turn of an ant that rests for so many more turns
+-- the ants that are killed in the turn of an ant with this resting count
 abbrev pub dead_after : ℕ → Minds → Cells → Pos → Ant → List (Option PlacedAnt)
 dead_after zero minds cells p ant =
     dead_by minds.sheet cells p ant (instruction_at (mind_of minds ant.colour) ant.state)
 dead_after (suc left) minds cells p ant = []
 
--- in the turn of the ant of p, if there is one
+-- the ants that are killed in the turn of the ant at p, if there is one
 abbrev pub dead_from : Minds → Cells → Pos → Option Ant → List (Option PlacedAnt)
 dead_from minds cells p None = []
 dead_from minds cells p (Some ant) = dead_after ant.resting minds cells p ant
 
--- in the turn at a place, if it is any
+-- the ants that are killed in the turn at a place, if there is one
 abbrev pub dead_with : Minds → Cells → Option Pos → List (Option PlacedAnt)
 dead_with minds cells None = []
 dead_with minds cells (Some p) = dead_from minds cells p (cells p).ant
 
--- in the turn of id t
+-- the ants that are killed in the turn of id t
 unfoldable pub dead_in : Minds → World → ℕ → List (Option PlacedAnt)
 dead_in minds w t = dead_with minds w.cells (place_in w t)
 
--- what is noted, where it is told, and then these
+-- what is noted, if it is reported, and then these
 abbrev pub with_noted : List (Option PlacedAnt) → Option (List (Option PlacedAnt)) → Option (List (Option PlacedAnt))
 with_noted dead noted = option_map (λ all. all ++ dead) noted

@@ -1,4 +1,4 @@
--- Turns and rounds keep the hills of a world, and so how many hill cells there are (the task's geography).
+-- Turns and rounds keep the hills of a world, and so the number of hill cells (the task's geography).
 use Rattle.std.specs.Prelude.{◌≡◌, ℕ, ◌+◌, ◌*◌, List, [], ◌∷◌, length}
 use Rattle.std.specs.Option.{is_some}
 use Rattle.hex_geometry.specs.declared.position.Pos.{Pos}
@@ -12,21 +12,21 @@ use Rattle.cell_world.specs.World.{World, total}
 use Rattle.ant_turn.specs.Minds.{Minds, Fits, AreSound}
 use Rattle.ant_turn.specs.Rounds.{Moment, after_rounds, after_turns, start_of}
 
--- one where the cell is of a hill, of whichever colour
+-- 1 if the cell belongs to a hill of either colour, otherwise 0
 abbrev pub hill_cell_in : Cell → ℕ
 hill_cell_in cell = one_if (is_some cell.hill)
 
--- how many cells of a world are of a hill
+-- how many cells of a world belong to a hill
 unfoldable pub hill_cells_of : World → ℕ
 hill_cells_of w = total hill_cell_in w
 
--- how many cells of a list are of a hill
+-- how many cells of a list belong to a hill
 abbrev pub hill_cells : List Cell → ℕ
 hill_cells [] = 0
 hill_cells (cell ∷ cells) = hill_cell_in cell + hill_cells cells
 
--- the world `now` has the hills of an earlier one: each cell is of the same hill, or of none as before, and there are
--- as many
+-- the world `now` has the hills of an earlier one: each cell belongs to the same hill, or to none as before, and the
+-- number of hill cells is the same
 pub record HasHillsOf (earlier now : World) : Type 0 where
   pub each : (p : Pos) → (now.cells p).hill ≡ (earlier.cells p).hill
   pub count : hill_cells_of now ≡ hill_cells_of earlier
@@ -37,7 +37,7 @@ TurnsKeepHills =
     (minds : Minds) (seed : ℕ) (m : Moment) (from n : ℕ) → AreSound minds → Valid m.world → Fits m.world minds
     → HasHillsOf m.world (after_turns minds seed m from n).world
 
--- so do rounds
+-- rounds keep them too
 abbrev pub RoundsKeepHills : Type 0
 RoundsKeepHills = (minds : Minds) (seed : ℕ) (m : Moment) (r : ℕ) → AreSound minds → Valid m.world → Fits m.world minds
     → HasHillsOf m.world (after_rounds minds seed m r).world
@@ -47,8 +47,8 @@ abbrev pub game_after : Minds → ℕ → ℕ → ℕ → List Kind → ℕ → 
 game_after minds seed width height kinds r =
     after_rounds minds seed (start_of (world_of (opening width height kinds))) r
 
--- a game's world has at every round as many ids as hill cells, which are those of the kinds; and so has the list of its
--- cells
+-- in every round a game's world has as many ids as hill cells, which are those of the kinds; and the list of its cells
+-- has the same number of hill cells
 pub record GamesKeepHills : Type 0 where
   pub ids : (minds : Minds) (seed width height : ℕ) (kinds : List Kind) (r : ℕ)
       → (game_after minds seed width height kinds r).world.ids ≡ hill_count kinds

@@ -9,8 +9,8 @@ use Rattle.brain_read.specs.declared.instr.Instr.{Instr}
 use Rattle.brain_read.specs.declared.instr.Instr.TheVariants.{Sense, Mark, Unmark, PickUp, Drop, Turn, Move, Flip}
 use Rattle.ant_turn.specs.Turn.{is_blocked}
 
--- the ant of p stays there by its instruction: it doesn't move, or the cell ahead is blocked; and where it senses, it
--- senses this cell
+-- the ant at p stays there when it executes its instruction: it doesn't move, or the cell ahead is blocked; and if it
+-- senses, it senses this cell
 abbrev pub StaysSeeing : Cells → Pos → Ant → Cell → Instr → Type 0
 StaysSeeing cells p ant seen (Sense sight met unmet condition) = seen ≡ cells (sensed_pos p ant.facing sight)
 StaysSeeing cells p ant seen (Mark i next) = ⊤

@@ -6,8 +6,8 @@ use Rattle.cell_world.specs.Valid.{Valid}
 use Rattle.cell_world.specs.World.{World, weight}
 use Rattle.ant_turn.specs.Minds.{Minds, Fits}
 
--- what the world `now` has of an earlier one: it is a world of the same sizes, number of ids, rocks and hills, the
--- brains fit, it is no heavier, and who was dead is dead
+-- what the world `now` has in common with an earlier one: it is a world with the same sizes, number of ids, rocks and
+-- hills; the brains fit it, it isn't heavier, and the dead are still dead
 pub record Keeps (minds : Minds) (earlier now : World) : Type 0 where
   pub width : now.width ≡ earlier.width
   pub height : now.height ≡ earlier.height

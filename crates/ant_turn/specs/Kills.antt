@@ -20,7 +20,7 @@ has_foes sheet cells places None = false
 has_foes sheet cells places (Some ant) =
     nat_le sheet.surround (length (filter (λ q. is_ant_of (foe_of ant.colour) (cells q).ant) places))
 
--- whether an ant stands at p and enough of its six neighbours hold ants of the other colour
+-- whether an ant is at p and enough of its six neighbours hold ants of the other colour
 unfoldable pub is_surrounded : Sheet → Cells → Pos → Bool
 is_surrounded sheet cells p = has_foes sheet cells (neighbours_of p) (cells p).ant
 
@@ -29,15 +29,15 @@ abbrev pub corpse_food : Sheet → Option Ant → ℕ
 corpse_food sheet None = 0
 corpse_food sheet (Some ant) = sheet.corpse + one_if ant.laden
 
--- the cell when its ant was killed
+-- the cell after its ant was killed
 abbrev pub after_kill : Sheet → Cell → Cell
 after_kill sheet cell = record cell { food = cell.food + corpse_food sheet cell.ant; ant = None }
 
--- the check of one cell: where an ant is surrounded it is killed, and else nothing happens
+-- the check of one cell: an ant is killed if it is surrounded; otherwise nothing happens
 unfoldable pub check_at : Sheet → Cells → Pos → Cells
 check_at sheet cells p = if is_surrounded sheet cells p then put_cell cells p (after_kill sheet (cells p)) else cells
 
--- checks of cells in order, each of what those before left
+-- checks of cells in order, each on the cells that the earlier ones left
 abbrev pub check_all : Sheet → Cells → List Pos → Cells
 check_all sheet cells [] = cells
 check_all sheet cells (p ∷ places) = check_all sheet (check_at sheet cells p) places

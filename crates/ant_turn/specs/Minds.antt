@@ -16,11 +16,11 @@ pub record Minds : Type 0 where
   pub black : List Instr
   pub sheet : Sheet
 
--- two brains under the contest's rules
+-- two brains with the contest's rules
 abbrev pub contest_minds : List Instr → List Instr → Minds
 contest_minds red black = record { red = red; black = black; sheet = contest }
 
--- two brains that are lent, under the rules of their sheet
+-- two borrowed brains, with the rules of their sheet
 abbrev pub minds_of : Brains → Minds
 minds_of brains = record { red = brains.red.now; black = brains.black.now; sheet = sheet_of brains.sheet }
 
@@ -33,7 +33,7 @@ mind_of minds Black = minds.black
 pub record Fits (w : World) (minds : Minds) : Type 0 where
   pub below : (p : Pos) (ant : Ant) → (w.cells p).ant ≡ Some ant → ant.state < length (mind_of minds ant.colour)
 
--- both brains are brains, and a killed ant leaves no more food than it weighed
+-- both brains are sound, and a killed ant leaves no more food than it weighed
 pub record AreSound (minds : Minds) : Type 0 where
   pub red : IsBrain minds.red
   pub black : IsBrain minds.black

@@ -1,4 +1,4 @@
--- What turns leave as it is, and how turns and rounds follow one another (the task's kinetics).
+-- What turns leave unchanged, and how turns and rounds follow one another (the task's kinetics).
 use Rattle.std.specs.Prelude.{◌≡◌, ◌≢◌, ◌⊎◌, ℕ, ◌+◌, false, Some, None}
 use Rattle.std.specs.List.{Contains}
 use Rattle.hex_geometry.specs.declared.position.Pos.{Pos}
@@ -14,18 +14,18 @@ use Rattle.ant_turn.specs.Minds.{Minds}
 use Rattle.ant_turn.specs.Rounds.{Moment, after_turn, after_turns, after_rounds}
 use Rattle.ant_turn.specs.Turn.{turn, with_ant}
 
--- what the turn of an ant that is dead or rests does
+-- what the turn of a dead or resting ant does
 pub record IdleTurns : Type 0 where
   -- the turn of a dead ant changes nothing and uses no random number
   pub dead : (minds : Minds) (seed : ℕ) (m : Moment) (t : ℕ) → place_in m.world t ≡ None → after_turn minds seed m t ≡ m
-  -- the turn of an ant that rests changes its resting count alone, by one, and uses no random number
+  -- the turn of a resting ant only lowers its resting count by one, and uses no random number
   pub resting : (minds : Minds) (seed : ℕ) (m : Moment) (t : ℕ) (p : Pos) (ant : Ant) (left : ℕ)
       → place_in m.world t ≡ Some p
       → (m.world.cells p).ant ≡ Some ant → ant.resting ≡ left + 1 →
       after_turn minds seed m t
       ≡ record m { world = put m.world p (with_ant (m.world.cells p) (record ant { resting = left })) }
 
--- turns and rounds are taken one after another: some and then more are all of them
+-- turns and rounds are taken one after another: some and then more are the same as all of them
 pub record TurnsFollow : Type 0 where
   pub turns : (minds : Minds) (seed : ℕ) (m : Moment) (from n more : ℕ)
       → after_turns minds seed (after_turns minds seed m from n) (from + n) more
@@ -35,27 +35,27 @@ pub record TurnsFollow : Type 0 where
 
 -- how far the turn of an ant reaches
 pub record TurnsAreNear : Type 0 where
-  -- it changes no cell but its own, the one ahead, and the neighbours of that
+  -- it changes no cell except its own, the one ahead, and the neighbours of that
   pub cells : (minds : Minds) (seed : ℕ) (w : World) (place t : ℕ) (p : Pos) (ant : Ant) (q : Pos)
       → place_in w t ≡ Some p
       → (w.cells p).ant ≡ Some ant → q ≢ p → (Contains (places_around (adjacent_pos p ant.facing)) q → ⊥) →
       (turn minds seed w place t).cells q ≡ w.cells q
-  -- of these it changes none but its own and the one ahead where nobody is killed
+  -- if no ant is killed, it changes only its own cell and the one ahead
   pub spared : (minds : Minds) (seed : ℕ) (w : World) (place t : ℕ) (p : Pos) (ant : Ant) (q : Pos)
       → place_in w t ≡ Some p →
       (w.cells p).ant ≡ Some ant → q ≢ p → q ≢ adjacent_pos p ant.facing →
       ((u : ℕ) → Contains (killed_in minds seed w place t) u → holds_id u (w.cells q) ≡ false)
       → (turn minds seed w place t).cells q ≡ w.cells q
-  -- and where an ant is left on its own cell, it changes no other
+  -- and if the ant is left on its own cell, it changes no other cell
   pub stayed : (minds : Minds) (seed : ℕ) (w : World) (place t : ℕ) (p : Pos) (ant left : Ant) (q : Pos)
       → place_in w t ≡ Some p → (w.cells p).ant ≡ Some ant → q ≢ p →
       ((turn minds seed w place t).cells p).ant ≡ Some left → (turn minds seed w place t).cells q ≡ w.cells q
-  -- an ant that lives on is where it was, or on the cell ahead
+  -- an ant that survives is where it was, or on the cell ahead
   pub own : (minds : Minds) (seed : ℕ) (w : World) (place t : ℕ) (p : Pos) (ant : Ant) (q : Pos) → Valid w
       → place_in w t ≡ Some p
       → (w.cells p).ant ≡ Some ant → place_in (world_after_turn minds seed w place t) t ≡ Some q →
       (q ≡ p) ⊎ (q ≡ adjacent_pos p ant.facing)
-  -- it changes no marker but its own colour's on its own cell
+  -- it changes no marker except its own colour's on its own cell
   pub marks : (minds : Minds) (seed : ℕ) (w : World) (place t : ℕ) (p : Pos) (ant : Ant) (colour : Colour) (q : Pos)
       → place_in w t ≡ Some p
       → (w.cells p).ant ≡ Some ant → (colour ≡ ant.colour → q ≡ p → ⊥) →

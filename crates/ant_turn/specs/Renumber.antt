@@ -19,15 +19,15 @@ use Rattle.ant_turn.specs.Turn.{Outcome, instruction_at}
 abbrev pub Numbers : Type 0
 Numbers = ℕ → Option ℕ
 
--- the new number of a state; a state that has none stays
+-- the new number of a state; a state that has none is unchanged
 abbrev pub state_number : Numbers → ℕ → ℕ
 state_number numbers state = unwrap_or (numbers state) state
 
--- what becomes of the state of an ant of the colour `own`, where the states of this colour get new numbers
+-- the state of an ant after the states of the colour `own` get new numbers
 abbrev pub side_states : Numbers → Colour → Colour → ℕ → ℕ
 side_states numbers colour own state = if same_colour colour own then state_number numbers state else state
 
--- the instruction with each state that it names mapped: its kind and its parameters stay
+-- the instruction with each state that it names mapped; its kind and its parameters are unchanged
 abbrev pub redirected : (ℕ → ℕ) → Instr → Instr
 redirected f (Sense sight met unmet condition) = Sense sight (f met) (f unmet) condition
 redirected f (Mark i next) = Mark i (f next)
@@ -42,7 +42,7 @@ redirected f (Flip bound met unmet) = Flip bound (f met) (f unmet)
 abbrev pub renumbered_ant : (Colour → ℕ → ℕ) → Ant → Ant
 renumbered_ant f ant = record ant { state = f ant.colour ant.state }
 
--- the cell with such an ant, where one stands there
+-- the cell with such an ant, if it holds one
 abbrev pub renumbered_cell : (Colour → ℕ → ℕ) → Cell → Cell
 renumbered_cell f cell = record cell { ant = option_map (renumbered_ant f) cell.ant }
 
@@ -54,15 +54,15 @@ renumbered_cells f cells p = renumbered_cell f (cells p)
 abbrev pub renumbered_world : (Colour → ℕ → ℕ) → World → World
 renumbered_world f w = with_cells w (renumbered_cells f w.cells)
 
--- the world in which the state of each ant of this colour has its new number, and nothing else is another
+-- the world in which the state of each ant of this colour has its new number, and everything else is unchanged
 abbrev pub renumbered : Numbers → Colour → World → World
 renumbered numbers colour w = renumbered_world (side_states numbers colour) w
 
--- the same of a moment: the place in the stream stays
+-- the same for a moment: the place in the stream is unchanged
 abbrev pub renumbered_moment : Numbers → Colour → Moment → Moment
 renumbered_moment numbers colour m = record m { world = renumbered numbers colour m.world }
 
--- the same of what a turn did: whether it drew, and whom it killed, stay
+-- the same for what a turn did: whether it drew, and which ants it killed, are unchanged
 abbrev pub renumbered_outcome : Numbers → Colour → Outcome → Outcome
 renumbered_outcome numbers colour outcome =
     record outcome { cells = renumbered_cells (side_states numbers colour) outcome.cells }
@@ -72,9 +72,9 @@ abbrev pub with_mind : Minds → Colour → List Instr → Minds
 with_mind minds Red brain = record minds { red = brain }
 with_mind minds Black brain = record minds { black = brain }
 
--- the numbers carry a brain over to another: the other has at a state's number the state's instruction with its
--- successors mapped, of the same kind and with the same parameters; and the successors of a state that has a number
--- have numbers
+-- the numbers turn a brain into another one. At a state's number the other brain has the state's instruction with its
+-- successors mapped, of the same kind and with the same parameters. If a state has a number, its successors have
+-- numbers
 pub record Carries (numbers : Numbers) (old new : List Instr) : Type 0 where
   pub inside : (state number : ℕ) → numbers state ≡ Some number → (state < length old) × (number < length new)
   pub acts : (state number : ℕ) → numbers state ≡ Some number

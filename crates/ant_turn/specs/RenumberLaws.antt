@@ -1,4 +1,4 @@
--- A turn and its rounds play alike under new numbers of a side's states (the task's kinetics; renumbering is this
+-- Turns and rounds are the same under new numbers for a side's states (the task's kinetics; renumbering is this
 -- project's own).
 use Rattle.std.specs.Prelude.{◌≡◌, ℕ, List}
 use Rattle.cell_world.specs.declared.ant.Colour.{Colour}
@@ -9,9 +9,9 @@ use Rattle.ant_turn.specs.Renumber.{Numbers, Carries, AreNumbered, renumbered, r
 use Rattle.ant_turn.specs.Rounds.{Moment, after_rounds}
 use Rattle.ant_turn.specs.Turn.{turn}
 
--- where numbers carry a colour's brain over to another, and the state of each ant of that colour has a number, a turn
--- commutes with renumbering: it draws and kills as before, and its cells are the old turn's, renumbered; and it keeps
--- that premise
+-- if numbers turn a colour's brain into another one, and the state of each ant of that colour has a number, a turn
+-- commutes with renumbering: it draws and kills as before, its cells are the old turn's, renumbered, and each state
+-- still has a number
 pub record TurnsRenumber : Type 0 where
   pub commutes : (numbers : Numbers) (colour : Colour) (minds : Minds) (brain : List Instr) (seed : ℕ)
       (w : World) (place t : ℕ)
@@ -23,7 +23,7 @@ pub record TurnsRenumber : Type 0 where
       → Carries numbers (mind_of minds colour) brain → AreNumbered numbers colour w →
       AreNumbered numbers colour (with_cells w (turn minds seed w place t).cells)
 
--- so do any number of rounds: the moment after them is the old game's, renumbered, at the same place of the stream
+-- so does any number of rounds: the moment after them is the old game's, renumbered, at the same place of the stream
 pub record RoundsRenumber : Type 0 where
   pub commutes : (numbers : Numbers) (colour : Colour) (minds : Minds) (brain : List Instr) (seed : ℕ)
       (m : Moment) (r : ℕ)

@@ -10,7 +10,7 @@ pub record Moment : Type 0 where
   pub world : World
   pub place : ℕ
 
--- the moment that an outcome makes of one
+-- the moment after an outcome
 abbrev pub moment_after : Moment → Outcome → Moment
 moment_after m outcome = record {
   world = record m.world { cells = outcome.cells };

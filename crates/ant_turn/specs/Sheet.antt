@@ -2,8 +2,8 @@
 use Rattle.std.specs.Prelude.{ℕ}
 use Rattle.ant_turn.specs.declared.sheet.Sheet.{Sheet as GivenSheet}
 
--- how many foes at least surround an ant, how much food a killed ant leaves, and how many turns an ant rests after a
--- Move
+-- how many foes are needed to surround an ant, how much food a killed ant leaves, and how many turns an ant rests after
+-- a Move
 pub record Sheet : Type 0 where
   pub surround : ℕ
   pub corpse : ℕ
@@ -13,6 +13,6 @@ pub record Sheet : Type 0 where
 abbrev pub contest : Sheet
 contest = record { surround = 5; corpse = 3; rest = 14 }
 
--- the numbers of a sheet that is given
+-- the numbers of a given sheet
 abbrev pub sheet_of : GivenSheet → Sheet
 sheet_of given = record { surround = given.surround; corpse = given.corpse; rest = given.rest }

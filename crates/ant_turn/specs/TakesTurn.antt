@@ -1,4 +1,4 @@
--- A turn of an id, as it is taken over any ground (the task's kinetics; the room is this project's own).
+-- A turn of an id, taken over any ground (the task's kinetics; the room is this project's own).
 use Rattle.std.specs.Prelude.{◌≡◌, ℕ, ◌+◌, ◌≤◌}
 use Rattle.cell_world.specs.Cell.{one_if}
 use Rattle.cell_world.specs.Valid.{Valid}
@@ -8,8 +8,8 @@ use Rattle.ant_turn.specs.declared.turn.Deed.{Deed}
 use Rattle.ant_turn.specs.Minds.{Minds, Fits}
 use Rattle.ant_turn.specs.Turn.{turn}
 
--- the ground's world and the stream are as the turn of t leaves them, and the deed says the rest; at most nine of the
--- ground's room are taken, and it stays a world in which each ant's state is in its colour's brain
+-- the ground's world and the stream are as after the turn of t, and the deed says the rest; at most nine of the
+-- ground's room are used, and each ant's state stays in its colour's brain
 pub record TakesTurn (minds : Minds) (t : ℕ) (before after : World) (had left : ℕ) (s s' : SeedAndPlace)
     (deed : Deed) : Type 0 where
   pub world : after ≡ with_cells before (turn minds s.seed before s.place t).cells

@@ -18,7 +18,7 @@ use Rattle.ant_turn.specs.Kills.{check_all, killed_all, places_around}
 use Rattle.ant_turn.specs.Minds.{Minds, mind_of}
 use Rattle.ant_turn.specs.Sheet.{Sheet}
 
--- what a turn makes of the cells, whether it drew a random number, and the ants that it killed, in order
+-- the cells after a turn, whether it drew a random number, and the ants that it killed, in order
 pub record Outcome : Type 0 where
   pub cells : Cells
   pub drew : Bool
@@ -54,11 +54,11 @@ is_blocked cell = cell.rocky || is_some cell.ant
 abbrev pub left_by_ant : Cell → Cell
 left_by_ant cell = record cell { ant = None }
 
--- the ant when it has moved, in this state and resting
+-- the ant after it has moved, in this state and resting
 abbrev pub arrived : Sheet → Ant → ℕ → Ant
 arrived sheet ant next = record ant { state = next; resting = sheet.rest }
 
--- the cells when the ant of p has moved to q
+-- the cells after the ant at p has moved to q
 unfoldable pub stepped : Sheet → Cells → Pos → Ant → Pos → ℕ → Cells
 stepped sheet cells p ant q next =
     put_cell (put_cell cells p (record (cells p) { ant = None })) q (with_ant (cells q) (record ant { state = next; resting = sheet.rest }))
@@ -67,11 +67,11 @@ stepped sheet cells p ant q next =
 abbrev pub idle : Cells → Outcome
 idle cells = record { cells = cells; drew = false; killed = [] }
 
--- the cell of p becomes this one, and nothing else happens
+-- the cell at p becomes this one, and nothing else happens
 abbrev pub cell_becomes : Cells → Pos → Cell → Outcome
 cell_becomes cells p cell = record { cells = put_cell cells p cell; drew = false; killed = [] }
 
--- the ant of p becomes this one, and nothing else happens
+-- the ant at p becomes this one, and nothing else happens
 abbrev pub ant_becomes : Cells → Pos → Ant → Outcome
 ant_becomes cells p ant = cell_becomes cells p (with_ant (cells p) ant)
 
@@ -79,17 +79,17 @@ ant_becomes cells p ant = cell_becomes cells p (with_ant (cells p) ant)
 abbrev pub checked : Sheet → Cells → Pos → Outcome
 checked sheet cells q = record { cells = check_all sheet cells (places_around q); drew = false; killed = killed_all sheet cells (places_around q) }
 
--- what the ant of p does by its instruction, on these cells and at this place of a seed's stream
+-- what the ant at p does by its instruction, on these cells and at this place of a seed's stream
 abbrev pub execute : Sheet → ℕ → Cells → ℕ → Pos → Ant → Instr → Outcome
--- the state becomes met if the sensed cell meets the condition for the ant's colour, else unmet
+-- the state becomes met if the sensed cell meets the condition for the ant's colour, otherwise unmet
 execute sheet seed cells place p ant (Sense sight met unmet condition) =
     ant_becomes cells p (record ant { state = if meets (cells (sensed_pos p ant.facing sight)) condition ant.colour then met else unmet })
 -- the own colour's marker i is set on its own cell; the state becomes next
 execute sheet seed cells place p ant (Mark i next) = cell_becomes cells p (with_ant (marked (cells p) ant.colour i) (in_state ant next))
 -- the own colour's marker i is cleared on its own cell; the state becomes next
 execute sheet seed cells place p ant (Unmark i next) = cell_becomes cells p (with_ant (unmarked (cells p) ant.colour i) (in_state ant next))
--- if the ant carries food or its cell has none, the state becomes unmet; else one particle goes from the cell to the
--- ant and the state becomes met
+-- if the ant carries food or its cell has none, the state becomes unmet; otherwise one particle goes from the cell to
+-- the ant and the state becomes met
 execute sheet seed cells place p ant (PickUp met unmet) =
     cell_becomes cells p (if ant.laden || (cells p).food == 0
     then with_ant (cells p) (in_state ant unmet)
@@ -99,14 +99,14 @@ execute sheet seed cells place p ant (Drop next) =
     cell_becomes cells p (record (cells p) { food = (cells p).food + one_if ant.laden; ant = Some (record ant { laden = false; state = next }) })
 -- the direction turns Left or Right; the state becomes next
 execute sheet seed cells place p ant (Turn side next) = ant_becomes cells p (record ant { facing = turned_by ant.facing side; state = next })
--- if the cell ahead is rocky or holds an ant, the state becomes unmet; else the ant moves there, the state becomes met,
--- it rests, and the new cell and its six neighbours are checked
+-- if the cell ahead is rocky or holds an ant, the state becomes unmet; otherwise the ant moves there, the state becomes
+-- met, it rests, and the new cell and its six neighbours are checked
 execute sheet seed cells place p ant (Move met unmet) =
     let ahead = adjacent_pos p ant.facing in
     if (cells ahead).rocky || is_some (cells ahead).ant
     then ant_becomes cells p (in_state ant unmet)
     else checked sheet (stepped sheet cells p ant ahead met) ahead
--- one random number below the bound is drawn; the state becomes met if it is 0, else unmet
+-- one random number below the bound is drawn; the state becomes met if it is 0, otherwise unmet
 execute sheet seed cells place p ant (Flip bound met unmet) =
     record (ant_becomes cells p (record ant { state = if drawn seed place bound == 0 then met else unmet })) { drew = true }
 
@@ -114,8 +114,9 @@ execute sheet seed cells place p ant (Flip bound met unmet) =
 abbrev pub instruction_at : List Instr → ℕ → Instr
 instruction_at mind state = slice_index_or mind state (Drop 0)
 
--- the turn of the ant of p, by its resting count: where that is above 0, it falls by one and nothing else happens; else
--- the instruction at its state in its colour's brain is executed. Each state of an ant has one, so `Drop 0` never comes
+-- the turn of the ant at p, by its resting count: if that is above 0, it falls by one and nothing else happens;
+-- otherwise the instruction at its state in its colour's brain is executed. Each state of an ant has one, so `Drop 0`
+-- is never used
 abbrev pub acts : ℕ → Minds → ℕ → Cells → ℕ → Pos → Ant → Outcome
 acts zero minds seed cells place p ant =
     execute minds.sheet seed cells place p ant (slice_index_or (mind_of minds ant.colour) ant.state (Drop 0))
@@ -126,7 +127,7 @@ abbrev pub turn_at : Minds → ℕ → Cells → ℕ → Pos → Option Ant → 
 turn_at minds seed cells place p None = idle cells
 turn_at minds seed cells place p (Some ant) = acts ant.resting minds seed cells place p ant
 
--- the turn of an ant that stands somewhere, or is dead
+-- the turn of an ant at its place, if it has one; a dead ant has none
 abbrev pub turn_from : Minds → ℕ → Cells → ℕ → Option Pos → Outcome
 turn_from minds seed cells place None = idle cells
 turn_from minds seed cells place (Some p) = turn_at minds seed cells place p (cells p).ant

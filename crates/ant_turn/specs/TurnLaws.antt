@@ -21,12 +21,12 @@ abbrev pub TurnsKeep : Type 0
 TurnsKeep = (minds : Minds) (seed : ℕ) (w : World) (place t : ℕ) → AreSound minds → Valid w → Fits w minds
     → Keeps minds w (with_cells w (turn minds seed w place t).cells)
 
--- so do rounds
+-- rounds keep it too
 abbrev pub RoundsKeep : Type 0
 RoundsKeep = (minds : Minds) (seed : ℕ) (m : Moment) (r : ℕ) → AreSound minds → Valid m.world → Fits m.world minds
     → Keeps minds m.world (after_rounds minds seed m r).world
 
--- so many turns use from none to as many numbers
+-- a number of turns uses at most that number of random numbers
 abbrev pub TurnsDraw : Type 0
 TurnsDraw = (minds : Minds) (seed : ℕ) (m : Moment) (from n : ℕ)
     → (m.place ≤ (after_turns minds seed m from n).place) × ((after_turns minds seed m from n).place ≤ m.place + n)

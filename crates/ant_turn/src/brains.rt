@@ -6,8 +6,8 @@ use crate::sheet::Sheet;
 use brain_read::Brain;
 use cell_world::Colour;
 
-/// The brains of the two colours, and the sheet of the rules by which both play (the task's game play). The brains are
-/// lent: copies share them.
+/// The brains of the two colours, and the sheet of the rules for both (the task's game play). The brains are borrowed,
+/// so copies share them.
 #[derive(Clone, Copy)]
 pub struct Brains<'b> {
     /// The brain of the red ants.

@@ -11,7 +11,7 @@ use hex_geometry::Pos;
 
 /// Whether the cell at `p`, which is inside, meets a condition for an ant of this colour (the task's phenomenology).
 ///
-/// A marker of 6 or above is never set. The ground's world and room stay.
+/// A marker of 6 or above is never set. The ground's world and room are unchanged.
 pub fn matches<G: Ground>(ground: &mut G, p: Pos, cond: Cond, colour: Colour) -> bool
     requires { IsInside (G.world ground.old).width (G.world ground.old).height p }
     ensures matches { result ≡ condition.matches_at (G.world ground.old) p cond colour }
@@ -63,7 +63,7 @@ fn clear_meets(cell: &Cell, cond: Cond, colour: Colour) -> bool
     }
 }
 
-// Whether the marker of this number is set. None from 6 on is.
+// Whether the marker with this number is set; false for 6 and above.
 #[inline]
 fn is_marked(marks: Marks, mark: u8) -> bool
     ensures { result ≡ has_mark marks mark }
@@ -71,7 +71,7 @@ fn is_marked(marks: Marks, mark: u8) -> bool
     mark < 6 && marks.has(mark)
 }
 
-// Whether an ant that carries food is on the cell.
+// Whether the cell holds an ant that carries food.
 #[inline]
 fn is_laden(cell: &Cell) -> bool
     ensures { result ≡ condition.is_laden cell.now.ant }

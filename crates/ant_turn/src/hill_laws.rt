@@ -6,13 +6,13 @@ pub fn turns_keep_hills()
     ensures { TurnsKeepHills }
 {}
 
-/// A law: so does any number of rounds (the task's geography).
+/// A law: any number of rounds keeps them too (the task's geography).
 pub fn rounds_keep_hills()
     ensures { RoundsKeepHills }
 {}
 
-/// A law: at every round a game's world has as many ids as hill cells, since it had them at the start: each hill cell
-/// was born with an ant (the task's geography and biology).
+/// A law: in every round a game's world has as many ids as hill cells, as at the start, where each hill cell had an ant
+/// (the task's geography and biology).
 pub fn games_keep_hills()
     ensures { GamesKeepHills }
 {}

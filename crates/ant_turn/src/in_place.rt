@@ -18,12 +18,13 @@ use ant_random::Stream;
 use brain_read::Instr;
 use cell_world::{Ant, Cell};
 
-/// How the turn of an ant that doesn't move changes its own cell (the task's kinetics; the pair is this project's own).
+/// How the turn of an ant that doesn't move changes its own cell (the task's kinetics; the struct is this project's
+/// own).
 #[derive(Clone, Copy)]
 pub struct InPlace {
     /// The cell after the turn, with the ant.
     pub cell: Cell,
-    /// Whether a random number was drawn, as by each Flip and by nothing else.
+    /// Whether a random number was drawn: true for each Flip, and for nothing else.
     pub drew: bool,
 }
 
@@ -36,10 +37,10 @@ fn undrawn(cell: Cell) -> InPlace
     InPlace { cell, drew: false }
 }
 
-/// The instruction of an ant that doesn't move, executed on its own cell (the task's kinetics). Of a Move onto a
-/// blocked cell that is the new state only; of any other instruction it is everything. Whatever the other cells are,
-/// and wherever the ant is, the instruction replaces its cell by the returned one; nothing else changes, and no ant is
-/// killed.
+/// Executes the instruction of an ant that doesn't move, on its own cell (the task's kinetics). For a Move onto a
+/// blocked cell, that only changes the state; for any other instruction it is the whole effect. Wherever the ant is and
+/// whatever the other cells are, the instruction replaces its cell by the returned one. Nothing else changes, and no
+/// ant is killed.
 ///
 /// `own` is the ant's cell, with food as on a cell of a world. `seen` is the cell that the ant senses, if the
 /// instruction is a Sense; otherwise it may be any cell. The instruction is sound. The stream is below 2^63 - 1; it

@@ -1,4 +1,4 @@
-// The ants that are killed in a turn, noted if the caller asks for it.
+// The ants that are killed in a turn, noted if the caller requests it.
 ghost use Rattle.std.specs.Prelude.{◌≡◌, ◌+◌, ◌≤◌, ℕ, List, [], ◌∷◌, Option, Some};
 ghost use Rattle.cell_world.specs.declared.ant.PlacedAnt.{PlacedAnt};
 ghost use Rattle.ant_turn.specs.Deaths.{with_noted};
@@ -6,16 +6,16 @@ ghost use Rattle.ant_turn.specs.Deaths.{with_noted};
 use arrayvec::ArrayVec;
 use cell_world::PlacedAnt;
 
-/// What notes the ants that are killed in a turn, each where and as it stood when it was killed (the task's martial
-/// arts). A turn needs room for 7.
+/// Notes the ants that are killed in a turn, each with its position and as it was when it was killed (the task's
+/// martial arts). A turn needs room for 7.
 pub trait KillLog {
-    /// Those that it has noted, where it tells them; each is there.
+    /// The ants that it has noted, if it reports them; each entry is an ant.
     ghost noted: { Self → Option (List (Option PlacedAnt)) };
 
     /// For how many more it has room.
     ghost room: { Self → ℕ };
 
-    /// Notes one more, after the others.
+    /// Notes one more ant, after the others.
     fn note(&mut self, killed: PlacedAnt)
         requires { 1 ≤ room self.old }
         ensures noted { noted self.new ≡ with_noted (Some killed ∷ []) (noted self.old) }
@@ -37,7 +37,7 @@ impl KillLog for NoKillLog {
     fn note(&mut self, _killed: PlacedAnt) {}
 }
 
-/// It has room for the killed of one turn.
+/// It has room for the ants killed in one turn.
 impl KillLog for ArrayVec<Option<PlacedAnt>, 7> {
     ghost use Rattle.std.specs.Prelude.{◌-◌, Some};
     ghost use Rattle.arrayvec.specs.ArrayVec.{array_vec_len};

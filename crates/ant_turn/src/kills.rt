@@ -17,10 +17,10 @@ use arrayvec::ArrayVec;
 use cell_world::{Ant, Cell, Ground, PlacedAnt};
 use hex_geometry::{Pos, neighbours};
 
-/// Whether an ant is at `p` and at least as many of the six neighbours have foes of it as the sheet requires (the
+/// Whether an ant is at `p` and at least as many of its six neighbours hold foes of it as the sheet requires (the
 /// task's martial arts).
 ///
-/// The position is inside and not on the rim. The ground's world and room stay unchanged.
+/// The position is inside and not on the rim. The ground's world and room are unchanged.
 pub fn surrounded<G: Ground>(ground: &mut G, sheet: Sheet, p: Pos) -> bool
     requires { IsInner (G.world ground.old).width (G.world ground.old).height p }
     ensures surrounded { result ≡ kill.is_surrounded (sheet_of sheet) (G.world ground.old).cells p }
@@ -35,12 +35,12 @@ pub fn surrounded<G: Ground>(ground: &mut G, sheet: Sheet, p: Pos) -> bool
     has_foes(ground, p, &ant, sheet.surround())
 }
 
-/// Checks `p` and then its six neighbours in the order of directions: an ant that is surrounded when its cell is
-/// checked is killed, and leaves the sheet's corpse of food there, and the particle that it carried (the task's martial
+/// Checks `p` and then its six neighbours in the order of directions. An ant that is surrounded when its cell is
+/// checked is killed, and leaves there the sheet's corpse of food and the particle that it carried (the task's martial
 /// arts; the order is this project's own).
 ///
-/// The position is inside and not on the rim, and the ground has room for 7 cells. Gives the ids of the killed, in the
-/// order of the checks. No other cell changes.
+/// The position is inside and not on the rim, and the ground has room for 7 cells. It returns the ids of the killed
+/// ants, in the order of the checks. No other cell changes.
 #[inline(always)]
 pub fn check_around<G: Ground>(ground: &mut G, sheet: Sheet, p: Pos) -> ArrayVec<u32, 7>
     requires inner { IsInner (G.world ground.old).width (G.world ground.old).height p }
@@ -53,7 +53,7 @@ pub fn check_around<G: Ground>(ground: &mut G, sheet: Sheet, p: Pos) -> ArrayVec
     kill_around(ground, sheet, p, &mut NoKillLog)
 }
 
-// The same checks, whose killed are noted, each where and as it stood when its cell was checked.
+// The same checks, and each killed ant is noted with its position and as it was when its cell was checked.
 #[inline(always)]
 pub(crate) fn kill_around<G: Ground, N: KillLog>(
     ground: &mut G,
@@ -79,8 +79,8 @@ pub(crate) fn kill_around<G: Ground, N: KillLog>(
     killed
 }
 
-// The check of one cell: where its ant is surrounded, kills it and adds it to the killed. Most checked cells hold no
-// ant, so it is part of the loop over rounds and ids, and the count of foes alone is a call.
+// The check of one cell: if its ant is surrounded, kills it and adds it to the killed. Most checked cells hold no ant,
+// so this is part of the loop over rounds and ids, and only the count of foes is a call.
 #[inline(always)]
 fn check<G: Ground, N: KillLog>(
     ground: &mut G,
@@ -112,7 +112,7 @@ fn check<G: Ground, N: KillLog>(
     }
 }
 
-// Whether the ant at `p` has foes on at least so many of the six neighbours.
+// Whether the ant at `p` has foes on at least this number of its six neighbours.
 #[inline(never)]
 fn has_foes<G: Ground>(ground: &mut G, p: Pos, ant: &Ant, surround: u8) -> bool
     requires valid { Valid (G.world ground.old) }
@@ -137,7 +137,7 @@ fn has_foes<G: Ground>(ground: &mut G, p: Pos, ant: &Ant, surround: u8) -> bool
     true
 }
 
-// The cell when its ant was killed.
+// The cell after its ant was killed.
 #[inline]
 #[tactic(auto, unfolding(cell_world::specs::Limits::most_weight))]
 fn after_kill(sheet: Sheet, cell: &Cell, ant: &Ant) -> Cell

@@ -5,9 +5,9 @@
 //! definition of a turn gives. `after_turns` and `after_rounds` of the definitions are such turns one after another, as
 //! a game plays them. The laws state in the task's own words what turns do: food is kept except for corpses; the killed
 //! ants are gone, and no others; a turn changes only what is near. Three numbers of the rules can be set, which is this
-//! project's own, by a `Sheet` that goes with the brains: how many foes surround an ant, how much food a killed ant
-//! leaves, and how long an ant rests. `Sheet::contest` has the task's numbers; every law holds for every sheet. No call
-//! takes memory or fails. This crate depends on `brain_read`, `cell_world` and `ant_random`.
+//! project's own, by a `Sheet` that is passed with the brains: how many foes surround an ant, how much food a killed
+//! ant leaves, and how long an ant rests. `Sheet::contest` has the task's numbers; every law holds for every sheet. No
+//! call takes memory or fails. This crate depends on `brain_read`, `cell_world` and `ant_random`.
 #![tactic(auto)]
 
 mod brains;

@@ -1,4 +1,4 @@
-// Ants and cells as a turn leaves them.
+// Ants and cells after a turn.
 ghost use Rattle.std.specs.Prelude.{◌≡◌, ◌<◌, ◌≤◌, ◌+◌, ◌-◌, ◌||◌, ◌==◌, if◌then◌else◌, Some, true, false};
 ghost use Rattle.hex_geometry.specs.Direction.{turned_by};
 ghost use Rattle.cell_world.specs.Cell.{one_if};
@@ -18,7 +18,7 @@ pub(crate) fn in_state(ant: Ant, state: u16) -> Ant
     Ant { state, ..ant }
 }
 
-// The ant when it has rested for a turn.
+// The ant after it has rested for a turn.
 #[inline]
 pub(crate) fn ant_after_rest(ant: Ant) -> Ant
     requires { 1 ≤ ant.resting }
@@ -30,7 +30,7 @@ pub(crate) fn ant_after_rest(ant: Ant) -> Ant
     }
 }
 
-// The ant after a Sense or a Flip: it goes on in one of two states.
+// The ant after a Sense or a Flip: its state is one of the two.
 #[inline]
 pub(crate) fn ant_after_branch(ant: Ant, first: bool, met: u16, unmet: u16) -> Ant
     ensures { result ≡ turn.in_state ant (if first then met else unmet) }
@@ -158,7 +158,7 @@ pub(crate) fn cell_without_ant(cell: &Cell) -> Cell
     Cell { ant: None, ..*cell }
 }
 
-// The cell onto which an ant has stepped.
+// The cell after an ant has stepped onto it.
 #[inline]
 pub(crate) fn cell_after_arrival(sheet: Sheet, cell: &Cell, ant: Ant, next: u16) -> Cell
     ensures { result ≡ turn.with_ant cell.now (turn.arrived (sheet_of sheet) ant next) }

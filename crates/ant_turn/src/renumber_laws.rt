@@ -10,7 +10,7 @@ pub fn turns_renumber()
     ensures { TurnsRenumber }
 {}
 
-/// A law: any number of rounds commutes with new numbers of one side's states, under the premises of a turn, and ends
+/// A law: any number of rounds commutes with new numbers for one side's states, under the premises of a turn, and ends
 /// at the same place of the stream (the task's kinetics).
 pub fn rounds_renumber()
     ensures { RoundsRenumber }

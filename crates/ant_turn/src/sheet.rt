@@ -1,9 +1,9 @@
 // The numbers of the rules that a game may set.
 ghost use Rattle.std.specs.Prelude.{◌≤◌};
 
-/// The numbers of the rules that a game may set (this project's own; the task's martial arts and kinetics have 5, 3 and
-/// 14): how many foes surround an ant, from 4 to 6; how many food particles a killed ant leaves besides the one that it
-/// carried, at most 9; and for how many turns an ant rests after a Move that went, from 0 to 255.
+/// The numbers of the rules that a game may set (this project's own; in the task's martial arts and kinetics they are
+/// 5, 3 and 14): how many foes surround an ant, from 4 to 6; how many food particles a killed ant leaves besides the
+/// one that it carried, at most 9; and for how many turns an ant rests after a Move that succeeded, from 0 to 255.
 #[derive(Clone, Copy)]
 pub struct Sheet {
     surround: u8,
@@ -42,8 +42,7 @@ impl Sheet {
         Sheet::new(5, 3, 14)
     }
 
-    /// How many of the six neighbours of an ant must hold foes so that it is surrounded: from 4 to 6 (the task's
-    /// martial arts).
+    /// How many of the six neighbours of an ant must hold foes to surround it: from 4 to 6 (the task's martial arts).
     #[inline]
     pub fn surround(&self) -> u8
         ensures { result ≡ (sheet_of self.now).surround }
@@ -60,7 +59,7 @@ impl Sheet {
         self.corpse
     }
 
-    /// For how many turns an ant rests after a Move that went: from 0 to 255 (the task's kinetics).
+    /// For how many turns an ant rests after a Move that succeeded: from 0 to 255 (the task's kinetics).
     #[inline]
     pub fn rest(&self) -> u8
         ensures { result ≡ (sheet_of self.now).rest }

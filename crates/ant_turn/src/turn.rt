@@ -27,17 +27,17 @@ use brain_read::Instr;
 use cell_world::{Ant, Cell, Ground, PlacedAnt};
 use hex_geometry::{Pos, adjacent, sensed};
 
-/// What a turn did besides changing the ground (this project's own; the draw and the kills are the task's number
-/// generation and martial arts).
+/// What a turn did besides changing the ground (this project's own; the draw and the kills are those of the task's
+/// number generation and martial arts).
 #[derive(Drop)]
 pub struct Deed {
-    /// Whether a random number was drawn, as by each Flip and by nothing else.
+    /// Whether a random number was drawn: true for each Flip, and for nothing else.
     pub drew: bool,
     /// The ids of the killed ants, counted from 0, in the order of the checks: at most 7, each once.
     pub killed: ArrayVec<u32, 7>,
 }
 
-// Nothing is drawn, and nobody is killed.
+// Nothing is drawn, and no ant is killed.
 #[inline]
 fn idle() -> Deed
     ensures drew { result.drew ≡ false }
@@ -67,7 +67,7 @@ fn stay<G: Ground>(ground: &mut G, p: Pos, cell: Cell) -> Deed
     idle()
 }
 
-// Gives the ant of `p` the state, the rest and the direction of this one.
+// Gives the ant at `p` the state, the rest and the direction of this ant.
 #[inline]
 fn think<G: Ground>(ground: &mut G, p: Pos, ant: Ant) -> Deed
     requires { CanThink (G.world ground.old) (G.room ground.old) p ant }
@@ -81,7 +81,7 @@ fn think<G: Ground>(ground: &mut G, p: Pos, ant: Ant) -> Deed
     idle()
 }
 
-// The ant steps from its place onto `q`, and surrounded ants are checked around `q`.
+// Moves the ant from its place onto `q`, and checks for surrounded ants around `q`.
 #[inline(always)]
 fn step<G: Ground, N: KillLog>(
     ground: &mut G,
@@ -209,7 +209,7 @@ fn execute<G: Ground>(
 }
 
 /// Takes the turn of an ant that was found at its place and doesn't rest: executes the instruction of its state (the
-/// task's kinetics). `take_turn` is the same by an id.
+/// task's kinetics). `take_turn` does the same for an id.
 #[inline(always)]
 pub fn act<G: Ground>(
     ground: &mut G,
@@ -230,8 +230,8 @@ pub fn act<G: Ground>(
     execute(ground, brains.sheet, stream, standing, instruction)
 }
 
-/// The same, and notes each killed ant in the order of the checks, where and as it stood when it was killed. The acting
-/// ant has moved to the cell ahead by then (the task's martial arts). `notes` has room for 7.
+/// The same, and notes each killed ant in the order of the checks, with its position and as it was when it was killed.
+/// The acting ant has moved to the cell ahead by then (the task's martial arts). `notes` has room for 7.
 #[inline(always)]
 pub fn take_turn_noting_kills<G: Ground, N: KillLog>(
     ground: &mut G,
@@ -258,13 +258,13 @@ pub fn take_turn_noting_kills<G: Ground, N: KillLog>(
     }
 }
 
-/// Takes the turn of the ant of this id (the task's kinetics). A dead ant does nothing. A resting ant rests one turn
+/// Takes the turn of the ant with this id (the task's kinetics). A dead ant does nothing. A resting ant rests one turn
 /// less. Any other ant executes the instruction at its state in its colour's brain, by the rules with the numbers of
 /// the brains' sheet.
 ///
 /// The id is below the number of ids. Each ant's state is below the length of its colour's brain, and stays so. The
 /// stream is below 2^63 - 1; it advances by one number if a Flip was executed, and not otherwise. The ground has room
-/// for 9 cells. It returns what was done besides.
+/// for 9 cells. The result says what else was done.
 #[inline(always)]
 pub fn take_turn<G: Ground>(
     ground: &mut G,

@@ -21,32 +21,32 @@ pub fn rounds_keep()
     ensures { RoundsKeep }
 {}
 
-/// A law: any number of turns takes the place in the stream on by at most that number, and never back (the task's
-/// kinetics).
+/// A law: any number of turns advances the place in the stream by at most that number, and never moves it back (the
+/// task's kinetics).
 pub fn turns_draw()
     ensures { TurnsDraw }
 {}
 
-/// A law: a turn makes no food and loses none, lying and carried, but that each killed ant leaves the sheet's corpse
+/// A law: a turn neither makes nor loses food, lying and carried, except that each killed ant leaves the sheet's corpse
 /// (the task's martial arts).
 pub fn turns_keep_food()
     ensures { TurnsKeepFood }
 {}
 
-/// A law: a turn changes a world's weight by its kills alone: each killed ant weighed 9, beside the particle that it
-/// carried, and leaves that and the sheet's corpse, at most 9, so that each takes the difference away, which is 6 under
-/// the contest's sheet (the task's martial arts; the weight is this project's own).
+/// A law: a turn changes a world's weight only by its kills. A killed ant weighed 9, besides the particle that it
+/// carried; it leaves that particle and the sheet's corpse, at most 9. So each kill removes the difference, which is 6
+/// with the contest's sheet (the task's martial arts; the weight is this project's own).
 pub fn turns_keep_weight()
     ensures { TurnsKeepWeight }
 {}
 
-/// A law: as many ants fewer are alive after a turn as it killed (the task's martial arts).
+/// A law: a turn lowers the number of living ants by the number of those that it killed (the task's martial arts).
 pub fn turns_keep_ants()
     ensures { TurnsKeepAnts }
 {}
 
-/// A law: over any number of rounds the food of a world, and a corpse of the sheet for each ant that is alive, together
-/// stay the same (the task's martial arts).
+/// A law: any number of rounds keeps the sum of the food of a world and a corpse of the sheet for each living ant (the
+/// task's martial arts).
 pub fn rounds_keep_food()
     ensures { RoundsKeepFood }
 {}
@@ -57,21 +57,21 @@ pub fn turns_kill_alone()
     ensures { TurnsKillAlone }
 {}
 
-/// A law: the turn of a dead ant changes nothing, and that of a resting ant its resting count alone; neither uses a
+/// A law: the turn of a dead ant changes nothing, and that of a resting ant only its resting count; neither uses a
 /// random number (the task's kinetics).
 pub fn idle_turns()
     ensures { IdleTurns }
 {}
 
-/// A law: some turns and then the next ones are all of them, and so with rounds (the task's kinetics).
+/// A law: some turns and then the next ones are the same as all of them, and so for rounds (the task's kinetics).
 pub fn turns_follow()
     ensures { TurnsFollow }
 {}
 
 /// A law: the turn of an ant changes no cell except its own, the one ahead of it and the six around that one. If it
-/// doesn't move, only its own changes; if it moves, only its own, the one onto which it steps and those from which an
-/// ant was killed. An ant that survives is where it was or on the cell ahead. No marker changes except the own colour's
-/// on the own cell (the task's kinetics and chemistry).
+/// doesn't move, only its own changes. If it moves, only its own changes, the one onto which it steps, and those on
+/// which an ant was killed. An ant that survives is where it was or on the cell ahead. No marker changes except the own
+/// colour's on the own cell (the task's kinetics and chemistry).
 pub fn turns_are_near()
     ensures { TurnsAreNear }
 {}

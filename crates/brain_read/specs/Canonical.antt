@@ -1,4 +1,4 @@
--- The canonical text of a brain; the clauses of `write_brain` rest on it (this project's own).
+-- The canonical text of a brain, as the clauses of `write_brain` use it (this project's own).
 use Rattle.std.specs.Prelude.{ℕ, List, [], ◌∷◌, codes, flat_map}
 use Rattle.ant_base.specs.Layout.{◌+++◌}
 use Rattle.brain_read.specs.declared.instr.Instr.{Instr}
@@ -9,12 +9,12 @@ use Rattle.brain_read.specs.Forms.{fields_of}
 unfoldable pub instruction_text : Instr → List ℕ
 instruction_text instruction = line_text (fields_of instruction)
 
--- further tokens, a space before each
+-- further tokens, each after a space
 abbrev pub further_words : List LineField → List ℕ
 further_words [] = []
 further_words (field ∷ fields) = codes " " +++ field_text field +++ further_words fields
 
--- tokens, one space between them
+-- tokens with one space between them
 abbrev pub words_text : List LineField → List ℕ
 words_text [] = []
 words_text (field ∷ fields) = field_text field +++ further_words fields

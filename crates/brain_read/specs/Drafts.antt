@@ -1,5 +1,5 @@
--- Instructions as they were read, before their states are held against the number of instructions; the clauses of
--- `Draft` and `read_instruction` rest on it (this project's own).
+-- Instructions as they were read, before their states are checked against the number of instructions, as the clauses of
+-- `Draft` and `read_instruction` use them (this project's own).
 use Rattle.std.specs.Prelude.{ℕ, Option, Some, None, Result, Ok, Err}
 use Rattle.brain_read.specs.Faulty.{first_not_below}
 use Rattle.brain_read.specs.Grammar.{states_of}
@@ -9,7 +9,7 @@ use Rattle.brain_read.specs.declared.instr.Instr.{Instr}
 use Rattle.brain_read.specs.declared.instr.Instr.TheVariants.{Sense, Mark, Unmark, PickUp, Drop, Turn, Move, Flip}
 use Rattle.line_tokens.specs.Steps.{Read}
 
--- the instruction of a draft, with states of any size
+-- the instruction of a draft; its states may be of any size
 abbrev pub drafted : Draft → Instr
 drafted (Draft.Sense sight met unmet condition) = Sense sight met unmet condition
 drafted (Draft.Mark i next) = Mark i next
@@ -20,16 +20,16 @@ drafted (Draft.Turn side next) = Turn side next
 drafted (Draft.Move met unmet) = Move met unmet
 drafted (Draft.Flip bound met unmet) = Flip bound met unmet
 
--- what a reader of a line answered
+-- what reading a line returned
 abbrev pub as_read : Result Draft Refusal → Read Instr
 as_read (Ok draft) = Ok (drafted draft)
 as_read (Err refusal) = Err refusal
 
--- an instruction, unless there is a state that it may not name
+-- an instruction, or the state that it may not name
 abbrev pub or_state : Option ℕ → Instr → Result Instr ℕ
 or_state None instruction = Ok instruction
 or_state (Some state) instruction = Err state
 
--- an instruction whose states are below n, or the first of them that isn't
+-- an instruction whose states are below n, or the first state that isn't
 abbrev pub draft_settled : ℕ → Instr → Result Instr ℕ
 draft_settled n instruction = or_state (first_not_below n (states_of instruction)) instruction

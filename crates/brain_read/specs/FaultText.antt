@@ -1,4 +1,4 @@
--- What the faults of a brain's text say (this project's own).
+-- The texts of the faults of a brain's text (this project's own).
 use Rattle.std.specs.Prelude.{ℕ, List, codes, decimal}
 use Rattle.ant_base.specs.Layout.{◌+++◌}
 use Rattle.ant_base.specs.FaultText.{line_says, memory_text}
@@ -7,7 +7,7 @@ use Rattle.line_tokens.specs.declared.refusal.LineFault.TheVariants as line_faul
 use Rattle.brain_read.specs.declared.fault.BrainFault.{BrainFault}
 use Rattle.brain_read.specs.declared.fault.BrainFault.TheVariants.{BadByte, UnknownWord, MissingToken, BadNumber, ExtraToken, TooMany, Empty, NoSuchState, OutOfMemory}
 
--- what a brain's fault says
+-- the text of a brain's fault
 abbrev pub brain_fault_text : BrainFault → List ℕ
 brain_fault_text (BadByte line) = line_says line bad_byte_text
 brain_fault_text (UnknownWord line) = line_says line (line_fault_text line_fault.UnknownWord)

@@ -1,4 +1,4 @@
--- What is wrong with a text that is no brain's (this project's own).
+-- What is wrong with a text that is not a brain (this project's own).
 use Rattle.std.specs.Prelude.{◌≡◌, ℕ, ◌≤◌, not, nat_lt, List, [], ◌∷◌, ◌++◌, length, find, Option, Some}
 use Rattle.std.specs.Option.{option_or}
 use Rattle.line_tokens.specs.Faulty.{too_many, HasLineFault}
@@ -12,7 +12,7 @@ use Rattle.brain_read.specs.Forms.{InstrLine}
 use Rattle.line_tokens.specs.TokenLines.{TokenLine, lines_with_tokens}
 use Rattle.brain_read.specs.Grammar.{AreLines, states_of, StatesBelow}
 
--- the fault of a line before which so many instructions stand
+-- the fault of a line after this many instructions
 abbrev pub line_fault : ℕ → TokenLine → Option BrainFault
 line_fault before line =
     option_or (too_many most_states TooMany before line.number) (first_fault line.number line.tokens (FormToken ∷ []))
@@ -21,8 +21,7 @@ line_fault before line =
 abbrev pub first_not_below : ℕ → List ℕ → Option ℕ
 first_not_below n states = find (λ state. not (nat_lt state n)) states
 
--- no line is at fault, and one names a state that isn't below the number of instructions, the first such; no line
--- before it does
+-- no line is at fault, and this is the first line that names a state that isn't below the number of instructions
 pub record HasNoSuchState (text : List ℕ) (fault : BrainFault) : Type 0 where
   pub before : List TokenLine
   pub line : TokenLine
@@ -39,7 +38,8 @@ pub record HasNoSuchState (text : List ℕ) (fault : BrainFault) : Type 0 where
   pub wrong : first_not_below (length (lines_with_tokens text)) (states_of instruction) ≡ Some state
   pub is : fault ≡ NoSuchState line.number state
 
--- the fault of a text: its first line at fault has it, or it has no instruction, or it names a state that there isn't
+-- the fault of a text: that of its first line at fault; or it has no instruction; or it names a state that doesn't
+-- exist
 pub data IsBrainFault (text : List ℕ) (fault : BrainFault) : Type 0 where
   OfLine : HasLineFault InstrLine line_fault most_states text fault → IsBrainFault text fault
   OfNothing : lines_with_tokens text ≡ [] → fault ≡ Empty → IsBrainFault text fault

@@ -1,4 +1,4 @@
--- The words and the forms of the language; the clauses of the public calls rest on them (the task's neurology).
+-- The words and the forms of the language, as the clauses of the public calls use them (the task's neurology).
 use Rattle.std.specs.Prelude.{ℕ, ◌≤◌, ◌<◌, List, [], ◌∷◌, map, codes}
 use Rattle.std.specs.List.{AllZip}
 use Rattle.hex_geometry.specs.declared.direction.Side.{Side}
@@ -112,7 +112,7 @@ fields_of (Turn side next) = Word (codes "Turn") ∷ Word (word_of_side side) �
 fields_of (Move met unmet) = Word (codes "Move") ∷ Number met ∷ Number unmet ∷ []
 fields_of (Flip bound met unmet) = Word (codes "Flip") ∷ Number bound ∷ Number met ∷ Number unmet ∷ []
 
--- the largest bound, the last value of a u32
+-- the largest bound, the largest u32
 abbrev pub most_bound : ℕ
 most_bound = 4294967295
 
@@ -129,7 +129,7 @@ IsInRange (Unmark i next) = i < 6
 IsInRange (Flip bound met unmet) = (1 ≤ bound) × (bound ≤ 4294967295)
 IsInRange _ = Unit {0}
 
--- the tokens of a line are those of an instruction
+-- the tokens of a line spell an instruction
 pub record InstrLine (tokens : List (List ℕ)) (instruction : Instr) : Type 0 where
   pub spelled : AllZip Spells (fields_of instruction) tokens
   pub in_range : IsInRange instruction

@@ -8,7 +8,7 @@ use Rattle.brain_read.specs.declared.instr.Instr.{Instr}
 use Rattle.brain_read.specs.declared.instr.Instr.TheVariants.{Sense, Mark, Unmark, PickUp, Drop, Turn, Move, Flip}
 use Rattle.brain_read.specs.Forms.{InstrLine}
 
--- the lines are those of the instructions
+-- the lines spell the instructions, one each
 abbrev pub AreLines : List TokenLine → List Instr → Type 0
 AreLines lines list = AreLinesOf InstrLine lines list
 
@@ -27,7 +27,7 @@ states_of (Flip bound met unmet) = met ∷ unmet ∷ []
 abbrev pub StatesBelow : ℕ → List Instr → Type 0
 StatesBelow n list = AllByRecursion (λ instruction. AllByRecursion (λ state. state < n) (states_of instruction)) list
 
--- the text is that of the brain: its lines that have a token are one instruction each, in order; there are 1 to 10,000
+-- the text is that of the brain: each of its lines that has a token is one instruction, in order; there are 1 to 10,000
 -- instructions; and each state that one names is below their number
 pub record IsBrainText (text : List ℕ) (brain : List Instr) : Type 0 where
   pub lines : AllZip InstrLine (filter has_any (map tokens_of (lines_of text))) brain

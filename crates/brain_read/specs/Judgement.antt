@@ -1,5 +1,4 @@
--- Which position of a line is at fault; the clauses of `read_brain` rest on it (this project's own: the rule of
--- faults).
+-- Which position of a line is at fault, as the clauses of `read_brain` use it (this project's own: the rule of faults).
 use Rattle.std.specs.Prelude.{ℕ, List, [], ◌∷◌, ◌++◌, Option, Some, None, option_map, if◌then◌else◌}
 use Rattle.ant_base.specs.Number.{decimal_value, number_within}
 use Rattle.line_tokens.specs.Judgement.{nothing_more, judged}
@@ -11,7 +10,7 @@ use Rattle.line_tokens.specs.Tokens.{has_bad_byte}
 use Rattle.line_tokens.specs.Fields.{named}
 use Rattle.brain_read.specs.Forms.{word_of_form, word_of_sight, word_of_side, word_of_condition, forms, sights, sides, conditions, most_bound}
 
--- what is wanted at a place of a line
+-- what a position of a line needs
 pub data Position : Type 0 where
   FormToken SightToken SideToken ConditionToken MarkerToken StateToken BoundToken : Position
 
@@ -31,7 +30,7 @@ abbrev pub positions_of_condition : ConditionWord → List Position
 positions_of_condition ConditionWord.Marker = MarkerToken ∷ []
 positions_of_condition _ = []
 
--- the positions that the token brings, where its position accepts it
+-- the positions that the token adds, if its position accepts it
 abbrev pub accepted : Position → List ℕ → Option (List Position)
 accepted FormToken token = option_map positions_of (named word_of_form forms token)
 accepted SightToken token = option_map nothing_more (named word_of_sight sights token)
@@ -51,9 +50,9 @@ fault_of MarkerToken line = BadNumber line
 fault_of StateToken line = BadNumber line
 fault_of BoundToken line = BadNumber line
 
--- The fault of the first position at fault, if there is one. The positions are judged from the left: one without a
--- token is MissingToken, a token with a bad byte is BadByte, one that its position doesn't accept has that position's
--- fault, and one beyond the last position is ExtraToken.
+-- The fault of the first position at fault, if there is one. The positions are judged from the left. One without a
+-- token is MissingToken, a token with a bad byte is BadByte, a token that its position doesn't accept has that
+-- position's fault, and a token after the last position is ExtraToken.
 abbrev pub first_fault : ℕ → List (List ℕ) → List Position → Option BrainFault
 first_fault line [] [] = None
 first_fault line [] (position ∷ positions) = Some (MissingToken line)

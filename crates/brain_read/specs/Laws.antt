@@ -1,4 +1,4 @@
--- What holds of all texts of brains (this project's own).
+-- Laws of the texts of brains (this project's own).
 use Rattle.std.specs.Prelude.{◌≡◌, ◌⊎◌, ℕ, List}
 use Rattle.std.specs.List.{AllByRecursion}
 use Rattle.brain_read.specs.declared.fault.BrainFault.{BrainFault}
@@ -19,16 +19,16 @@ pub record OneBrainOrOneFault : Type 0 where
   pub never_both : (text : List ℕ) (brain : List Instr) (fault : BrainFault) → IsBrainText text brain
       → IsBrainFault text fault → ⊥
 
--- the canonical text of a brain, whose bounds are at most the largest, is a text of that brain
+-- the canonical text of a brain whose bounds are at most the largest is a text of that brain
 abbrev pub CanonicalTextIsRead : Type 0
 CanonicalTextIsRead =
     (brain : List Instr) → IsBrain brain → AllByRecursion HasBound brain → IsBrainText (brain_text brain) brain
 
--- what a text is the text of is a brain: 1 to 10,000 instructions, whose states are below their number, whose markers
+-- whatever a text is a text of is a brain: 1 to 10,000 instructions, whose states are below their number, whose markers
 -- are below 6 and whose bounds are at least 1
 abbrev pub TextsMakeBrains : Type 0
 TextsMakeBrains = (text : List ℕ) (brain : List Instr) → IsBrainText text brain → IsBrain brain
 
--- out of memory is no text's fault
+-- out of memory is never the fault of a text
 abbrev pub NoTextWantsMemory : Type 0
 NoTextWantsMemory = (text : List ℕ) → ¬ IsBrainFault text OutOfMemory

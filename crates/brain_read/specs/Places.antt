@@ -1,4 +1,4 @@
--- What stands at each place of the tables of words. The clauses of `positions` and `form_at` rest on it; those of
+-- The meaning of each place of the tables of words. The clauses of `positions` and `form_at` use it; those of
 -- `read_brain` and `write_brain` don't (this project's own).
 use Rattle.std.specs.Prelude.{ℕ, if◌then◌else◌, ◌==◌}
 use Rattle.hex_geometry.specs.declared.direction.Side.{Side}
@@ -22,7 +22,7 @@ sight_at i = if i == 0 then Here else (if i == 1 then Ahead else (if i == 2 then
 abbrev pub side_at : ℕ → Side
 side_at i = if i == 0 then Left else Right
 
--- what the word of a condition at a place of its table names
+-- the condition of the word at a place of its table
 abbrev pub condition_word_at : ℕ → ConditionWord
 condition_word_at i = if i == 0 then ConditionWord.Friend else (if i == 1 then ConditionWord.Foe
     else (if i == 2 then ConditionWord.FriendWithFood else (if i == 3 then ConditionWord.FoeWithFood

@@ -1,4 +1,4 @@
--- What is read of the tokens of a line, form by form. The clause `step` of `read_instruction` rests on it; its other
+-- What is read from the tokens of a line, form by form. The clause `step` of `read_instruction` uses it; its other
 -- clauses and those of `read_brain` don't (this project's own).
 use Rattle.std.specs.Prelude.{ℕ, List, Ok}
 use Rattle.brain_read.specs.declared.instr.Instr.{Instr}
@@ -9,7 +9,7 @@ use Rattle.brain_read.specs.Places.{form_at}
 use Rattle.line_tokens.specs.Steps.{Read, ◌>>=◌, take_word, take_end}
 use Rattle.brain_read.specs.Steps.{take_sight, take_side, take_state, take_marker, take_bound, take_condition}
 
--- what stands after `Sense`
+-- what follows `Sense`
 unfoldable pub read_sense : List (List ℕ) → Read Instr
 read_sense tokens = do
   sight ← take_sight tokens
@@ -19,7 +19,7 @@ read_sense tokens = do
   end ← take_end condition.1
   Ok (Sense sight.0 met.0 unmet.0 condition.0)
 
--- what stands after `Mark` and `Unmark`: a marker and a state
+-- what follows `Mark` and `Unmark`: a marker and a state
 unfoldable pub read_marked : (ℕ → ℕ → Instr) → List (List ℕ) → Read Instr
 read_marked make tokens = do
   marker ← take_marker tokens
@@ -27,7 +27,7 @@ read_marked make tokens = do
   end ← take_end next.1
   Ok (make marker.0 next.0)
 
--- what stands after `PickUp` and `Move`: two states
+-- what follows `PickUp` and `Move`: two states
 unfoldable pub read_branches : (ℕ → ℕ → Instr) → List (List ℕ) → Read Instr
 read_branches make tokens = do
   met ← take_state tokens
@@ -35,14 +35,14 @@ read_branches make tokens = do
   end ← take_end unmet.1
   Ok (make met.0 unmet.0)
 
--- what stands after `Drop`
+-- what follows `Drop`
 unfoldable pub read_drop : List (List ℕ) → Read Instr
 read_drop tokens = do
   next ← take_state tokens
   end ← take_end next.1
   Ok (Drop next.0)
 
--- what stands after `Turn`
+-- what follows `Turn`
 unfoldable pub read_turn : List (List ℕ) → Read Instr
 read_turn tokens = do
   side ← take_side tokens
@@ -50,7 +50,7 @@ read_turn tokens = do
   end ← take_end next.1
   Ok (Turn side.0 next.0)
 
--- what stands after `Flip`
+-- what follows `Flip`
 unfoldable pub read_flip : List (List ℕ) → Read Instr
 read_flip tokens = do
   bound ← take_bound tokens
@@ -59,7 +59,7 @@ read_flip tokens = do
   end ← take_end unmet.1
   Ok (Flip bound.0 met.0 unmet.0)
 
--- what stands after the word of a form
+-- what follows the word of a form
 abbrev pub read_form : Form → List (List ℕ) → Read Instr
 read_form Form.Sense tokens = read_sense tokens
 read_form Form.Mark tokens = read_marked Mark tokens

@@ -1,5 +1,4 @@
--- What a brain keeps; the clauses of the public calls rest on it (the task's neurology; the largest number of states is
--- the task's too).
+-- What holds of every brain, as the clauses of the public calls use it (the task's neurology).
 use Rattle.std.specs.Prelude.{◌≡◌, ℕ, ◌<◌, ◌≤◌, List, length, slice_get, Some}
 use Rattle.brain_read.specs.declared.instr.Cond.{Cond}
 use Rattle.brain_read.specs.declared.instr.Cond.TheVariants.{Marker}

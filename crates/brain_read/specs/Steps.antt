@@ -1,5 +1,5 @@
--- One token after another: what is read of the tokens of a line, or why the first position at fault refuses. The
--- clauses of `Tokens` and `positions` rest on it; those of `read_brain` don't (this project's own).
+-- One token after another: what is read from the tokens of a line, or why the first position at fault is refused. The
+-- clauses of `Tokens` and `positions` use it; those of `read_brain` don't (this project's own).
 use Rattle.std.specs.Prelude.{ℕ, ◌+◌, List, length, Ok, Err}
 use Rattle.hex_geometry.specs.declared.direction.Side.{Side}
 use Rattle.hex_geometry.specs.declared.neighbourhood.Sight.{Sight}
@@ -23,7 +23,7 @@ take_side tokens = do
   word ← take_word side_words tokens
   Ok (side_at word.0, word.1)
 
--- a state: any number, so at most ten digits
+-- a state: any number of at most ten digits
 unfoldable pub take_state : List (List ℕ) → Step ℕ
 take_state = take_number 0 9999999999
 
@@ -35,7 +35,7 @@ take_marker = take_number 0 5
 unfoldable pub take_bound : List (List ℕ) → Step ℕ
 take_bound = take_number 1 most_bound
 
--- a condition of one word; of Marker, with the marker after it
+-- a condition of one word, or for Marker the condition with the marker after it
 abbrev pub condition_from : ConditionWord → List (List ℕ) → Step Cond
 condition_from ConditionWord.Friend rest = Ok (Friend, rest)
 condition_from ConditionWord.Foe rest = Ok (Foe, rest)
@@ -50,17 +50,17 @@ condition_from ConditionWord.FoeMarker rest = Ok (FoeMarker, rest)
 condition_from ConditionWord.Home rest = Ok (Home, rest)
 condition_from ConditionWord.FoeHome rest = Ok (FoeHome, rest)
 
--- the word of a condition, and what stands after it
+-- the word of a condition, and what follows it
 unfoldable pub take_condition : List (List ℕ) → Step Cond
 take_condition tokens = do
   word ← take_word condition_words tokens
   condition_from (condition_word_at word.0) word.1
 
--- how many tokens a condition takes: its first, and those that its word brings
+-- how many tokens a condition takes: its first, and those that its word adds
 abbrev pub taken_with : Step ℕ → ℕ
 taken_with (Ok word) = 1 + length (positions_of_condition (condition_word_at word.0))
 taken_with (Err refusal) = 1
 
--- how many tokens the condition takes with which these begin: two where the first is the word Marker, and else one
+-- how many tokens the condition at the front takes: two if the first is the word Marker, and otherwise one
 abbrev pub condition_tokens : List (List ℕ) → ℕ
 condition_tokens tokens = taken_with (take_word condition_words tokens)

@@ -9,11 +9,12 @@ use std::alloc::Global;
 use std::marker::Model;
 use std::slice;
 
-/// The largest number of instructions of a brain, and so of its states (the task's neurology).
+/// The largest number of instructions, and so of states, of a brain (the task's neurology).
 pub const MOST_STATES: usize = 10_000;
 
-/// A brain: 1 to 10,000 instructions, by state from 0. Every state that they name is below their number, every marker
-/// is below 6 and every bound is at least 1 (the task's neurology). Contracts see the list of the instructions.
+/// A brain: 1 to 10,000 instructions, by state from 0. Every state that an instruction names is below their number,
+/// every marker is below 6 and every bound is at least 1 (the task's neurology). Contracts see the list of the
+/// instructions.
 #[derive(Drop)]
 pub struct Brain {
     list: Vec<Instr>,
@@ -32,8 +33,8 @@ impl Model for Brain {
 }
 
 impl Brain {
-    /// The brain of this list, whose instruction at place i, from 0, is that of state i. It takes no memory and is
-    /// never refused: the caller knows that the list is a brain's (the task's neurology).
+    /// The brain of this list: the instruction at place i, from 0, is that of state i. It takes no memory and never
+    /// fails; its contract requires the list to be a brain's (the task's neurology).
     pub fn from_list(list: Vec<Instr>) -> Brain
         requires { IsBrain list.items }
         ensures { result ≡ list.items }
@@ -41,7 +42,7 @@ impl Brain {
         Brain { list }
     }
 
-    /// An equal brain of its own. It is refused only when out of memory.
+    /// An equal brain of its own. The only error is out of memory.
     pub fn copy(&self, alloc: Global) -> Result<Brain, OutOfMemory>
         ensures { IfOk result (λ brain. brain ≡ self.now) }
     {
@@ -58,7 +59,7 @@ impl Brain {
         self.list.len() as u32
     }
 
-    /// The instruction of this state, which is from 0 and below the length (the task's neurology).
+    /// The instruction of this state, which is below the length (the task's neurology).
     #[inline]
     pub fn at(&self, state: u16) -> Instr
         requires { state < length self.now }
@@ -68,7 +69,8 @@ impl Brain {
         self.list[state as usize]
     }
 
-    /// The same instruction as a reference, so that a caller reads no more of it than it needs (the task's neurology).
+    /// The same instruction as a reference, so that a caller reads only the fields that it needs (the task's
+    /// neurology).
     #[inline]
     pub fn instruction(&self, state: u16) -> &Instr
         requires { state < length self.now }
@@ -78,7 +80,7 @@ impl Brain {
         &self.list[state as usize]
     }
 
-    /// Its instructions, from that of state 0 on (the task's neurology).
+    /// Its instructions in order, from state 0 (the task's neurology).
     pub fn iter(&self) -> slice::Iter<'_, Instr>
         ensures instructions { iter_rest result ≡ self.now }
         ensures brain { IsBrain self.now }

@@ -1,11 +1,11 @@
-// Instructions as they are read, whatever states they name.
+// Instructions as they are read, before their states are checked.
 ghost use Rattle.std.specs.Prelude.{◌≡◌, ◌≤◌, nat_lt, if◌then◌else◌};
 
 use crate::instr::{Cond, Instr};
 use hex_geometry::{Side, Sight};
 
-/// An instruction before its states are checked against the number of instructions. States are numbers of any size. If
-/// it was read from a text, markers are from 0 to 5 and bounds are at least 1 (the task's neurology).
+/// An instruction before its states are checked against the number of instructions. States may be of any size. If it
+/// was read from a text, markers are from 0 to 5 and bounds are at least 1 (the task's neurology).
 #[derive(Clone, Copy, Debug, PartialEq, Eq)]
 pub enum Draft {
     /// As [`Instr::Sense`].
@@ -55,7 +55,7 @@ pub enum Draft {
 impl Draft {
     ghost use Rattle.brain_read.specs.Drafts.{drafted, draft_settled};
 
-    /// An instruction as its own line gives it (the task's neurology).
+    /// An instruction as a draft (the task's neurology).
     pub fn of(instruction: Instr) -> Draft
         ensures { drafted result ≡ instruction }
     {
@@ -103,7 +103,7 @@ impl Draft {
     }
 
     /// The instruction of a brain with this number of states, at most 65,536. If it names a state that isn't below that
-    /// number, the first one in the order of its line is returned instead (the task's neurology).
+    /// number, the error is the first such state in the order of its line (the task's neurology).
     pub fn settle(self, states: u64) -> Result<Instr, u64>
         requires { states ≤ 65536 }
         ensures { result ≡ draft_settled states (drafted self) }
@@ -159,7 +159,7 @@ impl Draft {
     }
 }
 
-// A state, where it is below the number of states.
+// A state, if it is below the number of states; otherwise the state as the error.
 fn state_below(state: u64, states: u64) -> Result<u16, u64>
     requires { states ≤ 65536 }
     ensures { result ≡ (if nat_lt state states then Ok state else Err state) }

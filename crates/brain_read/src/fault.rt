@@ -5,19 +5,19 @@ use std::alloc::{AllocError, AllocFailed};
 use std::error::Error;
 use std::fmt;
 
-/// The fault of a text that is no brain's: the first line at fault, with its first position at fault; where no line is
-/// at fault, `Empty` or `NoSuchState`. Lines are counted from 1, lines without a token included.
+/// The fault of a text that is not a brain: the first line at fault, with its first position at fault. If no line is at
+/// fault, it is `Empty` or `NoSuchState`. Lines are counted from 1, including those without a token.
 #[derive(Clone, Copy, Debug, PartialEq, Eq)]
 pub enum BrainFault {
-    /// A token has a byte that is none of tab, LF, CR and 32 to 126.
+    /// A token has a bad byte: any byte except tab, LF, CR and 32 to 126.
     BadByte { line: u32 },
-    /// A token that should be a word is none of its position.
+    /// The position needs a word, and its token is none of its words.
     UnknownWord { line: u32 },
-    /// A position that the form needs has no token.
+    /// The form needs this position, and it has no token.
     MissingToken { line: u32 },
-    /// A token that should be a number is none that its position accepts.
+    /// The position needs a number, and its token is none that it accepts.
     BadNumber { line: u32 },
-    /// A token stands beyond the end of the form.
+    /// There is a token after the end of the form.
     ExtraToken { line: u32 },
     /// The line has a token, and 10,000 instructions were read before it.
     TooMany { line: u32 },
@@ -26,7 +26,7 @@ pub enum BrainFault {
     /// No line is at fault, and a state is not below the number of instructions: the first such line, and its first
     /// such state, from 0.
     NoSuchState { line: u32, state: u64 },
-    /// Memory could not be had; it says nothing of the text.
+    /// Memory ran out. This says nothing of the text.
     OutOfMemory,
 }
 
@@ -94,8 +94,8 @@ impl BrainFault {
     ghost use Rattle.std.specs.Prelude.{◌≡◌};
     ghost use Rattle.brain_read.specs.Refusals.{refusal_at};
 
-    /// The fault of the line of this number, from 1, that was refused so: `BadByte` where the token has a bad byte,
-    /// else the fault of the position.
+    /// The fault of the line with this number, from 1, for this refusal: `BadByte` if the token has a bad byte,
+    /// otherwise the fault of the position.
     pub fn of_line(line: u32, refusal: Refusal) -> BrainFault
         ensures { result ≡ refusal_at line refusal }
     {

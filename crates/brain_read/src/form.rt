@@ -1,11 +1,11 @@
-// The words of the language, and what they stand for.
+// The words of the language and their meanings.
 ghost use Rattle.std.specs.Prelude.{◌≡◌};
 ghost use Rattle.brain_read.specs.Forms.{form_words, sight_words, side_words, condition_words};
 ghost use Rattle.brain_read.specs.Places as places;
 
 use word_table::{WordTable, word_arms};
 
-/// The form of an instruction: the word that it begins with, in the order of [`form_table`] (the task's neurology).
+/// The form of an instruction: its first word, in the order of [`form_table`] (the task's neurology).
 #[derive(Clone, Copy, Debug, PartialEq, Eq)]
 pub enum Form {
     Sense,
@@ -18,7 +18,7 @@ pub enum Form {
     Flip,
 }
 
-/// The word that a condition begins with, in the order of [`condition_table`] (the task's phenomenology).
+/// The first word of a condition, in the order of [`condition_table`] (the task's phenomenology).
 #[derive(Clone, Copy, Debug, PartialEq, Eq)]
 pub enum ConditionWord {
     Friend,

@@ -1,53 +1,54 @@
 // Instructions and conditions.
 use hex_geometry::{Side, Sight};
 
-/// What a Sense looks for in the sensed cell (the task's phenomenology).
+/// What a Sense tests in the sensed cell (the task's phenomenology).
 #[derive(Clone, Copy, Debug, PartialEq, Eq)]
 pub enum Cond {
-    /// An ant of the own colour.
+    /// An ant of the acting ant's own colour.
     Friend,
     /// An ant of the other colour.
     Foe,
-    /// An ant of the own colour that carries food.
+    /// An ant of the acting ant's own colour that carries food.
     FriendWithFood,
     /// An ant of the other colour that carries food.
     FoeWithFood,
-    /// Food on the cell.
+    /// At least one food particle on the cell.
     Food,
     /// A rocky cell.
     Rock,
-    /// The ant's own colour's marker of this number, from 0 to 5.
+    /// The own colour's marker with this number, from 0 to 5.
     Marker(u8),
-    /// Any marker of the foe's.
+    /// Any marker of the other colour.
     FoeMarker,
-    /// The own hill.
+    /// A cell of the own hill.
     Home,
-    /// The foe's hill.
+    /// A cell of the other colour's hill.
     FoeHome,
 }
 
-/// One instruction of a brain (the task's neurology). States are from 0 to 9,999, markers from 0 to 5, the bound of a
-/// Flip is at least 1.
+/// One instruction of a brain (the task's neurology). States are from 0 to 9,999, markers are from 0 to 5, and the
+/// bound of a Flip is at least 1.
 #[derive(Clone, Copy, Debug, PartialEq, Eq)]
 pub enum Instr {
-    /// Goes to `yes` where the sensed cell meets the condition, else to `no`.
+    /// Goes to `yes` if the sensed cell meets the condition, otherwise to `no`.
     Sense {
         sight: Sight,
         yes: u16,
         no: u16,
         cond: Cond,
     },
-    /// Sets the own colour's marker of this number on the own cell, and goes to `next`.
+    /// Sets the own colour's marker with this number on the own cell, and goes to `next`.
     Mark {
         mark: u8,
         next: u16,
     },
-    /// Clears the own colour's marker of this number on the own cell, and goes to `next`.
+    /// Clears the own colour's marker with this number on the own cell, and goes to `next`.
     Unmark {
         mark: u8,
         next: u16,
     },
-    /// Takes a food particle and goes to `yes`, or goes to `no` where the ant carries one or there is none.
+    /// Takes a food particle from the cell and goes to `yes`. If the ant already carries one or the cell has none, it
+    /// goes to `no`.
     PickUp {
         yes: u16,
         no: u16,
@@ -61,7 +62,7 @@ pub enum Instr {
         side: Side,
         next: u16,
     },
-    /// Steps ahead and goes to `yes`, or goes to `no` where the cell ahead is rocky or holds an ant.
+    /// Steps ahead and goes to `yes`. If the cell ahead is rocky or holds an ant, it goes to `no`.
     Move {
         yes: u16,
         no: u16,

@@ -6,19 +6,19 @@ pub fn one_brain_or_one_fault()
     ensures { OneBrainOrOneFault }
 {}
 
-/// A law: the canonical text of a brain, whose bounds fit a `u32`, is a text of that brain. So it is read as that brain
+/// A law: the canonical text of a brain whose bounds fit a `u32` is a text of that brain. So it is read as that brain
 /// and no other.
 pub fn canonical_text_is_read()
     ensures { CanonicalTextIsRead }
 {}
 
-/// A law: what a text is the text of is a brain: 1 to 10,000 instructions, whose states are below their number, whose
+/// A law: whatever a text is a text of is a brain: 1 to 10,000 instructions, whose states are below their number, whose
 /// markers are below 6 and whose bounds are at least 1 (the task's neurology).
 pub fn texts_make_brains()
     ensures { TextsMakeBrains }
 {}
 
-/// A law: out of memory is no text's fault.
+/// A law: `OutOfMemory` is never the fault of a text.
 pub fn no_text_wants_memory()
     ensures { NoTextWantsMemory }
 {}

@@ -8,7 +8,7 @@
 //! crate depends on the sinks, lines and numbers of `ant_base`, the tokens of `line_tokens`, the tables of
 //! `word_table`, and the sides and sights of `hex_geometry`.
 //!
-//! What names no section of the contest's task is this project's own.
+//! Whatever names no section of the contest's task is this project's own.
 #![tactic(auto)]
 
 mod brain;

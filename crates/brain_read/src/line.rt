@@ -15,9 +15,9 @@ use crate::positions::{bound, condition, marker, side, sight, state};
 use line_tokens::{Refusal, Tokens};
 
 /// The instruction of a line, from all its tokens: the words of its form in any ASCII case, states of 1 to 10 digits,
-/// markers from 0 to 5 and bounds from 1 to 4,294,967,295 (the task's neurology). Otherwise why the line is refused:
-/// what is wrong with its first position at fault, and whether the token there has a bad byte. After an instruction no
-/// token is left. It takes no memory.
+/// markers from 0 to 5 and bounds from 1 to 4,294,967,295 (the task's neurology). Otherwise it returns why the line is
+/// refused: what is wrong with its first position at fault, and whether the token there has a bad byte. After an
+/// instruction no token is left. It takes no memory.
 pub fn read_instruction(tokens: &mut Tokens) -> Result<Draft, Refusal>
     ensures spelled { IfOk result (λ draft. InstrLine tokens.old (drafted draft)) }
     ensures every_instruction { (i : Instr) → InstrLine tokens.old i → as_read result ≡ Ok i }

@@ -30,11 +30,11 @@ pub struct DraftLine {
 }
 
 /// The brain of a text of at most 4,194,304 bytes, or the text's fault (the task's neurology; the faults and their
-/// order are this project's own). `OutOfMemory` may be answered at any text; every other answer follows from the text
+/// order are this project's own). `OutOfMemory` may be returned for any text; every other result follows from the text
 /// alone, since every text has one brain or one fault.
 ///
-/// Given `Move 0 1\nTurn Left 0\n` it answers the brain in which state 0 moves and state 1 turns. Given `Move 0 1\n` it
-/// answers `NoSuchState { line: 1, state: 1 }`, and given nothing `Empty`.
+/// For `Move 0 1\nTurn Left 0\n` it returns the brain in which state 0 moves and state 1 turns. For `Move 0 1\n` it
+/// returns `NoSuchState { line: 1, state: 1 }`, and for an empty text `Empty`.
 pub fn read_brain(alloc: Global, text: &[u8]) -> Result<Brain, BrainFault>
     requires { length text.now ≤ longest }
     ensures brain { IfOk result (λ brain. IsBrainText text.now brain) }
@@ -71,7 +71,7 @@ fn read_drafts(alloc: Global, text: &[u8]) -> Result<Vec<DraftLine>, BrainFault>
     Ok(drafts)
 }
 
-// Reads the line of this number: adds its instruction, where it has a token.
+// Reads the line with this number, and adds its instruction if it has a token.
 fn read_line(line: &[u8], number: u32, drafts: &mut Vec<DraftLine>) -> Result<(), BrainFault>
     requires few { vec_len drafts.old ≤ most_states }
     ensures few { OnOk result (vec_len drafts.new ≤ most_states) }
@@ -93,7 +93,7 @@ fn read_line(line: &[u8], number: u32, drafts: &mut Vec<DraftLine>) -> Result<()
     Ok(())
 }
 
-// The instruction of a line before which so many stand.
+// The instruction of a line after this many instructions.
 #[tactic(auto, unfolding(line_tokens::specs::Inner::LineByLine::judged_line))]
 fn draft_of(tokens: &mut Tokens, line: u32, before: usize) -> Result<Draft, BrainFault>
     ensures read { judged_line brain_reader before line tokens.old ≡ as_judged result }
@@ -108,7 +108,7 @@ fn draft_of(tokens: &mut Tokens, line: u32, before: usize) -> Result<Draft, Brai
     }
 }
 
-// The instructions, where there are some and all their states are below their number.
+// The instructions, if there are some and all their states are below their number.
 fn settle(alloc: Global, drafts: &[DraftLine]) -> Result<Vec<Instr>, BrainFault>
     requires { length drafts.now ≤ most_states }
     ensures { Gives (λ list. list.items) result (settle (map placed_of drafts.now)) }

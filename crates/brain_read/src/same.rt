@@ -1,4 +1,4 @@
-// Whether two instructions are one.
+// Whether two instructions are equal.
 ghost use Rattle.std.specs.Prelude.{◌≡◌, ◌↔◌, IsTrue};
 
 use crate::instr::{Cond, Instr};

@@ -18,9 +18,9 @@ use crate::instr::{Cond, Instr};
 use ant_base::{Failed, Layout, Sink, layout};
 use hex_geometry::{Side, Sight};
 
-/// Pushes the canonical text of a brain: one line for each instruction, its words as the tables spell them and its
-/// numbers without leading zeros, one space between tokens, LF at the end. At `Failed` a prefix of it was appended, and
-/// the sink's count of faults rose. It takes no memory.
+/// Pushes the canonical text of a brain. Each instruction is one line: its words as the tables spell them and its
+/// numbers without leading zeros, one space between tokens, and LF at the end. At `Failed` a prefix of it was appended,
+/// and the sink's count of faults rose. It takes no memory.
 pub fn write_brain<K: Sink>(brain: &Brain, sink: &mut K) -> Result<(), Failed>
     ensures pushed { Pushed (K.state sink.old) (K.state sink.new) (brain_text brain.now) result }
     ensures again { OnOk result (IsBrainText (brain_text brain.now) brain.now) }
@@ -48,7 +48,7 @@ fn push_line<K: Sink>(instruction: Instr, sink: &mut K) -> Result<(), Failed>
 }
 
 /// Its canonical line: its words as the tables spell them and its numbers without leading zeros, one space between
-/// tokens, LF at the end.
+/// tokens, and LF at the end.
 impl Layout for Instr {
     ghost text = { instruction_text };
 
@@ -57,7 +57,7 @@ impl Layout for Instr {
     }
 }
 
-/// The canonical line of its instruction, with states of any size.
+/// The canonical line of its instruction; its states may be of any size.
 impl Layout for Draft {
     ghost text = { λ draft. instruction_text (drafted draft) };
 
@@ -67,8 +67,8 @@ impl Layout for Draft {
     }
 }
 
-/// The words of an instruction with states of any size: its canonical line without the LF at its end, as `Turn Left 5`.
-/// So another text can have them within a line.
+/// The words of an instruction, whose states may be of any size: its canonical line without the LF, such as `Turn Left
+/// 5`. Another text can have them within a line.
 #[derive(Clone, Copy, Debug, PartialEq, Eq)]
 pub struct InstructionWords(pub Draft);
 

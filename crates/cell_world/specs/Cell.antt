@@ -17,16 +17,16 @@ abbrev pub is_ant : ℕ → Option Ant → Bool
 is_ant t None = false
 is_ant t (Some ant) = nat_eq ant.id t
 
--- whether the cell holds the ant of this id
+-- whether the cell holds the ant with this id
 abbrev pub holds_id : ℕ → Cell → Bool
 holds_id t cell = is_ant t cell.ant
 
--- whether it is the hill of this colour
+-- whether it is this colour's hill
 abbrev pub is_hill_of : Colour → Option Colour → Bool
 is_hill_of colour None = false
 is_hill_of colour (Some other) = same_colour colour other
 
--- whether the ant, if there is one, is of this colour
+-- whether the ant, if there is one, has this colour
 abbrev pub is_ant_of : Colour → Option Ant → Bool
 is_ant_of colour None = false
 is_ant_of colour (Some ant) = same_colour colour ant.colour
@@ -36,12 +36,12 @@ abbrev pub marks_of : Colour → Cell → Marks
 marks_of Red cell = cell.red
 marks_of Black cell = cell.black
 
--- the markers of each colour are of the six
+-- the markers of each colour are from 0 to 5
 pub record HasMarksOfSix (cell : Cell) : Type 0 where
   pub red : IsOfSix cell.red
   pub black : IsOfSix cell.black
 
--- one where a thing is, and nothing where it isn't
+-- 1 if true, and 0 if false
 abbrev pub one_if : Bool → ℕ
 one_if false = 0
 one_if true = 1
@@ -51,15 +51,15 @@ abbrev pub carried : Option Ant → ℕ
 carried None = 0
 carried (Some ant) = one_if ant.laden
 
--- all food of a cell: what lies on it and what its ant carries
+-- all food of a cell: the food on it and what its ant carries
 abbrev pub food_in : Cell → ℕ
 food_in cell = cell.food + carried cell.ant
 
--- what an ant weighs: nine, and one where it carries food
+-- the weight of an ant: nine, and one more if it carries food
 abbrev pub ant_weight : Option Ant → ℕ
 ant_weight None = 0
 ant_weight (Some ant) = 9 + one_if ant.laden
 
--- what a cell weighs: its food and its ant. Rock is bare and weighs nothing
+-- the weight of a cell: its food and its ant. Rock is bare and weighs nothing
 unfoldable pub cell_weight : Cell → ℕ
 cell_weight cell = cell.food + ant_weight cell.ant

@@ -8,7 +8,7 @@ abbrev pub foe_of : Colour → Colour
 foe_of Red = Black
 foe_of Black = Red
 
--- whether two colours are one
+-- whether two colours are equal
 abbrev pub same_colour : Colour → Colour → Bool
 same_colour Red Red = true
 same_colour Black Black = true

@@ -1,4 +1,4 @@
--- What the counts of a world are like, in the task's own words (the task's biology and game play).
+-- The counts of a world, in the task's own words (the task's biology and game play).
 use Rattle.std.specs.Prelude.{◌≡◌, ℕ, ◌+◌, suc, zero}
 use Rattle.std.specs.Option.{is_some}
 use Rattle.hex_geometry.specs.declared.position.Pos.{Pos}
@@ -11,8 +11,8 @@ use Rattle.cell_world.specs.Score.{alive_in, alive_of, food_of, hill_food_in, hi
 use Rattle.cell_world.specs.Valid.{Valid}
 use Rattle.cell_world.specs.World.{World, place_in, put}
 
--- after a change, the new cell counts in place of the old one: in all food, in the food on each hill, and in the ants
--- of each colour
+-- after a change, the new cell counts instead of the old one: in all food, in the food on each hill, and in the ants of
+-- each colour
 pub record PutCounts : Type 0 where
   pub food : (w : World) (p : Pos) (cell : Cell) → IsInside w.width w.height p
       → food_of (put w p cell) + food_in (w.cells p) ≡ food_of w + food_in cell
@@ -27,6 +27,6 @@ abbrev pub placed_below : World → ℕ → ℕ
 placed_below w zero = 0
 placed_below w (suc t) = placed_below w t + one_if (is_some (place_in w t))
 
--- the ants of both colours that are alive are as many as the ids that have a place
+-- the number of living ants of both colours is the number of ids that have a place
 abbrev pub AliveArePlaced : Type 0
 AliveArePlaced = (w : World) → Valid w → alive_of w Red + alive_of w Black ≡ placed_below w w.ids

@@ -1,4 +1,4 @@
--- A world as its cells in row order, and how it reads as a function from positions to cells.
+-- A world as its cells in row order, and the function from positions to cells that they are.
 use Rattle.std.specs.Prelude.{◌≡◌, ℕ, ◌+◌, ◌*◌, if◌then◌else◌, nat_lt, List, length, None, slice_index_or}
 use Rattle.std.specs.List.{AllByRecursion}
 use Rattle.hex_geometry.specs.declared.position.Pos.{Pos}
@@ -7,27 +7,27 @@ use Rattle.cell_world.specs.Cell.{rock}
 use Rattle.cell_world.specs.World.{World}
 use Rattle.cell_world.specs.Valid.{Valid}
 
--- a world's sizes, the number of ids ever made and its cells, row by row from the top, each row from left to right
+-- a world's sizes, the number of ids ever assigned, and its cells, row by row from the top, each row from left to right
 pub record Grid : Type 0 where
   pub width : ℕ
   pub height : ℕ
   pub ids : ℕ
   pub cells : List Cell
 
--- the cell at a position: right of the rows and below the last there is rock
+-- the cell at a position; to the right of the rows and below the last one there is rock
 unfoldable pub cell_in : Grid → Pos → Cell
 cell_in g p = if nat_lt p.x g.width then slice_index_or g.cells (p.y * g.width + p.x) rock else rock
 
--- the world that a grid stands for
+-- the world of a grid
 abbrev pub world_of : Grid → World
 world_of g = record { width = g.width; height = g.height; ids = g.ids; cells = cell_in g }
 
--- what every grid keeps: it has its cells, and its world is valid
+-- what holds of every grid of a world: it has all its cells, and its world is valid
 pub record IsWorld (g : Grid) : Type 0 where
   pub full : length g.cells ≡ g.width * g.height
   pub valid : Valid (world_of g)
 
--- the grid of a world without an ant
+-- the grid of a world without ants
 pub record IsGround (g : Grid) : Type 0 where
   pub world : IsWorld g
   pub empty : AllByRecursion (λ (cell : Cell). cell.ant ≡ None) g.cells

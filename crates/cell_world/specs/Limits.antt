@@ -9,10 +9,10 @@ least_size = 3
 abbrev pub most_size : ℕ
 most_size = 512
 
--- the most ids of ants that a world has
+-- the most ids of ants in a world
 abbrev pub most_ants : ℕ
 most_ants = 16384
 
--- the most that a world weighs: nine times the 510 by 510 cells inside the largest rim
+-- the greatest weight of a world: nine times the 510 by 510 cells inside the largest rim
 abbrev pub most_weight : ℕ
 most_weight = 2340900

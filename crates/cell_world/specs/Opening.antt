@@ -27,7 +27,7 @@ new_ant colour t = record { id = t; colour = colour; state = 0; resting = 0; fac
 abbrev pub hill_cell : Colour → ℕ → Cell
 hill_cell colour t = record floor { hill = Some colour; ant = Some (new_ant colour t) }
 
--- a cell of this kind, where an ant on it gets this id
+-- a cell of this kind; if an ant begins on it, it has this id
 abbrev pub opening_cell : ℕ → Kind → Cell
 opening_cell t Rock = rock
 opening_cell t Clear = floor
@@ -35,7 +35,7 @@ opening_cell t RedHill = record floor { hill = Some Red; ant = Some (new_ant Red
 opening_cell t BlackHill = record floor { hill = Some Black; ant = Some (new_ant Black t) }
 opening_cell t (Food n) = record floor { food = n }
 
--- whether a cell of this kind is of a hill
+-- whether a cell of this kind belongs to a hill
 abbrev pub is_hill : Kind → Bool
 is_hill RedHill = true
 is_hill BlackHill = true
@@ -46,7 +46,7 @@ abbrev pub hill_count : List Kind → ℕ
 hill_count [] = 0
 hill_count (kind ∷ kinds) = one_if (is_hill kind) + hill_count kinds
 
--- the cells of these kinds, where the next ant's id is t
+-- the cells of these kinds, if the next ant's id is t
 abbrev pub opening_cells : ℕ → List Kind → List Cell
 opening_cells t [] = []
 opening_cells t (kind ∷ kinds) = opening_cell t kind ∷ opening_cells (t + one_if (is_hill kind)) kinds
@@ -61,7 +61,7 @@ opening width height kinds = record {
   cells = opening_cells 0 kinds;
 }
 
--- whether it is rock
+-- whether the kind is rock
 abbrev pub is_rock : Kind → Bool
 is_rock Rock = true
 is_rock _ = false
@@ -71,7 +71,7 @@ abbrev pub IsFed : Kind → Type 0
 IsFed (Food n) = (1 ≤ n) × (n ≤ 9)
 IsFed _ = Unit {0}
 
--- the kind at a position, rock beyond the last
+-- the kind at a position; after the last one it is rock
 abbrev pub kind_at : ℕ → List Kind → Pos → Kind
 kind_at width kinds p = slice_index_or kinds (index_of width p) Rock
 
@@ -79,8 +79,8 @@ kind_at width kinds p = slice_index_or kinds (index_of width p) Rock
 abbrev pub hills_before : ℕ → List Kind → Pos → ℕ
 hills_before width kinds p = hill_count (take (index_of width p) kinds)
 
--- the kinds of a world, in row order: the sizes are in range, there is one for each cell, the rim is rock, food is in
--- range, and there are not too many hill cells
+-- the kinds of a world, in row order: the sizes are in range, there is one kind for each cell, the rim is rock, food is
+-- in range, and there are not too many hill cells
 pub record IsPlan (width height : ℕ) (kinds : List Kind) : Type 0 where
   pub wide : 3 ≤ width
   pub narrow : width ≤ 512

@@ -1,4 +1,4 @@
--- What an opening world is like, in the task's own words (the task's geography, chemistry and biology).
+-- The opening world, in the task's own words (the task's geography, chemistry and biology).
 use Rattle.std.specs.Prelude.{◌≡◌, ℕ, ◌<◌, ◌≤◌, true, List, Some, IsSome, option_map}
 use Rattle.hex_geometry.specs.declared.position.Pos.{Pos}
 use Rattle.cell_world.specs.declared.ant.Ant.{Ant}
@@ -13,15 +13,16 @@ use Rattle.cell_world.specs.World.{place_in}
 abbrev pub PlansOpen : Type 0
 PlansOpen = (width height : ℕ) (kinds : List Kind) → IsPlan width height kinds → IsWorld (opening width height kinds)
 
--- what and who is where at the start
+-- which cells and ants there are at the start
 pub record HillsAreManned : Type 0 where
-  -- each cell is what its kind says: rock is rock, food is so many particles, and a red hill cell is of the red hill
+  -- each cell is what its kind says: rock is rock, food is that number of particles, and a red hill cell belongs to the
+  -- red hill
   pub cell : (width height : ℕ) (kinds : List Kind) (p : Pos) → p.x < width →
       cell_in (opening width height kinds) p ≡ opening_cell (hills_before width kinds p) (kind_at width kinds p)
-  -- right of the rows there is rock; below them it is the kind of the cells that are missing
+  -- to the right of the rows there is rock; below them a cell has the default kind for missing cells
   pub beyond : (width height : ℕ) (kinds : List Kind) (p : Pos) → width ≤ p.x
       → cell_in (opening width height kinds) p ≡ rock
-  -- on each hill cell an ant of its colour, and on no other cell one
+  -- each hill cell has an ant of its colour, and no other cell has an ant
   pub manned : (width height : ℕ) (kinds : List Kind) (p : Pos) →
       (cell_in (opening width height kinds) p).hill
       ≡ option_map (λ (ant : Ant). ant.colour) (cell_in (opening width height kinds) p).ant

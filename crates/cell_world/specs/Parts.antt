@@ -14,7 +14,7 @@ pub record Identity : Type 0 where
   pub id : ℕ
   pub colour : Colour
 
--- what an ant is about: its state, its resting count and its direction
+-- the state, the resting count and the direction of an ant
 pub record Posture : Type 0 where
   pub state : ℕ
   pub resting : ℕ
@@ -26,7 +26,7 @@ identity_of ant = record { id = ant.id; colour = ant.colour }
 abbrev pub posture_of : Ant → Posture
 posture_of ant = record { state = ant.state; resting = ant.resting; facing = ant.facing }
 
--- what each part may be
+-- the possible contents of each part
 abbrev pub Content : Part → Type 0
 Content Who = Option Identity
 Content Mind = Option Posture
@@ -36,8 +36,8 @@ Content RedMarks = Marks
 Content BlackMarks = Marks
 
 -- the six parts of a cell: the id and colour of its ant, if there is one; that ant's state, resting count and
--- direction; whether that ant carries food; the food that lies there; and the two sets of markers. Rock and hill are in
--- none: no turn changes them
+-- direction; whether that ant carries food; the food on the cell; and the two sets of markers. Rock and hill belong to
+-- no part, since no turn changes them
 abbrev pub part : (k : Part) → Cell → Content k
 part Who cell = option_map identity_of cell.ant
 part Mind cell = option_map posture_of cell.ant
@@ -59,7 +59,7 @@ has_part parts Food = parts.food
 has_part parts RedMarks = parts.red_marks
 has_part parts BlackMarks = parts.black_marks
 
--- the same set, and this part
+-- the same set with this part
 abbrev pub with_part : Parts → Part → Parts
 with_part parts Who = record parts { who = true }
 with_part parts Mind = record parts { mind = true }
@@ -68,7 +68,7 @@ with_part parts Food = record parts { food = true }
 with_part parts RedMarks = record parts { red_marks = true }
 with_part parts BlackMarks = record parts { black_marks = true }
 
--- one part alone
+-- only one part
 abbrev pub only : Part → Parts
 only k = with_part no_parts k
 
@@ -104,12 +104,12 @@ place_of_part BlackMarks = 5
 abbrev pub AgreeBefore : Part → Parts → Cell → Cell → Type 0
 AgreeBefore k parts c d = (j : Part) → place_of_part j < place_of_part k → has_part parts j ≡ true → Alike j c d
 
--- the first part of a set in which two cells differ, or that there is none
+-- the first part of a set in which two cells differ, or none if there is no such part
 abbrev pub IsDifference : Parts → Cell → Cell → Option Part → Type 0
 IsDifference parts c d None = Agree parts c d
 IsDifference parts c d (Some k) = (has_part parts k ≡ true) × (¬ Alike k c d) × AgreeBefore k parts c d
 
--- this ant with the named ones of another's posture and load
+-- this ant with those of another's posture and load that are named
 abbrev pub patched_by : Parts → Ant → Ant → Ant
 patched_by parts ant other = record ant {
   state = if parts.mind then other.state else ant.state;
@@ -118,13 +118,13 @@ patched_by parts ant other = record ant {
   laden = if parts.load then other.laden else ant.laden;
 }
 
--- the same of ants that may not be there
+-- the same, if there are ants
 abbrev pub patched_ant : Parts → Option Ant → Option Ant → Option Ant
 patched_ant parts None source = None
 patched_ant parts (Some ant) None = Some ant
 patched_ant parts (Some ant) (Some other) = Some (patched_by parts ant other)
 
--- a cell with the named parts of the source and everything else its own; who stands there brings the whole ant
+-- a cell with the named parts of the source and everything else its own; if the ant is named, the whole ant is taken
 unfoldable pub patched : Cell → Cell → Parts → Cell
 patched cell source parts = record cell {
   food = if parts.food then source.food else cell.food;
@@ -133,14 +133,14 @@ patched cell source parts = record cell {
   ant = if parts.who then source.ant else patched_ant parts cell.ant source.ant;
 }
 
--- both are ants, and of one id and colour
+-- both are ants, with the same id and colour
 abbrev pub IsSameAnt : Option Ant → Option Ant → Type 0
 IsSameAnt (Some ant) (Some other) = identity_of ant ≡ identity_of other
 IsSameAnt (Some ant) None = ⊥
 IsSameAnt None source = ⊥
 
--- the parts of a cell can be patched by those of the source: who stands there goes with its posture and its load; and
--- where one of these is named alone, both cells hold the same ant
+-- the parts of a cell can be patched by those of the source: if the ant is named, so are its posture and its load; and
+-- if one of these is named alone, both cells hold the same ant
 pub record CanPatch (cell source : Cell) (parts : Parts) : Type 0 where
   pub mind : parts.who ≡ true → parts.mind ≡ true
   pub load : parts.who ≡ true → parts.load ≡ true

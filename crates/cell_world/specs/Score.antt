@@ -7,7 +7,7 @@ use Rattle.cell_world.specs.declared.score.Score.{Score}
 use Rattle.cell_world.specs.Cell.{food_in, is_hill_of, is_ant_of, one_if}
 use Rattle.cell_world.specs.World.{World, sum_over, total}
 
--- the food on a cell, where it is of this colour's hill
+-- the food on a cell, if it belongs to this colour's hill
 abbrev pub hill_food_in : Colour → Cell → ℕ
 hill_food_in colour cell = if is_hill_of colour cell.hill then cell.food else 0
 
@@ -16,11 +16,11 @@ unfoldable pub hill_food_of : World → Colour → ℕ
 hill_food_of w colour =
     sum_over w.width (λ p. if is_hill_of colour (w.cells p).hill then (w.cells p).food else 0) (w.width * w.height)
 
--- all food of a world, lying and carried
+-- all food of a world, on cells and carried
 unfoldable pub food_of : World → ℕ
 food_of w = total food_in w
 
--- one where an ant of this colour stands
+-- 1 if the cell holds an ant of this colour, otherwise 0
 abbrev pub alive_in : Colour → Cell → ℕ
 alive_in colour cell = one_if (is_ant_of colour cell.ant)
 

@@ -11,14 +11,14 @@ use Rattle.cell_world.specs.Cell.{is_ant, cell_weight}
 abbrev pub Cells : Type 0
 Cells = Pos → Cell
 
--- a world: its sizes, the number of ids ever made, and what is at each position, rock outside
+-- a world: its sizes, the number of ids ever assigned, and the cell at each position, with rock outside
 pub record World : Type 0 where
   pub width : ℕ
   pub height : ℕ
   pub ids : ℕ
   pub cells : Cells
 
--- what is at q, where the cell at p is replaced by this one
+-- the cell at q, if the cell at p is replaced by this one
 unfoldable pub put_cell : Cells → Pos → Cell → Pos → Cell
 put_cell cells p cell q = if same_pos p q then cell else cells q
 
@@ -35,8 +35,8 @@ abbrev pub sum_over : ℕ → (Pos → ℕ) → ℕ → ℕ
 sum_over width f zero = 0
 sum_over width f (suc n) = sum_over width f n + f (pos_at width n)
 
--- of the first n positions in row order the first at which the test holds, if there is one: of n + 1 that of the first
--- n, and else the last
+-- the first position, in row order, at which the test holds, if there is one among the first n positions. For n + 1 it
+-- is the one among the first n, and otherwise the position with number n
 abbrev pub first_of : ℕ → (Pos → Bool) → ℕ → Option Pos
 first_of width test zero = None
 first_of width test (suc n) =
@@ -46,19 +46,19 @@ first_of width test (suc n) =
 abbrev pub area : World → ℕ
 area w = w.width * w.height
 
--- what f comes to over all cells of a world together
+-- the sum of f over all cells of a world
 abbrev pub total : (Cell → ℕ) → World → ℕ
 total f w = sum_over w.width (λ p. f (w.cells p)) (area w)
 
--- the position whose cell holds the ant of this id, where there is one (the task's biology)
+-- the position of the cell that holds the ant with this id, if there is one (the task's biology)
 unfoldable pub place_in : World → ℕ → Option Pos
 place_in w t = first_of w.width (λ p. is_ant t (w.cells p).ant) (w.width * w.height)
 
--- what a world weighs: the sum over its cells
+-- the weight of a world: the sum of its cells' weights
 unfoldable pub weight : World → ℕ
 weight w = total cell_weight w
 
--- so many cells of a world in row order, each with its position, of which the first is number n
+-- the given number of cells of a world in row order, each with its position, beginning with the cell with number n
 abbrev pub cells_from : World → ℕ → ℕ → List (Pos × Cell)
 cells_from w n zero = []
 cells_from w n (suc left) = (pos_at w.width n, w.cells (pos_at w.width n)) ∷ cells_from w (suc n) left

@@ -1,10 +1,10 @@
-// An ant, its colour, and where it stands.
+// An ant, its colour and its place.
 ghost use Rattle.std.specs.Prelude.{◌≡◌};
 ghost use Rattle.cell_world.specs.Colour.{foe_of};
 
 use hex_geometry::{Dir, Pos};
 
-/// The two colours of ants and hills, each the other's foe (the task's biology).
+/// The two colours of ants and hills; each is the other's foe (the task's biology).
 #[derive(Clone, Copy, Debug, PartialEq, Eq)]
 pub enum Colour {
     /// The red ants and their hill.
@@ -37,19 +37,19 @@ pub struct Ant {
     /// The state of its brain, from 0 to 9,999; in a game it is below the length of its colour's brain (the task's
     /// neurology).
     pub state: u16,
-    /// For how many more turns it rests, 0 where it acts; after a Move the number `rest` of the rules, 14 in the
-    /// contest (the task's kinetics).
+    /// For how many more turns it rests; it acts if this is 0. A Move sets it to the number `rest` of the rules, 14 in
+    /// the contest (the task's kinetics).
     pub resting: u8,
     /// The direction in which it faces (the task's geometry).
     pub facing: Dir,
-    /// Whether it carries a food particle; it carries one at most.
+    /// Whether it carries a food particle. It carries at most one.
     pub laden: bool,
 }
 
-/// An ant that is alive, and where (the task's biology).
+/// A living ant and its place (the task's biology).
 #[derive(Clone, Copy, Debug, PartialEq, Eq)]
 pub struct PlacedAnt {
-    /// The position of the cell on which it stands.
+    /// The position of its cell.
     pub place: Pos,
     /// The ant.
     pub ant: Ant,

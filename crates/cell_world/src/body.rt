@@ -5,7 +5,8 @@ ghost use Rattle.cell_world.specs.Inner.Stored.{ant_from, body_at, is_living};
 use crate::ant::{Ant, Colour};
 use hex_geometry::{Dir, Pos};
 
-// What a world keeps of an ant, by its id: where it stands, which is nowhere once it is dead, and what it is like.
+// What a world keeps of an ant, by its id: its position, which is a special value if it is dead, and everything else
+// about it.
 #[derive(Clone, Copy)]
 pub struct Body {
     pub place: Option<Pos>,
@@ -17,7 +18,7 @@ pub struct Body {
 }
 
 impl Body {
-    // The body of this ant, which stands at `place`.
+    // The body of this ant at `place`.
     #[inline]
     pub fn at(place: Pos, ant: Ant) -> Body
         ensures { result ≡ body_at place ant }
@@ -32,7 +33,7 @@ impl Body {
         }
     }
 
-    // The ant of this id and body.
+    // The ant with this id and body.
     #[inline]
     pub fn ant(&self, id: u32) -> Ant
         ensures { result ≡ ant_from id self.now }
@@ -47,7 +48,7 @@ impl Body {
         }
     }
 
-    // Whether it is that of an ant of this colour that is alive.
+    // Whether it is the body of a living ant of this colour.
     pub fn is_living(&self, colour: Colour) -> bool
         ensures { result ≡ is_living colour self.now }
     {

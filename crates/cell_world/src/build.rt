@@ -15,7 +15,7 @@ use crate::tile::Tile;
 use hex_geometry::{Dir, OutOfMemory, Pos, pos_at};
 use std::alloc::Global;
 
-// What a world is made of: its tiles in row order, and the bodies of its ants, by id.
+// What a world is built from: its tiles in row order, and the bodies of its ants, by id.
 #[derive(Drop)]
 pub struct WorldParts {
     pub tiles: Vec<Tile>,
@@ -23,7 +23,7 @@ pub struct WorldParts {
 }
 
 impl WorldParts {
-    // The tiles and the ants' bodies of these kinds, in row order.
+    // The tiles and the ants' bodies for these kinds, in row order.
     pub fn of_kinds(alloc: Global, width: u16, kinds: &[Kind]) -> Result<WorldParts, OutOfMemory>
         requires wide { 1 ≤ width }
         requires low { length kinds.now ≤ width * 65536 }
@@ -41,7 +41,7 @@ impl WorldParts {
         Ok(parts)
     }
 
-    // Adds the next cell, of this kind, and its ant, if one begins there.
+    // Adds the next cell, of this kind, and its ant if one begins there.
     fn add(&mut self, width: u16, kind: Kind) -> Result<(), OutOfMemory>
         requires wide { 1 ≤ width }
         requires low { vec_len self.old.tiles < width * 65536 }
@@ -60,7 +60,7 @@ impl WorldParts {
     }
 }
 
-// What is kept of cells, on none of which an ant stands.
+// What is kept of cells that hold no ant.
 pub fn ground_tiles(alloc: Global, cells: &[Cell]) -> Result<Vec<Tile>, OutOfMemory>
     requires { AllByRecursion (λ cell. cell.ant ≡ None) cells.now }
     ensures { IfOk result (λ tiles. tiles.items ≡ map tile_of cells.now) }
@@ -72,7 +72,7 @@ pub fn ground_tiles(alloc: Global, cells: &[Cell]) -> Result<Vec<Tile>, OutOfMem
     Ok(tiles)
 }
 
-// What is kept of a cell on which no ant stands.
+// What is kept of a cell that holds no ant.
 fn ground_tile(cell: &Cell) -> Tile
     requires { cell.now.ant ≡ None }
     ensures { result ≡ tile_of cell.now }
@@ -80,7 +80,7 @@ fn ground_tile(cell: &Cell) -> Tile
     Tile::of(cell)
 }
 
-// The bodies of so many ants, each of which is dead.
+// The given number of bodies, all of them of dead ants.
 #[tactic(auto, unfolding(crate::specs::Inner::Stored::no_body))]
 pub fn dead_bodies(alloc: Global, ids: u32) -> Result<Vec<Body>, OutOfMemory>
     ensures { IfOk result (λ bodies. bodies.items ≡ replicate ids no_body) }
@@ -97,7 +97,7 @@ pub fn dead_bodies(alloc: Global, ids: u32) -> Result<Vec<Body>, OutOfMemory>
     Ok(bodies)
 }
 
-// The colour of the hill of which a cell of this kind is.
+// The colour of the hill to which a cell of this kind belongs, if any.
 fn hill_of(kind: Kind) -> Option<Colour>
     ensures { result ≡ hill_of kind }
 {
@@ -122,7 +122,7 @@ fn new_body(colour: Colour, place: Pos) -> Body
     }
 }
 
-// A cell of this kind; an ant on it gets this id.
+// A cell of this kind. If an ant begins on it, it has this id.
 #[tactic(auto, unfolding(crate::specs::Opening::floor, crate::specs::Cell::rock))]
 fn opening_cell(kind: Kind, id: u32) -> Cell
     ensures { result ≡ opening_cell id kind }

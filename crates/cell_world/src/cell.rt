@@ -6,14 +6,14 @@ use crate::ant::{Ant, Colour};
 use crate::marks::Marks;
 
 /// A cell of the world, rocky or clear (the task's geography, chemistry and biology). In a world, a rocky cell has no
-/// food, markers, ant or hill, and an ant is on one cell only.
+/// food, markers, ant or hill, and an ant is on only one cell.
 #[derive(Clone, Copy, Debug, Default, PartialEq, Eq)]
 pub struct Cell {
-    /// Whether it is rock, which no ant enters.
+    /// Whether it is rock. No ant enters a rocky cell.
     pub rocky: bool,
-    /// The colour of the hill to which it belongs, if it belongs to one.
+    /// The colour of the hill to which it belongs, if any.
     pub hill: Option<Colour>,
-    /// How many food particles lie on it, from 0; what its ant carries isn't counted. In a world at most 2,340,900.
+    /// How many food particles are on it, from 0, without the one that its ant carries. In a world at most 2,340,900.
     pub food: u32,
     /// The markers of the red ants on it.
     pub red: Marks,
@@ -35,7 +35,7 @@ impl Cell {
         }
     }
 
-    /// Whether it is of this colour's hill (the task's geography).
+    /// Whether it belongs to this colour's hill (the task's geography).
     #[inline]
     pub fn is_hill_of(&self, colour: Colour) -> bool
         ensures { result ≡ is_hill_of colour self.now.hill }

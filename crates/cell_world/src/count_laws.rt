@@ -1,4 +1,4 @@
-// What holds of the counts of every world.
+// Laws of the counts of every world.
 ghost use Rattle.cell_world.specs.CountLaws.{AliveArePlaced, PutCounts};
 
 /// A law: `set` changes the total food, the food on each hill and the number of ants of each colour by replacing the

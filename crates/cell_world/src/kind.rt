@@ -2,7 +2,7 @@
 ghost use Rattle.std.specs.Prelude.{◌≡◌};
 ghost use Rattle.cell_world.specs.Opening.{is_hill, is_rock};
 
-/// What a cell is at the start of a game, as a world file says it of each cell (the task's geography).
+/// A cell at the start of a game, as a world file gives it (the task's geography).
 #[derive(Clone, Copy, Debug, PartialEq, Eq)]
 pub enum Kind {
     /// A rocky cell: `#` in a world file.
@@ -18,7 +18,7 @@ pub enum Kind {
 }
 
 impl Kind {
-    /// Whether a cell of this kind is rocky (the task's geography).
+    /// Whether a cell of this kind is rock (the task's geography).
     #[inline]
     pub fn is_rock(self) -> bool
         ensures { result ≡ is_rock self }
@@ -26,7 +26,7 @@ impl Kind {
         matches!(self, Kind::Rock)
     }
 
-    /// Whether a cell of this kind is of a hill, and an ant begins on it (the task's biology).
+    /// Whether a cell of this kind belongs to a hill, so that an ant begins on it (the task's biology).
     #[inline]
     pub fn is_hill(self) -> bool
         ensures { result ≡ is_hill self }

@@ -6,7 +6,7 @@
 //! are generic over [`Ground`], a world that can be read and changed cell by cell. This crate depends on
 //! `hex_geometry`.
 //!
-//! What names no section of the contest's task is this project's own.
+//! Whatever names no section of the contest's task is this project's own.
 #![tactic(auto)]
 
 mod ant;

@@ -2,11 +2,10 @@
 ghost use Rattle.std.specs.Prelude.{◌≡◌, ◌<◌};
 ghost use Rattle.cell_world.specs.Marks.{no_marks, has_mark, with_mark, without_mark, has_any_mark};
 
-/// A set of markers, which are numbered from 0 to 5: those of one colour that are set on one cell (the task's
-/// chemistry).
+/// A set of markers, numbered from 0 to 5: those of one colour on one cell (the task's chemistry).
 #[derive(Clone, Copy, Debug, Default, PartialEq, Eq)]
 pub struct Marks {
-    // Bit i is marker i; no bit above the sixth is ever set.
+    // Bit i is marker i; the two highest bits are never set.
     set: u8,
 }
 
@@ -28,7 +27,7 @@ impl Marks {
         self.set >> i & 1 == 1
     }
 
-    /// The same set, with marker `i`, which is from 0 to 5; the other markers are as they were (the task's chemistry).
+    /// The same set with marker `i`, which is from 0 to 5; the other markers are unchanged (the task's chemistry).
     #[inline]
     pub fn with(self, i: u8) -> Marks
         requires { i < 6 }
@@ -39,8 +38,7 @@ impl Marks {
         }
     }
 
-    /// The same set, without marker `i`, which is from 0 to 5; the other markers are as they were (the task's
-    /// chemistry).
+    /// The same set without marker `i`, which is from 0 to 5; the other markers are unchanged (the task's chemistry).
     #[inline]
     pub fn without(self, i: u8) -> Marks
         requires { i < 6 }

@@ -1,4 +1,4 @@
-// What holds of all sets of markers.
+// Laws of sets of markers.
 ghost use Rattle.cell_world.specs.MarksLaws.{MarksAreSets};
 
 /// A law: `has`, `with` and `without` are those of sets of the markers 0 to 5. The marker is in the set after `with`

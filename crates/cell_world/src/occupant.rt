@@ -1,21 +1,21 @@
-// Who stands on a cell, in two bytes.
+// Which ant is on a cell, in two bytes.
 ghost use Rattle.std.specs.Prelude.{◌≡◌};
 ghost use Rattle.cell_world.specs.Inner.Bodies.{IsKnown};
 ghost use Rattle.cell_world.specs.Inner.Stored.{occupant_id, occupant_of};
 
 use crate::ant::Ant;
 
-// The id of the ant that stands on a cell, or the one number that is no ant's id where none does.
+// The id of the ant on a cell, or a number that is no ant's id if there is none.
 #[derive(Clone, Copy)]
 pub struct Occupant {
     number: u16,
 }
 
-// No world has so many ants that this were an id.
+// No world has enough ants for this to be an id.
 const NOBODY: u16 = 65535;
 
 impl Occupant {
-    // Who stands on a cell with this ant, or without one.
+    // The occupant of a cell with this ant, or without one.
     #[inline]
     pub fn of(ant: Option<Ant>) -> Occupant
         requires { IsKnown 65535 ant }

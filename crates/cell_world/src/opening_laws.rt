@@ -1,4 +1,4 @@
-// What holds of the world of every plan, at the start of a game.
+// Laws of the world of every plan at the start of a game.
 ghost use Rattle.cell_world.specs.OpeningLaws.{HillsAreManned, PlansOpen};
 
 /// A law: the opening world of a plan keeps what every world keeps (the task's geography and biology).

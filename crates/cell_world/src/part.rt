@@ -4,16 +4,16 @@ ghost use Rattle.cell_world.specs.Parts.{has_part, no_parts, with_part};
 
 use crate::cell::Cell;
 
-/// A part of a cell. Rock and hill are in none, since no turn changes them.
+/// A part of a cell. Rock and hill belong to no part, since no turn changes them.
 #[derive(Clone, Copy, Debug, PartialEq, Eq)]
 pub enum Part {
-    /// The id and colour of the ant there, or that there is none.
+    /// The id and colour of the ant on the cell, or that there is none.
     Who,
-    /// Its state, resting count and direction, or that there is none.
+    /// The ant's state, resting count and direction, or that there is none.
     Mind,
-    /// Whether it carries food, or that there is none.
+    /// Whether the ant carries food, or that there is none.
     Load,
-    /// How many food particles lie there.
+    /// How many food particles are on the cell.
     Food,
     /// The markers of the red ants.
     RedMarks,
@@ -63,7 +63,7 @@ impl Parts {
         }
     }
 
-    /// The same set, with this part; the others are as they were.
+    /// The same set with this part; the others are unchanged.
     #[inline]
     pub fn with(self, part: Part) -> Parts
         ensures { result ≡ with_part self part }

@@ -8,7 +8,7 @@ use crate::marks::Marks;
 use crate::part::{Part, Parts};
 
 impl Cell {
-    /// Whether the two cells are equal in each of the parts; of no part it is true.
+    /// Whether the two cells are equal in each of the parts; true if there is no part.
     #[inline]
     pub fn agrees(&self, other: &Cell, parts: Parts) -> bool
         ensures { (result ≡ true) ↔ Agree parts self.now other.now }
@@ -21,8 +21,8 @@ impl Cell {
             && self.agrees_in(other, parts, Part::BlackMarks)
     }
 
-    /// The cell with the named parts of the source, and all else its own. Parts with Who also have Mind and Load. If
-    /// the parts have Mind or Load without Who, both cells hold ants with the same id and colour.
+    /// The cell with the named parts of the source, and everything else its own. Parts with Who also have Mind and
+    /// Load. If the parts have Mind or Load without Who, both cells hold ants with the same id and colour.
     #[inline]
     pub fn patched(self, source: Cell, parts: Parts) -> Cell
         requires { CanPatch self source parts }
@@ -41,7 +41,7 @@ impl Cell {
         }
     }
 
-    /// The first of the parts in which the two cells differ, in the order of the variants; none where they agree in all
+    /// The first of the parts in which the two cells differ, in the order of the variants; `None` if they agree in all
     /// of them.
     pub fn difference(&self, other: &Cell, parts: Parts) -> Option<Part>
         ensures { IsDifference parts self.now other.now result }
@@ -134,7 +134,7 @@ fn same_marks(one: &Marks, other: &Marks) -> bool
     one == other
 }
 
-// the one value where it is named, and else the other
+// one value if it is named, and otherwise the other
 #[inline]
 fn choose<T: Copy>(named: bool, source: T, own: T) -> T
     ensures { result ≡ if named then source else own }
@@ -142,7 +142,7 @@ fn choose<T: Copy>(named: bool, source: T, own: T) -> T
     if named { source } else { own }
 }
 
-// the ants of two cells, of which the one has the posture and the load of the other where they are named
+// the ants of two cells: the first ant with the posture and the load of the second, if they are named
 #[inline]
 fn patched_ant(own: Option<Ant>, source: Option<Ant>, parts: Parts) -> Option<Ant>
     ensures { result ≡ patched_ant parts own source }
@@ -153,7 +153,7 @@ fn patched_ant(own: Option<Ant>, source: Option<Ant>, parts: Parts) -> Option<An
     }
 }
 
-// an ant with the posture and the load of another where they are named
+// an ant with the posture and the load of another, if they are named
 #[inline]
 fn patched_by(ant: Ant, other: Ant, parts: Parts) -> Ant
     ensures { result ≡ patched_by parts ant other }

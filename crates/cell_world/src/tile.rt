@@ -9,7 +9,7 @@ use crate::cell::Cell;
 use crate::marks::Marks;
 use crate::occupant::Occupant;
 
-// What a world keeps of a cell: all of it, but of the ant that stands on it the id alone.
+// What a world keeps of a cell: everything, but of its ant only the id.
 #[derive(Clone, Copy)]
 pub struct Tile {
     pub food: u32,
@@ -36,7 +36,7 @@ impl Tile {
         }
     }
 
-    // The food on it, if it is of this colour's hill.
+    // The food on it, if it belongs to this colour's hill.
     pub fn food_of(&self, colour: Colour) -> u32
         ensures { result ≡ tile_food colour self.now }
     {
@@ -48,7 +48,7 @@ impl Tile {
     }
 }
 
-// The ant of this id as its body has it, if there is an id.
+// The ant with this id, from its body, if there is an id.
 #[inline]
 #[tactic(auto, unfolding(crate::specs::Inner::Stored::ant_named))]
 pub fn ant_named(bodies: &[Body], id: Option<u16>) -> Option<Ant>

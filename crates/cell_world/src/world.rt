@@ -24,9 +24,9 @@ pub use cells::Cells;
 
 /// A world (the task's geography, chemistry and biology).
 ///
-/// Width and height are from 3 to 512, the rim is rocky, a rocky cell has no food, marks, ant or hill, each set of
-/// markers is of the six, at most 16,384 ids were ever made, each id is below their number and on at most one cell, and
-/// the weight, which is the food, nine for each ant and one for each that carries food, is at most 2,340,900.
+/// Width and height are from 3 to 512. The rim is rocky, and a rocky cell has no food, marks, ant or hill. Each set of
+/// markers has only markers 0 to 5. At most 16,384 ids were ever assigned; each ant's id is one of them and is on at
+/// most one cell. The weight is at most 2,340,900: one for each food particle, lying or carried, and nine for each ant.
 #[derive(Drop)]
 pub struct World {
     width: u16,
@@ -70,9 +70,9 @@ impl World {
         })
     }
 
-    /// The world of these cells, which have no ants: `ids` ids existed, and all their ants are dead. The cells are in
-    /// row order: row by row from the top, each row from the left. They are those of a world of this width and height,
-    /// each from 3 to 512, and with this number of ids, at most 16,384. It fails only if memory runs out.
+    /// The world of these cells, none of which holds an ant: `ids` ids existed, and all their ants are dead. The cells
+    /// are in row order: row by row from the top, each row from the left. They are those of a world of this width and
+    /// height, each from 3 to 512, with this number of ids, at most 16,384. It fails only if memory runs out.
     pub fn of_ground(
         alloc: Global,
         width: u16,
@@ -93,7 +93,7 @@ impl World {
         })
     }
 
-    /// An equal world of its own. The one refusal is out of memory.
+    /// An equal world of its own. The only error is out of memory.
     pub fn copy(&self, alloc: Global) -> Result<World, OutOfMemory>
         ensures { IfOk result (λ w. w ≡ self.now) }
     {
@@ -125,8 +125,8 @@ impl World {
         self.height
     }
 
-    /// How many ids were ever made, at most 16,384; the ids are the numbers below it, also those of the dead (the
-    /// task's biology).
+    /// How many ids were ever assigned, at most 16,384. The ids are the numbers below it, including those of dead ants
+    /// (the task's biology).
     #[inline]
     pub fn ant_count(&self) -> u32
         ensures ids { result ≡ self.now.ids }
@@ -135,8 +135,8 @@ impl World {
         self.bodies.len() as u32
     }
 
-    /// The content of the cell at `p`, which is inside: its column is below the width and its row below the height (the
-    /// task's geography).
+    /// The cell at `p`, which is inside: its column is below the width and its row below the height (the task's
+    /// geography).
     #[inline]
     pub fn cell(&self, p: Pos) -> Cell
         requires { IsInside self.now.width self.now.height p }
@@ -154,8 +154,8 @@ impl World {
         }
     }
 
-    /// The position of the cell with the ant of this id, counted from 0; `None` if no cell has it: it is dead, or never
-    /// existed (the task's biology).
+    /// The position of the cell with the ant of this id, counted from 0; `None` if no cell has it because it is dead or
+    /// never existed (the task's biology).
     #[inline]
     pub fn ant_place(&self, id: u32) -> Option<Pos>
         ensures place { result ≡ place_in (world_of self.now) id }

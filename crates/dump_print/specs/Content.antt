@@ -14,16 +14,16 @@ abbrev pub colour_text : Colour → List ℕ
 colour_text Red = codes "red"
 colour_text Black = codes "black"
 
--- the food, where there is any
+-- the food, if there is any
 abbrev pub food_text : ℕ → List ℕ
 food_text food = if food == 0 then [] else decimal food +++ codes " food; "
 
--- the hill, where the cell belongs to one
+-- the hill, if the cell belongs to one
 abbrev pub hill_text : Option Colour → List ℕ
 hill_text None = []
 hill_text (Some colour) = colour_text colour +++ codes " hill; "
 
--- the markers of a colour in rising order, where any is set
+-- the markers of a colour in rising order, if any is set
 abbrev pub marks_text : Colour → Marks → List ℕ
 marks_text colour marks =
     if has_any_mark marks then colour_text colour +++ codes " marks: " +++ numbered (λ i. if has_mark marks i then decimal i else []) 6 +++ codes "; " else []
@@ -36,12 +36,12 @@ standing_ant_text ant =
     +++ codes ", food " +++ (if ant.laden then codes "1" else codes "0") +++ codes ", state " +++ decimal ant.state
     +++ codes ", resting " +++ decimal ant.resting
 
--- the ant, where one stands there
+-- the ant, if there is one
 abbrev pub ant_text : Option Ant → List ℕ
 ant_text None = []
 ant_text (Some ant) = standing_ant_text ant
 
--- the content of a cell: of a clear one its parts in this order, each only where it applies
+-- the content of a cell; for a clear one its parts in this order, each only if it applies
 unfoldable pub content_text : Cell → List ℕ
 content_text cell =
     if cell.rocky then codes "rock" else food_text cell.food +++ hill_text cell.hill +++ marks_text Red cell.red +++ marks_text Black cell.black +++ ant_text cell.ant

@@ -1,4 +1,4 @@
-// What a cell's line says of its content.
+// The text of a cell's content.
 ghost use Rattle.std.specs.Prelude.{[], codes, decimal, if◌then◌else◌};
 ghost use Rattle.cell_world.specs.Marks.{has_mark};
 ghost use Rattle.dump_print.specs.Content.{food_text, hill_text, marks_text, content_text, colour_text, standing_ant_text};
@@ -23,7 +23,7 @@ impl Layout for ColourWord {
     }
 }
 
-// The food on a cell, where there is any.
+// The food on a cell, if there is any.
 #[derive(Clone, Copy)]
 pub struct Food(pub u32);
 
@@ -40,7 +40,7 @@ impl Layout for Food {
     }
 }
 
-// The hill to which a cell belongs, where it belongs to one.
+// The hill to which a cell belongs, if any.
 #[derive(Clone, Copy)]
 pub struct Hill(pub Option<Colour>);
 
@@ -55,7 +55,7 @@ impl Layout for Hill {
     }
 }
 
-// The numbers of the markers that are set, rising.
+// The numbers of the markers that are set, in rising order.
 #[derive(Clone, Copy)]
 pub struct Digits(pub Marks);
 
@@ -74,7 +74,7 @@ impl NumberedTexts for Digits {
     }
 }
 
-// A colour's markers, where any is set.
+// A colour's markers, if any is set.
 #[derive(Clone, Copy)]
 pub struct Marked(pub Colour, pub Marks);
 

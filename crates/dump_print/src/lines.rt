@@ -13,7 +13,7 @@ use cell_world::{Cell, World};
 use hex_geometry::Pos;
 use itoa::Buffer;
 
-// What stands between the column and the content of each cell of row `y`, as `, 7): `: it is made once for a row.
+// The text between the column and the content of each cell of row `y`, such as `, 7): `. It is made once for a row.
 #[tactic(auto, unfolding(crate::specs::Inner::Breaks::row_tail))]
 fn row_tail(y: u16) -> ArrayString<16>
     ensures { result.bytes ≡ row_tail y }
@@ -26,12 +26,12 @@ fn row_tail(y: u16) -> ArrayString<16>
     tail
 }
 
-/// The line that a dump has of a cell, as `cell (1, 1): red hill; `, without its LF.
+/// The line of a cell in a dump, such as `cell (1, 1): red hill; `, without its LF.
 #[derive(Clone, Copy)]
 pub struct CellWords {
-    /// Where the cell is.
+    /// The position of the cell.
     pub at: Pos,
-    /// What it holds.
+    /// The cell.
     pub cell: Cell,
 }
 
@@ -51,8 +51,8 @@ impl Layout for CellWords {
     }
 }
 
-// The line of a cell without its LF, and in front of it the LF of the line before, if there is one: pieces that end in
-// LF are flushed by the sinks of streams, and so all lines are flushed at once.
+// The line of a cell without its LF, after the LF of the previous line, if there is one. Sinks of streams flush after
+// each piece that ends in LF, so this way all lines are flushed at once.
 #[derive(Clone, Copy)]
 pub struct CellLine<'r> {
     pub x: u16,
@@ -74,7 +74,7 @@ impl Layout for CellLine<'_> {
     }
 }
 
-// The lines of one row, which is below the height, each with the LF of the line before.
+// The lines of one row, which is below the height, each after the LF of the previous line.
 #[derive(Clone, Copy)]
 pub struct Row<'w> {
     pub world: &'w World,
@@ -106,7 +106,7 @@ impl NumberedTexts for Row<'_> {
     }
 }
 
-// The rows of a world, each line with the LF of the line before.
+// The rows of a world, each line after the LF of the previous line.
 #[derive(Clone, Copy)]
 pub struct Rows<'w>(pub &'w World);
 
@@ -144,7 +144,7 @@ impl Layout for Cells<'_> {
 
     fn push_to<K: Sink>(&self, sink: &mut K) -> Result<(), Failed> {
         let world = self.0;
-        // There is a first line, with no LF in front.
+        // There is a first line, with no LF before it.
         prove!(world.width() > 0);
         layout!(Each(Rows(world)), "\n").push_to(sink)
     }

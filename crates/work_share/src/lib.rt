@@ -2,7 +2,6 @@
 //!
 //! The pieces follow one another, together they are the whole row, and their sizes differ by at most one. The crate
 //! depends on no other. This is this project's own.
-//! no other. This is this project's own.
 #![tactic(auto)]
 
 ghost use Rattle.std.specs.Prelude.{◌≡◌, ◌≤◌, ◌<◌, ◌^◌};

@@ -12,6 +12,6 @@ byte_of RedHill = 43
 byte_of BlackHill = 45
 byte_of (Food n) = 48 + n
 
--- the bytes of a line that are no separators
+-- the bytes of a line that aren't separators
 abbrev pub spelled : List ℕ → List ℕ
 spelled line = filter (λ byte. not (is_separator byte)) line

@@ -5,7 +5,7 @@ use Rattle.cell_world.specs.declared.kind.Kind.{Kind}
 use Rattle.cell_world.specs.declared.kind.Kind.TheVariants.{Rock}
 use Rattle.world_read.specs.Bytes.{byte_of}
 
--- a space, where there is to be one
+-- a space, if there is to be one
 abbrev pub space_if : Bool → List ℕ
 space_if wanted = if wanted then codes " " else []
 

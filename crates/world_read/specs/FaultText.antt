@@ -1,15 +1,15 @@
--- What the faults of a world's text say (this project's own).
+-- The texts of the faults of a world's text (this project's own).
 use Rattle.std.specs.Prelude.{ℕ, List, codes, decimal}
 use Rattle.ant_base.specs.Layout.{◌+++◌}
 use Rattle.ant_base.specs.FaultText.{memory_text}
 use Rattle.world_read.specs.declared.fault.WorldFault.{WorldFault}
 use Rattle.world_read.specs.declared.fault.WorldFault.TheVariants.{BadWidth, BadHeight, MissingRow, BadCell, ShortRow, LongRow, ExtraRow, OpenRim, TooManyAnts, OutOfMemory}
 
--- what is said of a row, which is counted from 0
+-- the text about a row, which is counted from 0
 abbrev pub row_says : ℕ → List ℕ → List ℕ
 row_says row says = codes "row " +++ decimal row +++ codes ": " +++ says
 
--- what a world's fault says
+-- the text of a world's fault
 abbrev pub world_fault_text : WorldFault → List ℕ
 world_fault_text BadWidth = codes "bad width"
 world_fault_text BadHeight = codes "bad height"

@@ -1,4 +1,4 @@
--- What is wrong with a text that is no world's (this project's own).
+-- What is wrong with a text that is not a world (this project's own).
 use Rattle.std.specs.Prelude.{◌≡◌, ℕ, ◌+◌, ◌<◌, ◌≤◌, true, false, List, [], ◌∷◌, ◌++◌, length, map, Some, Result, Ok, Err}
 use Rattle.std.specs.List.{All}
 use Rattle.ant_base.specs.Lines.{lines_of, is_blank, trimmed}
@@ -34,7 +34,7 @@ pub record HasNoHeight (text : List ℕ) : Type 0 where
   pub is_width : HasSize first width
   pub none : BeginsWithNoSize lines
 
--- both sizes are given, and after them so many whole rows of these kinds; then come these lines
+-- both sizes are given, and after them this many whole rows of these kinds; then these lines follow
 pub record HasRows (text : List ℕ) (width height count : ℕ) (kinds : List Kind) (rest : List (List ℕ)) : Type 0 where
   pub first : List ℕ
   pub second : List ℕ
@@ -46,16 +46,16 @@ pub record HasRows (text : List ℕ) (width height count : ℕ) (kinds : List Ki
   pub are_rows : AreRows width rows kinds
   pub fed : All IsFed kinds
 
--- bytes are those of these cells, and then these
+-- the bytes are those of these cells, and then the rest
 pub record BeginsWith (bytes : List ℕ) (cells : List Kind) (rest : List ℕ) : Type 0 where
   pub spelled : bytes ≡ map byte_of cells ++ rest
   pub fed : All IsFed cells
 
--- a byte is that of no cell
+-- a byte is not that of a cell
 abbrev pub IsNoCell : ℕ → Type 0
 IsNoCell byte = (kind : Kind) → IsFed kind → byte ≡ byte_of kind → ⊥
 
--- after some of its cells, a byte of row y within the width is that of no cell
+-- after some of its cells, a byte of row y within the width is not that of a cell
 pub record HasBadCell (width y column : ℕ) (bytes : List ℕ) (row at : ℕ) : Type 0 where
   pub same_row : row ≡ y
   pub cells : List Kind
@@ -66,14 +66,14 @@ pub record HasBadCell (width y column : ℕ) (bytes : List ℕ) (row at : ℕ) :
   pub within : at < width
   pub wrong : IsNoCell byte
 
--- all bytes of row y are cells, and they are too few
+-- all bytes of row y are cells, and there are fewer than the width
 pub record HasShortRow (width y column : ℕ) (bytes : List ℕ) (row : ℕ) : Type 0 where
   pub same_row : row ≡ y
   pub cells : List Kind
   pub are : BeginsWith bytes cells []
   pub few : column + length cells < width
 
--- a byte follows as many cells of row y as the width
+-- row y has as many cells as the width, and then another byte
 pub record HasLongRow (width y column : ℕ) (bytes : List ℕ) (row : ℕ) : Type 0 where
   pub same_row : row ≡ y
   pub cells : List Kind
@@ -82,26 +82,26 @@ pub record HasLongRow (width y column : ℕ) (bytes : List ℕ) (row : ℕ) : Ty
   pub begins : BeginsWith bytes cells (byte ∷ after)
   pub whole : column + length cells ≡ width
 
--- what is wrong with these bytes of row y, in front of which so many of its cells stand
+-- what is wrong with these bytes of row y, after this many of its cells
 abbrev pub IsCellFault : ℕ → ℕ → ℕ → List ℕ → WorldFault → Type 0
 IsCellFault width y column bytes (BadCell row at) = HasBadCell width y column bytes row at
 IsCellFault width y column bytes (ShortRow row) = HasShortRow width y column bytes row
 IsCellFault width y column bytes (LongRow row) = HasLongRow width y column bytes row
 IsCellFault width y column bytes _ = ⊥
 
--- a line stands where row y should, and its bytes but for separators are at fault
+-- there is a line for row y, and its bytes without separators are at fault
 pub record IsLineFault (width y : ℕ) (lines : List (List ℕ)) (fault : WorldFault) : Type 0 where
   pub line : List ℕ
   pub after : List (List ℕ)
   pub are : lines ≡ line ∷ after
   pub wrong : IsCellFault width y 0 (spelled line) fault
 
--- no line stands where row y should
+-- there is no line for row y
 pub record HasNoLine (y : ℕ) (lines : List (List ℕ)) (row : ℕ) : Type 0 where
   pub same_row : row ≡ y
   pub none : lines ≡ []
 
--- what is wrong with row y, where these lines are left
+-- what is wrong with row y, if these lines are left
 abbrev pub IsRowFault : ℕ → ℕ → List (List ℕ) → WorldFault → Type 0
 IsRowFault width y lines (MissingRow row) = HasNoLine y lines row
 IsRowFault width y lines (BadCell row column) = IsLineFault width y lines (BadCell row column)
@@ -120,7 +120,7 @@ pub record HasRowFault (text : List ℕ) (fault : WorldFault) : Type 0 where
   pub within : row < height
   pub wrong : IsRowFault width row rest fault
 
--- all rows are whole, and a line after them isn't blank
+-- all rows are whole, and a later line isn't blank
 pub record HasExtraRow (text : List ℕ) : Type 0 where
   pub width : ℕ
   pub height : ℕ
@@ -131,7 +131,7 @@ pub record HasExtraRow (text : List ℕ) : Type 0 where
   pub rows : HasRows text width height height kinds (before ++ line ∷ after)
   pub wrong : is_blank line ≡ false
 
--- all rows are whole, of these sizes and kinds, and blank lines alone come after them
+-- all rows are whole, of these sizes and kinds, and only blank lines follow them
 pub record HasWholeRows (text : List ℕ) (width height : ℕ) (kinds : List Kind) : Type 0 where
   pub rest : List (List ℕ)
   pub rows : HasRows text width height height kinds rest
@@ -141,7 +141,7 @@ pub record HasWholeRows (text : List ℕ) (width height : ℕ) (kinds : List Kin
 abbrev pub IsClosed : ℕ → ℕ → List Kind → Pos → Type 0
 IsClosed width height kinds p = is_rock (kind_at width kinds p) ≡ false → IsInner width height p
 
--- the text is complete, a cell of the rim isn't rock, and those of the rim before it in row order are
+-- the text is complete, a cell of the rim isn't rock, and all cells of the rim before it in row order are
 pub record HasOpenRim (text : List ℕ) (p : Pos) : Type 0 where
   pub width : ℕ
   pub height : ℕ
@@ -151,7 +151,8 @@ pub record HasOpenRim (text : List ℕ) (p : Pos) : Type 0 where
   pub wrong : IsClosed width height kinds p → ⊥
   pub first : (q : Pos) → IsInside width height q → index_of width q < index_of width p → IsClosed width height kinds q
 
--- the text is complete, its rim is rock, and so many of its cells are of a hill, which are more than a world may have
+-- the text is complete, its rim is rock, and this number of its cells belong to a hill, which is more than a world may
+-- have
 pub record HasTooManyAnts (text : List ℕ) (count : ℕ) : Type 0 where
   pub width : ℕ
   pub height : ℕ
@@ -174,7 +175,7 @@ IsWorldFault text (OpenRim x y) = HasOpenRim text (record { x = x; y = y })
 IsWorldFault text (TooManyAnts count) = HasTooManyAnts text count
 IsWorldFault text OutOfMemory = ⊥
 
--- the verdict on a text: the sizes and kinds of the world of which it is a text, or what is wrong with it
+-- the verdict on a text: the sizes and kinds of its world, or what is wrong with it
 abbrev pub IsPlanVerdict : List ℕ → Result Plan WorldFault → Type 0
 IsPlanVerdict text (Ok plan) = IsWorldText text plan.width plan.height plan.kinds
 IsPlanVerdict text (Err fault) = IsWorldFault text fault

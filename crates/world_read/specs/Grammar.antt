@@ -21,8 +21,8 @@ AreRows width (line ∷ lines) kinds =
     (row : List Kind) × (rest : List Kind) × (kinds ≡ row ++ rest) × (length row ≡ width)
     × (spelled line ≡ map byte_of row) × AreRows width lines rest
 
--- a text is the world of these sizes and kinds: a line with the width alone, but for separators around it, one with the
--- height, a line for each row, and then blank lines alone; and the kinds are those of a world
+-- a text is that of the world of these sizes and kinds: a line with only the width, possibly between separators, then
+-- one with the height, a line for each row, and then only blank lines; and the kinds are those of a world
 pub record IsWorldText (text : List ℕ) (width height : ℕ) (kinds : List Kind) : Type 0 where
   pub first : List ℕ
   pub second : List ℕ

@@ -1,4 +1,4 @@
--- What holds of all world texts (this project's own).
+-- Laws of world texts (this project's own).
 use Rattle.std.specs.Prelude.{◌≡◌, ℕ, List, Result}
 use Rattle.cell_world.specs.declared.kind.Kind.{Kind}
 use Rattle.cell_world.specs.Grid.{Grid}
@@ -21,7 +21,7 @@ CanonicalTextIsReadBack =
     (width height : ℕ) (kinds : List Kind) → IsPlan width height kinds
     → IsWorldText (canonical_text width height kinds) width height kinds
 
--- what is written of an opening world is a text of that very world
+-- the text that is written for an opening world is a text of exactly that world
 abbrev pub WrittenWorldsAreReadBack : Type 0
 WrittenWorldsAreReadBack =
     (world : Grid) → IsOpeningWorld world → OpensAs (canonical_text world.width world.height (kinds_of world)) world

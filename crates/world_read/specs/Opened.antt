@@ -1,4 +1,4 @@
--- The kinds of an opening world, read off its cells (the task's game play).
+-- The kinds of an opening world, from its cells (the task's game play).
 use Rattle.std.specs.Prelude.{◌≡◌, ℕ, List, map, Option, Some, None, ◌==◌, if◌then◌else◌}
 use Rattle.cell_world.specs.declared.ant.Colour.{Colour}
 use Rattle.cell_world.specs.declared.ant.Colour.TheVariants.{Red, Black}
@@ -9,7 +9,7 @@ use Rattle.cell_world.specs.Grid.{Grid}
 use Rattle.cell_world.specs.Opening.{IsPlan, opening}
 use Rattle.world_read.specs.Grammar.{IsWorldText}
 
--- the kind of a clear cell of this hill, if it is of one, with so much food
+-- the kind of a clear cell of this hill, if it belongs to one, with this much food
 abbrev pub kind_of_clear : Option Colour → ℕ → Kind
 kind_of_clear None food = if food == 0 then Clear else Food food
 kind_of_clear (Some Red) food = RedHill

@@ -1,4 +1,4 @@
-// Why a text is no world.
+// Why a text is not a world.
 ghost use Rattle.std.specs.Prelude.{◌≡◌};
 
 use ant_base::{Failed, Layout, Sink, layout, show};
@@ -7,7 +7,7 @@ use std::alloc::{AllocError, AllocFailed};
 use std::error::Error;
 use std::fmt;
 
-/// Why a text was not read as a world, the first in this order. Rows and columns are counted from 0.
+/// Why a text was not read as a world: the first fault in this order. Rows and columns are counted from 0.
 #[derive(Clone, Copy, Debug, PartialEq, Eq)]
 pub enum WorldFault {
     /// There is no first line, or it isn't a number from 3 to 512.
@@ -19,11 +19,11 @@ pub enum WorldFault {
         /// the row, from 0
         row: u16,
     },
-    /// A byte of this row is no cell; `column` cells of the row precede it.
+    /// A byte of this row is not a cell; `column` cells of the row precede it.
     BadCell {
         /// the row, from 0
         row: u16,
-        /// how many cells stand before it
+        /// how many cells precede it
         column: u16,
     },
     /// This row has fewer cells than the width.
@@ -36,7 +36,7 @@ pub enum WorldFault {
         /// the row, from 0
         row: u16,
     },
-    /// A line after the last row has a byte that is no separator.
+    /// A line after the last row has a byte that isn't a separator.
     ExtraRow,
     /// A cell of the rim isn't rocky; this is the first in row order.
     OpenRim {
@@ -50,11 +50,11 @@ pub enum WorldFault {
         /// how many hill cells there are
         count: u32,
     },
-    /// Memory could not be had.
+    /// Memory ran out.
     OutOfMemory,
 }
 
-// What is said of a row.
+// The text about a row.
 #[derive(Clone, Copy)]
 struct AtRow<A>(u16, A);
 

@@ -11,7 +11,7 @@ pub fn canonical_text_is_read_back()
     ensures { CanonicalTextIsReadBack }
 {}
 
-/// A law: the text that is written of an opening world is a text of that very world.
+/// A law: the text that is written for an opening world is a text of exactly that world.
 pub fn written_worlds_are_read_back()
     ensures { WrittenWorldsAreReadBack }
 {}

@@ -1,4 +1,4 @@
-// What the kinds of a world keep: a rocky rim, and not too many hill cells.
+// What holds of the kinds of a world: a rocky rim, and not too many hill cells.
 ghost use Rattle.std.specs.Prelude.{◌≡◌, ◌≤◌, ◌<◌, ◌*◌, length};
 ghost use Rattle.cell_world.specs.Limits.{most_size};
 ghost use Rattle.cell_world.specs.Opening.{hill_count};
@@ -9,7 +9,7 @@ use crate::fault::WorldFault;
 use cell_world::{Kind, MOST_ANTS};
 use hex_geometry::{Pos, index_of, is_on_rim};
 
-// Whether the rim is rock and the hills aren't too many.
+// Whether the rim is rock and there are not too many hill cells.
 pub fn check_limits(width: u16, height: u16, kinds: &[Kind]) -> Result<(), WorldFault>
     requires sizes { AreSizes width height }
     requires full { length kinds.now ≡ width * height }

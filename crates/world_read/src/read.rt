@@ -20,11 +20,11 @@ use std::alloc::Global;
 /// The opening world of a world text of at most 4,194,304 bytes, or the text's first fault (the task's world files).
 /// Rows and columns are counted from 0.
 ///
-/// Every text is that of one opening world or has one fault. `OutOfMemory` may be answered at any text; every other
-/// answer is the text's. While it reads, it holds the kinds of the cells, for which it takes room once.
+/// Every text is that of one opening world or has one fault. `OutOfMemory` may be returned for any text; every other
+/// result follows from the text alone. While it reads, it holds the kinds of the cells; their memory is allocated once.
 ///
-/// Given `3\n3\n###\n#+#\n###\n` it answers the world of 3 by 3 cells with one ant: a red one of id 0, on (1, 1), which
-/// is its hill. Given `2\n3\n` it answers `BadWidth`, and given `3\n3\n###\n#..\n###\n` `OpenRim { x: 2, y: 1 }`.
+/// For `3\n3\n###\n#+#\n###\n` it returns the world of 3 by 3 cells with one ant: a red one with id 0, on (1, 1), which
+/// is its hill. For `2\n3\n` it returns `BadWidth`, and for `3\n3\n###\n#..\n###\n` `OpenRim { x: 2, y: 1 }`.
 pub fn read_world(alloc: Global, text: &[u8]) -> Result<World, WorldFault>
     requires { length text.now ≤ longest }
     ensures opening { IfOk result IsOpeningWorld }
@@ -51,7 +51,7 @@ fn read_text(alloc: Global, text: &[u8]) -> Result<World, WorldFault>
     open_world(alloc, width, height, &mut lines, &mut kinds)
 }
 
-// The opening world of the kinds that the lines of rows give, which are put into the list.
+// The opening world of the kinds in the lines of rows. The kinds are put into the list.
 fn open_world(
     alloc: Global,
     width: u16,

@@ -6,7 +6,7 @@ use crate::fault::WorldFault;
 use ant_base::is_separator;
 use cell_world::Kind;
 
-// Reads a line that is this row, and puts its kinds behind those that are there.
+// Reads a line as this row, and adds its kinds at the end of the list.
 pub fn read_row(line: &[u8], width: u16, row: u16, kinds: &mut Vec<Kind>) -> Result<(), WorldFault>
     ensures { ReadsAs (onto_row kinds.old.items (row_of width row line.now)) (leaving kinds.new.items result) }
 {
@@ -25,7 +25,7 @@ pub fn read_row(line: &[u8], width: u16, row: u16, kinds: &mut Vec<Kind>) -> Res
     Ok(())
 }
 
-// The kind of a row's next cell, in front of which so many cells stand.
+// The kind of a row's next cell, after this many cells.
 fn cell_of(byte: u8, width: u16, row: u16, column: u16) -> Result<Kind, WorldFault>
     ensures { result ≡ cell_of width row column byte }
 {
@@ -35,7 +35,7 @@ fn cell_of(byte: u8, width: u16, row: u16, column: u16) -> Result<Kind, WorldFau
     kind_of(byte).ok_or(WorldFault::BadCell { row, column })
 }
 
-// The kind that a byte stands for.
+// The kind for a byte.
 fn kind_of(byte: u8) -> Option<Kind>
     ensures { result ≡ kind_of byte }
 {

@@ -1,4 +1,4 @@
-// The rows of a world text, and what stands after them.
+// The rows of a world text, and what follows them.
 ghost use Rattle.std.specs.Prelude.{◌≡◌, Ok};
 ghost use Rattle.std.specs.List.{list_all};
 ghost use Rattle.ant_base.specs.Lines.{is_blank};
@@ -9,7 +9,7 @@ use crate::row::read_row;
 use ant_base::{Lines, is_blank};
 use cell_world::Kind;
 
-// Takes a line for each row, and puts their kinds behind those that are there.
+// Reads a line for each row, and adds their kinds at the end of the list.
 pub fn read_rows(
     lines: &mut Lines,
     width: u16,
@@ -29,7 +29,7 @@ pub fn read_rows(
     Ok(())
 }
 
-// Whether the lines that are left have separators alone.
+// Whether the remaining lines have only separators.
 pub fn are_blank(lines: &mut Lines) -> bool
     ensures { result ≡ list_all is_blank lines.old }
 {

@@ -1,4 +1,4 @@
-// The sizes of a world text, which stand on its first two lines.
+// The sizes of a world text, on its first two lines.
 ghost use Rattle.std.specs.Prelude.{◌≡◌, ◌≤◌, drop, IfSome};
 ghost use Rattle.cell_world.specs.Limits.{least_size, most_size};
 ghost use Rattle.world_read.specs.Inner.Reading.{first_size, size_of};
@@ -6,7 +6,7 @@ ghost use Rattle.world_read.specs.Inner.Reading.{first_size, size_of};
 use ant_base::{Lines, read_number_within, trim_line};
 use cell_world::{LEAST_SIZE, MOST_SIZE};
 
-// Takes the next line, and gives its size.
+// Reads the next line, and returns its size.
 pub fn read_size(lines: &mut Lines) -> Option<u16>
     ensures size { result ≡ first_size lines.old }
     ensures bounds { IfSome result (λ size. (least_size ≤ size) × (size ≤ most_size)) }
@@ -15,7 +15,7 @@ pub fn read_size(lines: &mut Lines) -> Option<u16>
     size_of(lines.next()?)
 }
 
-// The size that a line gives.
+// The size on a line.
 fn size_of(line: &[u8]) -> Option<u16>
     ensures size { result ≡ size_of line.now }
     ensures bounds { IfSome result (λ size. (least_size ≤ size) × (size ≤ most_size)) }

@@ -12,9 +12,9 @@ use ant_base::{Each, Failed, Layout, NumberedTexts, Sink, layout};
 use cell_world::{Cell, Colour, World};
 use hex_geometry::Pos;
 
-/// Pushes the canonical text of an opening world: a line with the width, one with the height, and one for each row, in
-/// which the cells have one space between them and the rows of odd number one before them, counted from 0 (the task's
-/// world files). Where the sink failed, a prefix of the text was pushed.
+/// Pushes the canonical text of an opening world: a line with the width, one with the height, and one for each row. The
+/// cells of a row have one space between them, and a row with an odd number, counted from 0, begins with a space (the
+/// task's world files). At `Failed` a prefix of the text was appended.
 #[tactic(auto, unfolding(crate::specs::Canonical::canonical_text))]
 pub fn write_world<K: Sink>(world: &World, sink: &mut K) -> Result<(), Failed>
     requires { IsOpeningWorld world.now }
@@ -30,7 +30,7 @@ pub fn write_world<K: Sink>(world: &World, sink: &mut K) -> Result<(), Failed>
     .push_to(sink)
 }
 
-// The rows of a world, on each of whose cells the food is one digit.
+// The rows of a world whose cells each have at most 9 food particles.
 #[derive(Clone, Copy)]
 struct GridRows<'w> {
     world: &'w World,
@@ -85,7 +85,7 @@ impl NumberedTexts for GridRow<'_> {
     }
 }
 
-// The byte of a cell, and the space before it.
+// The byte of a cell, with the space before it.
 #[derive(Clone, Copy)]
 struct CellText {
     x: u16,
@@ -101,7 +101,7 @@ impl Layout for CellText {
     }
 }
 
-// A space, where there is to be one.
+// A space, if there is to be one.
 #[derive(Clone, Copy)]
 struct Space(bool);
 
@@ -141,7 +141,7 @@ fn byte_of(cell: Cell) -> u8
     }
 }
 
-// The byte of a clear cell that is of no hill, with so much food.
+// The byte of a clear cell of no hill with this much food.
 fn byte_of_food(food: u32) -> u8
     requires { food ≤ 9 }
     ensures { result ≡ byte_of (kind_of_clear None food) }

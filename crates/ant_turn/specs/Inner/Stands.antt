@@ -8,7 +8,7 @@ use Rattle.cell_world.specs.Limits.{most_weight}
 use Rattle.cell_world.specs.Valid.{Valid}
 use Rattle.cell_world.specs.World.{World}
 
--- this ant stands at p, on this cell of a world, which is clear, not on the rim and holds no more food than a world
+-- this ant is at p, on this cell of a world; the cell is clear, not on the rim, and holds no more food than a world
 -- weighs
 pub record StandsAt (w : World) (p : Pos) (cell : Cell) (ant : Ant) : Type 0 where
   pub valid : Valid w

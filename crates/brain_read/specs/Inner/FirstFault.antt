@@ -1,4 +1,4 @@
--- The first line of a text with a state that there isn't, searched line by line.
+-- The first line of a text with a state that doesn't exist, searched line by line.
 use Rattle.std.specs.Prelude.{ℕ, List, [], ◌∷◌, Option, None, option_map}
 use Rattle.std.specs.Option.{option_or}
 use Rattle.brain_read.specs.declared.fault.BrainFault.{BrainFault}

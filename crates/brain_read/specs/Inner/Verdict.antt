@@ -15,11 +15,11 @@ pub record Placed : Type 0 where
   pub line : ℕ
   pub instruction : Instr
 
--- what is read of a text, or its fault
+-- what is read from a text, or its fault
 abbrev pub Judgement : Type 0 → Type 0
 Judgement A = Result A BrainFault
 
--- an instruction beside the number of its line
+-- an instruction with the number of its line
 abbrev pub placed_at : ℕ → Instr → Placed
 placed_at line instruction = record { line = line; instruction = instruction }
 
@@ -32,7 +32,7 @@ abbrev pub settled_then : ℕ → Result Instr ℕ → Judgement (List Instr) �
 settled_then line (Ok instruction) later = put_before instruction later
 settled_then line (Err state) later = Err (NoSuchState line state)
 
--- the instructions, where all their states are below n
+-- the instructions, if all their states are below n
 abbrev pub settle_all : ℕ → List Placed → Judgement (List Instr)
 settle_all n [] = Ok []
 settle_all n (placed ∷ list) = settled_then placed.line (draft_settled n placed.instruction) (settle_all n list)

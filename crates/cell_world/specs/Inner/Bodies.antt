@@ -15,17 +15,17 @@ abbrev pub IsMadeBody : ℕ → Option ℕ → Type 0
 IsMadeBody ids None = Unit {0}
 IsMadeBody ids (Some t) = t < ids
 
--- the body of id t when the ant that was on the cell is nowhere
+-- the body of id t after the ant that was on the cell is gone
 abbrev pub gone : ℕ → Option ℕ → Body → Body
 gone t None body = body
 gone t (Some before) body = if before == t then record body { place = None } else body
 
--- the body of id t when this ant is on the cell at p
+-- the body of id t after this ant came to the cell at p
 abbrev pub came : ℕ → Pos → Option Ant → Body → Body
 came t p None body = body
 came t p (Some after) body = if after.id == t then body_at p after else body
 
--- the new bodies have the ant of the one id nowhere, the other ant at p, and the rest as the old bodies have it
+-- in the new bodies the ant with the first id is nowhere, the other ant is at p, and the rest are unchanged
 pub record Moved (old new : List Body) (p : Pos) (before : Option ℕ) (after : Option Ant) : Type 0 where
   pub all_ids : length new ≡ length old
   pub each : (t : ℕ) (none : Body) → t < length old

@@ -9,7 +9,7 @@ use Rattle.cell_world.specs.Opening.{is_hill}
 abbrev pub hill_places : Kind → Pos → List (Option Pos)
 hill_places kind p = if is_hill kind then Some p ∷ [] else []
 
--- where the ants of these kinds begin, by id, where the first kind is that of the cell with number i in row order
+-- where the ants of these kinds begin, by id, if the first kind is that of the cell with number i in row order
 abbrev pub opening_places : ℕ → ℕ → List Kind → List (Option Pos)
 opening_places width i [] = []
 opening_places width i (kind ∷ kinds) = hill_places kind (pos_at width i) ++ opening_places width (i + 1) kinds

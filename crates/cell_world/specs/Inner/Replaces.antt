@@ -3,7 +3,7 @@ use Rattle.std.specs.Prelude.{◌≡◌, ℕ, ◌≤◌, true}
 use Rattle.cell_world.specs.declared.cell.Cell.{Cell}
 use Rattle.cell_world.specs.Cell.{holds_id, cell_weight}
 
--- the new cell may replace the old one: it is of the same kind and hill, has the same ant or none, and is no heavier
+-- the new cell may replace the old one: it has the same ground and hill, has the same ant or none, and isn't heavier
 pub record Replaces (old new : Cell) : Type 0 where
   pub same_kind : new.rocky ≡ old.rocky
   pub same_hill : new.hill ≡ old.hill

@@ -1,4 +1,4 @@
--- What a world keeps of cells and ants, and how it reads.
+-- What a world keeps of cells and ants, and what it means.
 use Rattle.std.specs.Prelude.{ℕ, ◌+◌, Bool, false, ◌&&◌, if◌then◌else◌, ◌==◌, List, [], ◌∷◌, ◌++◌, length, map, slice_index_or, Option, Some, None}
 use Rattle.std.specs.Option.{is_some, option_map}
 use Rattle.hex_geometry.specs.declared.direction.Dir.TheVariants.{East}
@@ -18,7 +18,7 @@ use Rattle.cell_world.specs.Grid.{Grid}
 use Rattle.cell_world.specs.Opening.{is_hill, opening_cell}
 use Rattle.hex_geometry.specs.RowOrder.{pos_at}
 
--- the ant of this id and body
+-- the ant with this id and body
 abbrev pub ant_from : ℕ → Body → Ant
 ant_from t body = record {
   id = t;
@@ -29,7 +29,7 @@ ant_from t body = record {
   laden = body.laden;
 }
 
--- the body of an ant that stands at p
+-- the body of an ant at p
 abbrev pub body_at : Pos → Ant → Body
 body_at p ant = record {
   place = Some p;
@@ -40,29 +40,29 @@ body_at p ant = record {
   laden = ant.laden;
 }
 
--- what stands for a body beyond the last one
+-- the default for a body after the last one
 unfoldable pub no_body : Body
 no_body = record { place = None; state = 0; resting = 0; facing = East; colour = Red; laden = false }
 
--- the ant of this id, where there is an id, as its body has it
+-- the ant with this id, from its body, if there is an id
 unfoldable pub ant_named : List Body → Option ℕ → Option Ant
 ant_named bodies None = None
 ant_named bodies (Some t) = Some (ant_from t (slice_index_or bodies t no_body))
 
--- the number of an occupant that stands for nobody
+-- the occupant's number for "no ant"
 abbrev pub nobody : ℕ
 nobody = 65535
 
--- the id of an occupant, where there is somebody
+-- the id of an occupant, if there is an ant
 abbrev pub occupant_id : Occupant → Option ℕ
 occupant_id occupant = if occupant.number == nobody then None else Some occupant.number
 
--- who is on a cell with this ant, or without one
+-- the occupant of a cell with this ant, or without one
 abbrev pub occupant_of : Option Ant → Occupant
 occupant_of None = record { number = nobody }
 occupant_of (Some ant) = record { number = ant.id }
 
--- the cell that a tile stands for
+-- the cell of a tile
 abbrev pub cell_from : List Body → Tile → Cell
 cell_from bodies tile = record {
   rocky = tile.rocky;
@@ -73,7 +73,7 @@ cell_from bodies tile = record {
   ant = ant_named bodies (occupant_id tile.ant);
 }
 
--- the id of the ant, where there is one
+-- the id of the ant, if there is one
 abbrev pub stored_id : Option Ant → Option ℕ
 stored_id ant = option_map (λ (it : Ant). it.id) ant
 
@@ -88,7 +88,7 @@ tile_of cell = record {
   black = cell.black;
 }
 
--- the grid that tiles and bodies stand for: there are as many ids as bodies
+-- the grid of tiles and bodies, with one id for each body
 abbrev pub grid_from : ℕ → ℕ → List Tile → List Body → Grid
 grid_from width height tiles bodies = record {
   width = width;
@@ -97,15 +97,15 @@ grid_from width height tiles bodies = record {
   cells = map (cell_from bodies) tiles;
 }
 
--- where each ant stands, by id
+-- the place of each ant, by id
 abbrev pub stored_places : List Body → List (Option Pos)
 stored_places bodies = map (λ (body : Body). body.place) bodies
 
--- whether it is the body of an ant of this colour that is alive
+-- whether it is the body of a living ant of this colour
 abbrev pub is_living : Colour → Body → Bool
 is_living colour body = is_some body.place && same_colour colour body.colour
 
--- the food of a tile, where it is of this colour's hill
+-- the food of a tile, if it belongs to this colour's hill
 abbrev pub tile_food : Colour → Tile → ℕ
 tile_food colour tile = if is_hill_of colour tile.hill then tile.food else 0
 
@@ -113,7 +113,7 @@ tile_food colour tile = if is_hill_of colour tile.hill then tile.food else 0
 abbrev pub new_body : Colour → Pos → Body
 new_body colour p = record { place = Some p; state = 0; resting = 0; facing = East; colour = colour; laden = false }
 
--- the colour of the hill of which a cell of this kind is
+-- the colour of the hill to which a cell of this kind belongs, if any
 abbrev pub hill_of : Kind → Option Colour
 hill_of Rock = None
 hill_of Clear = None
@@ -121,17 +121,17 @@ hill_of RedHill = Some Red
 hill_of BlackHill = Some Black
 hill_of (Food n) = None
 
--- the body of the ant that begins at p, where a hill is
+-- the body of the ant that begins at p, if there is a hill
 abbrev pub new_bodies : Option Colour → Pos → List Body
 new_bodies None p = []
 new_bodies (Some colour) p = new_body colour p ∷ []
 
--- the bodies of the ants that begin on cells of these kinds, of which the first is number i in row order
+-- the bodies of the ants that begin on cells of these kinds, if the first has number i in row order
 abbrev pub opening_bodies : ℕ → ℕ → List Kind → List Body
 opening_bodies width i [] = []
 opening_bodies width i (kind ∷ kinds) = new_bodies (hill_of kind) (pos_at width i) ++ opening_bodies width (i + 1) kinds
 
--- what is kept of the cells of these kinds, where the next ant's id is t
+-- what is kept of the cells of these kinds, if the next ant's id is t
 abbrev pub opening_tiles : ℕ → List Kind → List Tile
 opening_tiles t [] = []
 opening_tiles t (kind ∷ kinds) = tile_of (opening_cell t kind) ∷ opening_tiles (t + one_if (is_hill kind)) kinds

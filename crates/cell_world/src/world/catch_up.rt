@@ -1,4 +1,4 @@
-// A world brought up to another.
+// A world made equal to another.
 ghost use Rattle.std.specs.Prelude.{◌≡◌, ◌*◌, ◌<◌, List, [], length};
 ghost use Rattle.std.specs.List.{Contains};
 ghost use Rattle.hex_geometry.specs.Position.{IsInside};
@@ -13,7 +13,7 @@ use crate::world::World;
 use hex_geometry::{Pos, index_of};
 
 impl World {
-    /// Makes the world equal to `other`, from which it differs at these positions at most. Both have the same size and
+    /// Makes the world equal to `other`, which differs from it at most at these positions. Both have the same size and
     /// number of ids, and the positions are inside. The work depends on the number of positions; if there are many
     /// compared with the ids, all bodies are copied as one run, which is faster.
     pub fn catch_up(&mut self, other: &World, places: &[Pos])
@@ -45,7 +45,7 @@ impl World {
         );
     }
 
-    /// Makes the world equal to `other`, in the memory that it has. The two are of one size and number of ids. It takes
+    /// Makes the world equal to `other`, in the memory that it has. Both have the same size and number of ids. It takes
     /// no memory.
     pub fn copy_from(&mut self, other: &World)
         requires width { self.old.width ≡ other.now.width }
@@ -58,7 +58,7 @@ impl World {
     }
 }
 
-// Brings what is kept of these positions up to what another world keeps.
+// Makes what is kept of these positions equal to what another world keeps.
 fn follow(
     tiles: &mut Vec<Tile>,
     bodies: &mut Vec<Body>,
@@ -83,7 +83,7 @@ fn follow(
     }
 }
 
-// Brings the tiles of these positions up to those of another world, whose bodies are there already.
+// Makes the tiles of these positions equal to those of another world, whose bodies were already copied.
 fn follow_tiles(
     tiles: &mut Vec<Tile>,
     bodies: &Vec<Body>,
@@ -104,7 +104,7 @@ fn follow_tiles(
     }
 }
 
-// Makes the body of this id, if there is one, that of another world.
+// Makes the body of this id, if there is one, equal to that of another world.
 #[inline]
 fn follow_body(bodies: &mut Vec<Body>, others: &Vec<Body>, id: Option<u16>)
     requires { length others.now.items ≡ length bodies.old.items }

@@ -9,7 +9,7 @@ use crate::world::World;
 use hex_geometry::{Pos, pos_at};
 use std::marker::Model;
 
-/// The cells of a world that are left, each with its position, in row order: row by row from the top, each row from the
+/// The remaining cells of a world, each with its position, in row order: row by row from the top, each row from the
 /// left (the task's geography). It takes no memory. Contracts see the list of them.
 #[derive(Drop)]
 pub struct Cells<'w> {

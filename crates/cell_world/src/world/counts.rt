@@ -1,4 +1,4 @@
-// What a world counts to: the ants alive, and the food on the hills.
+// What is counted in a world: the living ants, and the food on the hills.
 ghost use Rattle.std.specs.Prelude.{◌≡◌, ◌<◌, ◌^◌};
 ghost use Rattle.std.specs.List.{count_by, sum_by};
 ghost use Rattle.cell_world.specs.Grid.{IsWorld, world_of};
@@ -42,14 +42,14 @@ impl World {
     }
 }
 
-// How many of these bodies are those of ants of this colour that are alive.
+// How many of these bodies are of living ants of this colour.
 fn living_in(bodies: &[Body], colour: Colour) -> usize
     ensures { result ≡ count_by (is_living colour) bodies.now }
 {
     bodies.iter().filter(|body| body.is_living(colour)).count()
 }
 
-// The food on those of these tiles that are of this colour's hill.
+// The food on those tiles that belong to this colour's hill.
 fn food_in(tiles: &[Tile], colour: Colour) -> u32
     requires { sum_by (tile_food colour) tiles.now < 2 ^ 32 }
     ensures { result ≡ sum_by (tile_food colour) tiles.now }

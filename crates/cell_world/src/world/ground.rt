@@ -57,7 +57,7 @@ impl Ground for World {
     }
 }
 
-// Notes in the bodies that at `p` there was the ant of the one id and is the other ant.
+// Notes in the bodies that the ant with this id is no longer at `p`, and that the other ant is.
 #[inline]
 fn note_change(bodies: &mut [Body], p: Pos, before: Option<u16>, after: Option<Ant>)
     requires before { IsMadeBody (length bodies.old) before }

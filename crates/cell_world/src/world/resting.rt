@@ -1,4 +1,4 @@
-// Resting ants, told apart from the others.
+// Resting ants, distinguished from the others.
 ghost use Rattle.std.specs.Prelude.{◌≡◌, ◌+◌, ◌-◌, ◌≤◌, length, nat_eq, take};
 ghost use Rattle.cell_world.specs.Grid.{IsWorld, world_of};
 ghost use Rattle.cell_world.specs.Limits.{most_ants};
@@ -9,10 +9,9 @@ use crate::body::Body;
 use crate::world::World;
 
 impl World {
-    /// Lets each resting ant with an id from `from` to below `to` rest one turn less, and lists the ids of the others
-    /// in rising order (the task's kinetics). The number that is returned is the length of that list, which is at the
-    /// front of `acting`; the elements after it have no meaning. Dead ants may be in the list. The ids existed, and
-    /// there are at most 64.
+    /// Lets each resting ant with an id from `from` to below `to` rest one turn less, and writes the ids of the others
+    /// in rising order to the front of `acting` (the task's kinetics). It returns how many ids were written; the
+    /// elements after them have no meaning. Dead ants may be among them. The ids existed, and there are at most 64.
     #[inline(never)]
     pub fn count_down_rests(&mut self, from: u32, to: u32, acting: &mut [u16; 64]) -> usize
         requires order { from ≤ to }
@@ -46,7 +45,7 @@ fn rest_bodies(bodies: &mut [Body], from: u32, to: u32, acting: &mut [u16; 64]) 
     count
 }
 
-// One turn less to rest for the ant of a body, where it rests; and whether it doesn't.
+// One turn less to rest for the ant of a body, if it rests; returns whether it doesn't rest.
 #[inline]
 fn rest_one(body: &mut Body) -> bool
     ensures body { body.new ≡ with_resting body.old (body.old.resting - 1) }

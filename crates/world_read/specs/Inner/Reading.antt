@@ -1,6 +1,6 @@
--- What each text is read as: its world's kinds, or its first fault. These functions take a text as the code does;
--- proofs/TextReads, FaultReads and WrongReads show that a text is read as a world exactly where it is that world's text
--- by Grammar, and as a fault exactly where that is wrong with it by Faulty.
+-- What each text is read as: its world's kinds, or its first fault. These functions read a text as the code does.
+-- proofs/TextReads, FaultReads and WrongReads show that a text is read as a world exactly if it is that world's text by
+-- Grammar, and as a fault exactly if that is wrong with it by Faulty.
 use Rattle.std.specs.Prelude.{◌≡◌, ◌≤◌, ℕ, ◌+◌, ◌-◌, ◌*◌, zero, suc, Bool, not, ◌&&◌, List, [], ◌∷◌, ◌++◌, Option, Some, None, Result, Ok, Err, ok_or, drop, nat_le, nat_lt, ◌==◌, if◌then◌else◌}
 use Rattle.std.specs.List.{list_all}
 use Rattle.ant_base.specs.Lines.{lines_of, trimmed, is_blank}
@@ -18,7 +18,7 @@ use Rattle.world_read.specs.declared.fault.WorldFault.TheVariants.{BadWidth, Bad
 use Rattle.world_read.specs.Bytes.{spelled}
 use Rattle.world_read.specs.Grammar.{Plan}
 
--- the kind that a byte stands for, if it stands for one
+-- the kind for a byte, if there is one
 abbrev pub kind_of : ℕ → Option Kind
 kind_of byte =
     if byte == 35 then Some Rock
@@ -28,16 +28,16 @@ kind_of byte =
     else if nat_le 49 byte && nat_le byte 57 then Some (Food (byte - 48))
     else None
 
--- the size that a line gives
+-- the size on a line
 abbrev pub size_of : List ℕ → Option ℕ
 size_of line = number_within least_size most_size (trimmed line)
 
--- the size on the first of these lines, where there is one
+-- the size on the first of these lines, if there is one
 abbrev pub first_size : List (List ℕ) → Option ℕ
 first_size [] = None
 first_size (line ∷ lines) = size_of line
 
--- the kind of the next cell of row y, in front of which so many cells stand, or what is wrong with it
+-- the kind of the next cell of row y, after this many cells, or what is wrong with it
 abbrev pub cell_of : ℕ → ℕ → ℕ → ℕ → Result Kind WorldFault
 cell_of width y column byte = if nat_lt column width then ok_or (kind_of byte) (BadCell y column) else Err (LongRow y)
 
@@ -51,7 +51,7 @@ abbrev pub with_cell : Result Kind WorldFault → Result (List Kind) WorldFault 
 with_cell (Err fault) rest = Err fault
 with_cell (Ok kind) rest = onto_row (kind ∷ []) rest
 
--- the kinds of row y from this column on, from the bytes that are left of it
+-- the kinds of row y from this column on, from the rest of its bytes
 abbrev pub row_from : ℕ → ℕ → ℕ → List ℕ → Result (List Kind) WorldFault
 row_from width y column [] = if nat_lt column width then Err (ShortRow y) else Ok []
 row_from width y column (byte ∷ bytes) = with_cell (cell_of width y column byte) (row_from width y (column + 1) bytes)
@@ -71,7 +71,7 @@ with_row (Err fault) below = Err fault
 with_row (Ok row) (Err fault) = Err fault
 with_row (Ok row) (Ok below) = Ok (record { kinds = row ++ below.kinds; rest = below.rest })
 
--- so many rows from row y on
+-- this many rows from row y on
 abbrev pub rows_from : ℕ → ℕ → ℕ → List (List ℕ) → Result Rows WorldFault
 rows_from width y zero lines = Ok (record { kinds = []; rest = lines })
 rows_from width y (suc left) [] = Err (MissingRow y)
@@ -81,7 +81,7 @@ rows_from width y (suc left) (line ∷ lines) = with_row (row_of width y line) (
 abbrev pub is_open : ℕ → ℕ → Kind → Pos → Bool
 is_open width height kind p = is_on_rim width height p && not (is_rock kind)
 
--- whether the cell at p of these kinds is
+-- whether the cell at p of these kinds is on the rim, and isn't rock
 abbrev pub is_open_at : ℕ → ℕ → List Kind → Pos → Bool
 is_open_at width height kinds p = is_open width height (kind_at width kinds p) p
 
@@ -89,7 +89,7 @@ is_open_at width height kinds p = is_open width height (kind_at width kinds p) p
 unfoldable pub open_rim : ℕ → ℕ → List Kind → Option Pos
 open_rim width height kinds = first_of width (is_open_at width height kinds) (width * height)
 
--- kinds with a rocky rim, of which not too many are hills
+-- kinds with a rocky rim and not too many hills
 abbrev pub limited : ℕ → ℕ → List Kind → Option Pos → Result Plan WorldFault
 limited width height kinds (Some p) = Err (OpenRim p.x p.y)
 limited width height kinds None =
@@ -97,7 +97,7 @@ limited width height kinds None =
     then Ok (record { width = width; height = height; kinds = kinds })
     else Err (TooManyAnts (hill_count kinds))
 
--- rows after which there are blank lines alone
+-- rows that only blank lines follow
 abbrev pub rows_ended : ℕ → ℕ → Result Rows WorldFault → Result Plan WorldFault
 rows_ended width height (Err fault) = Err fault
 rows_ended width height (Ok rows) =
@@ -113,7 +113,7 @@ abbrev pub after_width : Option ℕ → List (List ℕ) → Result Plan WorldFau
 after_width None lines = Err BadWidth
 after_width (Some width) lines = after_height width (first_size lines) (drop 1 lines)
 
--- what a text is read as: its world's sizes and kinds, or its fault, the first in this order
+-- what a text is read as: its world's sizes and kinds, or its first fault in this order
 unfoldable pub plan_of : List ℕ → Result Plan WorldFault
 plan_of text = after_width (first_size (lines_of text)) (drop 1 (lines_of text))
 
@@ -126,13 +126,13 @@ opened (Ok plan) = Ok (opening plan.width plan.height plan.kinds)
 unfoldable pub world_of_text : List ℕ → Result Grid WorldFault
 world_of_text text = opened (plan_of text)
 
--- what was told of a text is this answer. Want of memory may be answered at any time
+-- the result agrees with what was judged of a text; out of memory may be returned at any time
 abbrev pub ReadsAs : {A : Type 0} → Result A WorldFault → Result A WorldFault → Type 0
 ReadsAs told (Ok value) = told ≡ Ok value
 ReadsAs told (Err OutOfMemory) = Unit {0}
 ReadsAs told (Err fault) = told ≡ Err fault
 
--- what a call that fills a value answered, as the value that it left or its fault
+-- the result of a call that fills a value: the value that it left, or its fault
 abbrev pub leaving : {A : Type 0} → A → Result (Unit {0}) WorldFault → Result A WorldFault
 leaving value (Ok _) = Ok value
 leaving value (Err fault) = Err fault
