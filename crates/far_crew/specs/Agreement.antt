@@ -20,7 +20,7 @@ pub record IsSameGame (field : FieldValue) (found : FoundValue) : Type 0 where
   pub height : field.world.height ≡ found.base.height
   pub ids : field.world.ids ≡ found.base.ids
 
--- the ant of an id is dead in both worlds or alive in both, and where it is alive, the instruction of its colour and
+-- the ant with an id is dead in both worlds or alive in both, and if it is alive, the instruction of its colour and
 -- state is the same in both pairs of brains
 pub record IsSameAnt (field : FieldValue) (found : FoundValue) (t : ℕ) : Type 0 where
   pub dead : (place_in (world_of found.base) t ≡ None) ↔ (place_in (world_of field.world) t ≡ None)
@@ -30,7 +30,7 @@ pub record IsSameAnt (field : FieldValue) (found : FoundValue) (t : ℕ) : Type 
       ≡ instruction_at (mind_of found.minds ant.colour) ant.state
 
 -- a look of an answer agrees with a field at a guess: the games are the same, the look's guess is this one, every
--- position that it reads has equal whole contents in both worlds, and its ant is the same in both
+-- position that it reads has the same whole cell in both worlds, and its ant is the same in both
 pub record AgreesWith (field : FieldValue) (found : FoundValue) (look : LookValue) (guess : ℕ) : Type 0 where
   pub game : IsSameGame field found
   pub guessed : look.guess ≡ guess

@@ -1,4 +1,4 @@
--- Jobs of workers that stand by, and what the workers find (this project's own).
+-- Jobs of workers that stay ready, and what the workers find (this project's own).
 use Rattle.std.specs.Prelude.{◌≡◌, ℕ, zero, suc, ◌+◌, ◌-◌, ◌<◌, ◌≤◌, ◌^◌, List, [], ◌∷◌, ◌++◌, length, slice_index_or}
 use Rattle.std.specs.List.{AllByRecursion}
 use Rattle.cell_world.specs.Grid.{Grid, world_of}
@@ -21,8 +21,8 @@ pub record FoundValue : Type 0 where
   pub base : Grid
   pub looks : List LookValue
 
--- what every job keeps: its brains fit its world, its turns are ids of it, and each has a guess at which a number can
--- be drawn
+-- what holds of every job: its brains fit its world, its turns are ids of it, and each has a guess at which a number
+-- can be drawn
 pub record IsJob (job : JobValue) : Type 0 where
   pub fits : Fits (world_of job.base) job.minds
   pub forwards : job.from ≤ job.to
@@ -35,7 +35,7 @@ pub record IsLookOf (minds : Minds) (seed : ℕ) (base : Grid) (look : LookValue
   pub below : look.turn < base.ids
   pub is : look ≡ look_of minds seed (world_of base) look.guess look.turn
 
--- what every answer keeps: its brains fit its world, and each look is one of them on it
+-- what holds of every answer: its brains fit its world, and each look is that of these brains and this seed on it
 pub record IsFound (minds : Minds) (seed : ℕ) (base : Grid) (looks : List LookValue) : Type 0 where
   pub fits : Fits (world_of base) minds
   pub each : AllByRecursion (IsLookOf minds seed base) looks

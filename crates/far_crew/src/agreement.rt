@@ -20,10 +20,10 @@ use hex_geometry::Pos;
 use round_book::Field;
 use spec_record::Look;
 
-/// Whether a look of an answer agrees with a field at a guess: the seeds, the sheets, the sizes and the numbers of ids
-/// are equal, the look's guess is this one, every position that the look reads has equal whole contents in both worlds,
-/// and its ant is dead in both or alive in both, there with the same instruction in both pairs of brains. Then it is
-/// the look on the field at its turn and this guess. `i` is below the number of looks. It takes no memory.
+/// Whether a look of an answer agrees with a field at a guess. The seeds, the sheets, the sizes and the numbers of ids
+/// are equal, and the look's guess is this one. Every position that the look reads has the same whole cell in both
+/// worlds. Its ant is dead in both, or alive in both with the same instruction in both pairs of brains. Then it is the
+/// look on the field at its turn and this guess. `i` is below the number of looks. It takes no memory.
 pub fn agrees(field: &Field<'_>, found: &Found, i: u32, guess: u64) -> bool
     requires { i < length found.now.looks }
     ensures agrees { (look : _) → slice_get found.now.looks i ≡ Some look → ((result ≡ true) ↔ AgreesWith field.now found.now look guess) }
@@ -50,19 +50,19 @@ pub(crate) fn is_look_for(
     is_agreeing(field, found, look, guess)
 }
 
-// Whether a look of an answer agrees; it is the field's own then.
+// Whether a look of an answer agrees; then it is the field's own.
 #[tactic(auto, using(crate::proofs::AgreementLemmas::agrees_test, crate::proofs::AgreementLemmas::look_known))]
 fn is_agreeing(field: &Field<'_>, found: &Found, look: &Look, guess: u64) -> bool
     requires { IsLookOf found.now.minds found.now.seed found.now.base look.now }
     ensures agrees { (result ≡ true) ↔ AgreesWith field.now found.now look.now guess }
     ensures own { result ≡ true → look.now ≡ look_of field.now.minds field.now.seed (world_of field.now.world) guess look.now.turn }
 {
-    // for its clause alone: what the field has is a world
+    // called for its clause: the field has a world
     let _width = field.world().width();
     is_same_in_all(field, found, look, guess)
 }
 
-// Whether all is the same that a look which agrees has the same.
+// Whether everything is the same that must be for a look to agree.
 fn is_same_in_all(field: &Field<'_>, found: &Found, look: &Look, guess: u64) -> bool
     requires { IsLookOf found.now.minds found.now.seed found.now.base look.now }
     ensures { (result ≡ true) ↔ (IsSameGame field.now found.now × (look.now.guess ≡ guess)
@@ -72,7 +72,7 @@ fn is_same_in_all(field: &Field<'_>, found: &Found, look: &Look, guess: u64) -> 
     is_same_game(field, found) && look.guess() == guess && is_same_there(field, found, look)
 }
 
-// Whether the field's world holds what the look read, and its ant is the same.
+// Whether the field's world has what the look read, and its ant is the same.
 fn is_same_there(field: &Field<'_>, found: &Found, look: &Look) -> bool
     requires { IsLookOf found.now.minds found.now.seed found.now.base look.now }
     ensures { (result ≡ true) ↔ (AllByRecursion (λ read. (world_of found.now.base).cells (seen_place read) ≡ (world_of field.now.world).cells (seen_place read)) look.now.reads
@@ -81,8 +81,8 @@ fn is_same_there(field: &Field<'_>, found: &Found, look: &Look) -> bool
     are_reads_same(field, found, look) && is_same_ant(field, found, look.turn())
 }
 
-// Whether the field's world holds at each position that was read what the answer's world holds there, which is what the
-// look stored.
+// Whether, at each position that was read, the field's world has the same cell as the answer's world; the look stored
+// that cell.
 fn are_reads_same(field: &Field<'_>, found: &Found, look: &Look) -> bool
     requires { IsLookOf found.now.minds found.now.seed found.now.base look.now }
     ensures { (result ≡ true) ↔ AllByRecursion (λ read. (world_of found.now.base).cells (seen_place read) ≡ (world_of field.now.world).cells (seen_place read)) look.now.reads }
@@ -107,7 +107,7 @@ fn are_numbers_same(field: &Field<'_>, found: &Found) -> bool
         && are_sizes_same(field.world(), found.base())
 }
 
-// Whether two worlds are of one size and number of ids.
+// Whether two worlds have the same size and number of ids.
 pub(crate) fn are_sizes_same(one: &World, other: &World) -> bool
     ensures { (result ≡ true) ↔ ((one.now.width ≡ other.now.width) × (one.now.height ≡ other.now.height) × (one.now.ids ≡ other.now.ids)) }
 {
@@ -116,7 +116,7 @@ pub(crate) fn are_sizes_same(one: &World, other: &World) -> bool
         && one.ant_count() == other.ant_count()
 }
 
-// Whether an ant is dead in both, or alive in both and at the same instruction.
+// Whether an ant is dead in both, or alive in both with the same instruction.
 #[tactic(auto, using(crate::proofs::AgreementLemmas::dead_test))]
 fn is_same_ant(field: &Field<'_>, found: &Found, id: u32) -> bool
     ensures { (result ≡ true) ↔ IsSameAnt field.now found.now id }
@@ -127,7 +127,7 @@ fn is_same_ant(field: &Field<'_>, found: &Found, id: u32) -> bool
     is_living_same(field, found, id, p)
 }
 
-// The same of an ant that lives in the answer's world.
+// The same for an ant that is alive in the answer's world.
 #[tactic(auto, using(crate::proofs::AgreementLemmas::living_dead, crate::proofs::AgreementLemmas::living_test))]
 fn is_living_same(field: &Field<'_>, found: &Found, id: u32, p: Pos) -> bool
     requires { place_in (world_of found.now.base) id ≡ Some p }
@@ -140,7 +140,7 @@ fn is_living_same(field: &Field<'_>, found: &Found, id: u32, p: Pos) -> bool
     is_same_instruction(field.brains(), found.brains(), &ant)
 }
 
-// The ant of an id at its place.
+// The ant with an id at its place.
 #[tactic(auto, using(crate::proofs::AgreementLemmas::placed_inside, crate::proofs::AgreementLemmas::placed_ant))]
 fn ant_at(base: &World, id: u32, p: Pos) -> Ant
     requires { place_in (world_of base.now) id ≡ Some p }
@@ -152,7 +152,7 @@ fn ant_at(base: &World, id: u32, p: Pos) -> Ant
     ant
 }
 
-// Whether an ant is at the same instruction in two pairs of brains.
+// Whether an ant has the same instruction in two pairs of brains.
 fn is_same_instruction(one: Brains<'_>, other: Brains<'_>, ant: &Ant) -> bool
     ensures { (result ≡ true) ↔ (instruction_at (mind_of (minds_of one.entry) ant.now.colour) ant.now.state ≡ instruction_at (mind_of (minds_of other.entry) ant.now.colour) ant.now.state) }
 {
@@ -162,7 +162,7 @@ fn is_same_instruction(one: Brains<'_>, other: Brains<'_>, ant: &Ant) -> bool
     )
 }
 
-// The instruction at a state; beyond the last one there stands a Drop, as in the definition.
+// The instruction at a state; after the last one it is a Drop, as in the definition.
 fn instruction_at(brain: &Brain, state: u16) -> Instr
     ensures { result ≡ instruction_at brain.now state }
 {

@@ -1,4 +1,4 @@
-// Who looks at turns.
+// The callers of the gate.
 use ant_base::Gate;
 
 // A worker, or the committer, by the number with which it calls the gate.

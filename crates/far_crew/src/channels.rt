@@ -1,4 +1,4 @@
-// The channels of one worker, as the crew holds them.
+// The channels of one worker, on the crew's side.
 use crate::found::Found;
 use crate::job::Job;
 use crossbeam_channel::{Receiver, Sender};
@@ -39,7 +39,7 @@ impl WorkerChannels {
         self.is_open
     }
 
-    // Gives back what the last window shared with it; the room of its answer is kept.
+    // Gives back what the last window shared with the worker; the room of its answer is kept.
     pub fn clear(&mut self) {
         self.job = None;
         self.is_asked = false;
@@ -53,13 +53,12 @@ impl WorkerChannels {
         self.room.take().unwrap_or_else(|| Vec::new(alloc))
     }
 
-    // Has this job ready.
+    // Makes this job ready.
     pub fn prepare(&mut self, job: Job) {
         self.job = Some(job);
     }
 
-    // Sends the job that is ready, if there is one. A job that can't be sent is gone with its room, and the line is
-    // closed.
+    // Sends the ready job, if there is one. If it can't be sent, the job is lost with its room, and the line is closed.
     pub fn ask<R: Wait>(&mut self, rt: &R) {
         if let Some(job) = self.job.take() {
             self.is_asked = self.jobs.send(rt, job).is_ok();
@@ -67,7 +66,7 @@ impl WorkerChannels {
         }
     }
 
-    // Takes the answer in, if one is due. Where there will be none, the line is closed.
+    // Receives the answer, if one is due. If there will be none, the line is closed.
     pub fn take_in<R: Wait>(&mut self, rt: &R) {
         if self.is_asked {
             self.found = self.answers.recv(rt).ok();

@@ -1,4 +1,4 @@
-// The crew of workers that stand by.
+// The crew of workers that stay ready.
 ghost use Rattle.std.specs.Prelude.{◌≡◌, ◌+◌, ◌-◌, ◌≤◌, ◌^◌, min, IfOk, OnOk, OnErr};
 ghost use Rattle.round_book.specs.Book.{CanBegin, IsPlayed, window_of};
 ghost use Rattle.round_book.specs.Counts.{counts_of};
@@ -38,7 +38,7 @@ pub struct FarCrew<'c, R: Wait, G: Gate> {
 }
 
 impl<'c, R: Wait, G: Gate> FarCrew<'c, R, G> {
-    // A crew of the workers of these lines, of so many that were asked for, which has played no turn yet.
+    // A crew of the workers of these lines, out of the requested number, which has played no turn yet.
     pub(crate) fn of(
         rt: &'c R,
         alloc: Global,
@@ -65,7 +65,7 @@ impl<'c, R: Wait, G: Gate> FarCrew<'c, R, G> {
         }
     }
 
-    /// A crew of this number of workers, 1 to 16, none of which was started, as if the system refused each start: no
+    /// A crew of this number of workers, 1 to 16, none of which was started, as if the system refused each start. No
     /// worker gets a job, and the caller's thread looks at each turn. It has played no turn yet.
     pub fn unstarted(rt: &'c R, alloc: Global, gate: &'c G, workers: u32) -> FarCrew<'c, R, G>
         requires workers { (1 ≤ workers) × (workers ≤ 16) }
@@ -74,7 +74,7 @@ impl<'c, R: Wait, G: Gate> FarCrew<'c, R, G> {
         FarCrew::of(rt, alloc, gate, workers, Vec::new(alloc))
     }
 
-    /// How many turns the crew has played, from 0; at the last value, 2^64 - 1, it stays.
+    /// How many turns the crew has played, from 0; it stays at the largest `u64`, 2^64 - 1.
     #[inline]
     pub fn turns(&self) -> u64
         ensures { result ≡ turns_of self.now }
@@ -82,13 +82,13 @@ impl<'c, R: Wait, G: Gate> FarCrew<'c, R, G> {
         self.turns
     }
 
-    /// Plays the turns of the ids from `from` up to, and not including, `to`. The field is whole, `from` is at most
+    /// Plays the turns of the ids from `from` up to, but not including, `to`. The field is whole, `from` is at most
     /// `to`, `to` is at most the number of ids, and the place plus the number of turns is below 2^63. Afterwards the
-    /// field is whole, and its world and place are those to which the turns lead in order. The result counts the looks
-    /// that were used and the turns that were executed again. It fails only if memory runs out; the field and the count
-    /// of turns are then unchanged. All memory except the book's is taken before the first job is sent.
+    /// field is whole, and its world and place are those after the turns in order. The result counts the looks that
+    /// were used and the turns that were executed again. It fails only if memory runs out; the field and the count of
+    /// turns are then unchanged. All memory except the book's is taken before the first job is sent.
     ///
-    /// Each worker that has started and whose channels are open gets a job, and the call waits for one answer from it.
+    /// Each worker that was started and whose channels are open gets a job, and the call waits for one answer from it.
     /// If no look at a turn agrees with the field, the caller's thread looks at it, and calls the gate with the number
     /// of workers as its own.
     pub fn window(
@@ -150,7 +150,7 @@ impl<'c, R: Wait, G: Gate> FarCrew<'c, R, G> {
         Ok(field.finish(book))
     }
 
-    // Has a job ready for each worker.
+    // Makes a job ready for each worker.
     fn prepare(
         &mut self,
         alloc: Global,
@@ -186,7 +186,7 @@ fn ask_all<R: Wait>(rt: &R, lines: &mut [WorkerChannels]) {
     }
 }
 
-// Takes in an answer of each line that was sent a job.
+// Receives an answer from each line that was sent a job.
 fn take_in_all<R: Wait>(rt: &R, lines: &mut [WorkerChannels]) {
     for line in lines {
         line.take_in(rt);

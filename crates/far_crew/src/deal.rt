@@ -13,17 +13,17 @@ use spec_record::Look;
 use std::alloc::Global;
 use work_share::border;
 
-// The most workers that a window is shared out to.
+// The most workers among which a window is shared out.
 const MOST_WORKERS: usize = 16;
 
-// Some of the turns of a window, numbered from 0: from the first up to, and not including, the last.
+// Some of the turns of a window, numbered from 0: from the first up to, but not including, the last.
 #[derive(Clone, Copy)]
 pub struct Piece {
     pub first: usize,
     pub last: usize,
 }
 
-// Has a job ready for each line that is open: the turns are shared out in contiguous pieces.
+// Makes a job ready for each open line: the turns are shared out in contiguous pieces.
 pub fn prepare_all(
     alloc: Global,
     lines: &mut [WorkerChannels],
@@ -52,7 +52,7 @@ fn open_lines(lines: &[WorkerChannels]) -> usize {
     lines.iter().filter(|line| line.is_open()).count()
 }
 
-// The piece of this worker among so many.
+// The piece of this worker among this many.
 fn piece_of(turns: &GuessedTurns<'_>, workers: usize, worker: usize) -> Piece
     requires forwards { turns.now.from ≤ turns.now.to }
     requires few { workers ≤ 16 }

@@ -1,4 +1,4 @@
-// Workers that stand by while an errand is run.
+// Workers that stay ready while an errand is run.
 ghost use Rattle.std.specs.Prelude.{◌≡◌, ◌≤◌, IfOk, IfErr};
 ghost use Rattle.round_book.specs.Book.{CanBegin};
 ghost use Rattle.round_book.specs.Led.{IsWindow};
@@ -16,14 +16,14 @@ use std::sync::Wait;
 use std::thread;
 use std::thread::Threads;
 
-/// What is done with a crew, whichever crew it is. An errand goes by value and comes back, since a scope of threads
-/// passes on what its closure answers, and not what the closure writes through a borrow; it may hold `&mut` references,
-/// which come back with it.
+/// What is done with a crew of any kind. An errand is passed by value and returned, since a scope of threads passes on
+/// what its closure returns, and not what the closure writes through a borrow. It may hold `&mut` references, which are
+/// returned with it.
 pub trait Errand: Drop {
-    /// How the errand that comes out belongs to the one that went in.
+    /// The relation between the errand that is passed and the one that is returned.
     ghost finished: { Self → Self → Type 0 };
 
-    /// Does it with a crew that is ready, and answers the errand as it comes out.
+    /// Does it with a ready crew, and returns the errand.
     fn run<C: Crew>(self, crew: &mut C) -> Self
         requires { C.ready crew.old }
         ensures { finished self result };
@@ -38,7 +38,7 @@ struct Post {
     answers: Sender<Found>,
 }
 
-// The posts of so many workers, and room for their lines.
+// The posts of this many workers, and room for their lines.
 fn posts(alloc: Global, workers: u32) -> Result<(Vec<Post>, Vec<WorkerChannels>), AllocError> {
     let mut posts = Vec::with_capacity(alloc, workers as usize)?;
     let lines = Vec::with_capacity(alloc, workers as usize)?;
@@ -98,12 +98,12 @@ fn run_errand<R: Wait, G: Gate, E: Errand>(
     errand.run(&mut crew)
 }
 
-/// Runs an errand with a crew of 1 to 16 workers that stand by, and answers the errand that comes out. It is refused
-/// only when out of memory; the answer has the errand as it was handed in then.
+/// Runs an errand with a crew of 1 to 16 workers that stay ready, and returns the errand. It fails only if memory runs
+/// out; then the errand is returned unchanged.
 ///
-/// The workers are started, each with two channels of its own; one whose start is refused is left out, and the
+/// The workers are started, each with two channels of its own. If a worker's start is refused it is left out, and the
 /// committer looks at its turns. The errand runs on the caller's thread with a crew of them. When it is done the
-/// channels are closed, which ends the workers, and they are taken in before the call returns. Worker k, from 0, calls
+/// channels are closed, which ends the workers, and they are joined before the call returns. Worker k, from 0, calls
 /// the gate with its number before each look, and the committer with the number of workers. The call may wait for a
 /// worker.
 pub fn with_far<R: Threads + Wait + Sync, G: Gate, E: Errand>(
@@ -137,7 +137,7 @@ pub fn with_far<R: Threads + Wait + Sync, G: Gate, E: Errand>(
                     .spawn(move || serve(rt, gate, number, jobs, answers))
                     .is_ok()
                 {
-                    // room for it was taken with the posts
+                    // its room was reserved with the posts
                     let _ = lines.push(line);
                 }
             }

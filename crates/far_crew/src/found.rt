@@ -40,7 +40,7 @@ impl Model for Found {
 }
 
 impl Found {
-    // These looks, of these brains, this seed and this world.
+    // These looks, with these brains, this seed and this world.
     pub(crate) fn of(minds: Arc<OwnBrains>, seed: u32, base: Arc<World>, looks: Vec<Look>) -> Found
         requires { IsFound (arc_value minds) seed (arc_value base) looks.items }
         ensures { result ≡ record { minds = arc_value minds; seed = seed; base = arc_value base; looks = looks.items } }
@@ -53,8 +53,8 @@ impl Found {
         }
     }
 
-    /// How many looks there are. A clause says what every answer keeps, so that one that came by a channel is known by
-    /// this call.
+    /// How many looks there are. A clause says what holds of every answer, so that it is known of one that a channel
+    /// delivered.
     #[inline]
     pub fn len(&self) -> usize
         ensures len { result ≡ length self.now.looks }
@@ -74,7 +74,7 @@ impl Found {
         &self.looks[i]
     }
 
-    // A look, if there is one of this number.
+    // The look with this number, if there is one.
     pub(crate) fn look_if(&self, i: usize) -> Option<&Look>
         ensures { option_copied result ≡ slice_get self.now.looks i }
     {
@@ -88,14 +88,14 @@ impl Found {
         self.minds.lend()
     }
 
-    // The seed with which they were made.
+    // The seed with which the looks were made.
     pub(crate) fn seed(&self) -> u32
         ensures { result ≡ self.now.seed }
     {
         self.seed
     }
 
-    // The world on which they were made.
+    // The world on which the looks were made.
     pub(crate) fn base(&self) -> &World
         ensures world { result.now ≡ self.now.base }
         ensures fits { Fits (world_of self.now.base) self.now.minds }
@@ -103,7 +103,7 @@ impl Found {
         &self.base
     }
 
-    // The room of its looks, for others; the shared brains and the shared world are given back.
+    // The memory of its looks, for others; the shared brains and the shared world are given back.
     pub(crate) fn into_room(self) -> Vec<Look> {
         self.looks
     }

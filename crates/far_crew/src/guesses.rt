@@ -9,7 +9,7 @@ use round_book::Field;
 use spec_record::guesses;
 use std::alloc::Global;
 
-// Turns, those of the ids from `from` up to, and not including, `to`, with the guess of each.
+// Turns, those of the ids from `from` up to, but not including, `to`, with the guess for each.
 #[derive(Clone, Copy)]
 pub struct GuessedTurns<'g> {
     pub from: u32,
@@ -17,7 +17,7 @@ pub struct GuessedTurns<'g> {
     pub guesses: &'g [u64],
 }
 
-// The guess of each turn of a window.
+// The guess for each turn of a window.
 pub fn guesses_in(
     alloc: Global,
     field: &Field<'_>,
@@ -37,7 +37,7 @@ pub fn guesses_in(
     )
 }
 
-// The guess of a turn.
+// The guess for a turn.
 #[inline]
 pub fn guess_of(field: &Field<'_>, turns: &GuessedTurns<'_>, id: u32) -> u64
     requires turns { AreTurnsOf field.now turns.now }

@@ -1,4 +1,4 @@
-// The jobs of workers that stand by.
+// The jobs of workers that stay ready.
 ghost use Rattle.std.specs.Prelude.{◌≡◌, ◌+◌, ◌-◌, ◌<◌, ◌≤◌, ◌^◌, ◌∷◌, [], ◌++◌, length, take, IfOk, OnOk};
 ghost use Rattle.std.specs.Arc.{arc_value};
 ghost use Rattle.std.specs.Vec.{vec_capacity, vec_len};
@@ -27,8 +27,8 @@ use std::marker::Model;
 use std::sync::Arc;
 
 /// The turns at which a worker is to look, and all that it needs for that: the brains, the seed and the world of the
-/// game, a guess for each turn, and room for the looks. Its brains fit its world, its turns are ids of the world, and
-/// at each guess a number can be drawn.
+/// game, a guess for each turn, and room for the looks. Its brains fit its world, its turns are ids of the world, and a
+/// number can be drawn at each guess.
 #[derive(Drop)]
 pub struct Job {
     minds: Arc<OwnBrains>,
@@ -67,9 +67,9 @@ impl Model for Job {
 }
 
 impl Job {
-    /// The job of the turns of the ids from `from` up to, and not including, `to`, each at its guess, with brains and a
-    /// world that are shared. The brains and the world are the field's, `from` is at most `to`, `to` at most the number
-    /// of ids, there are as many guesses as turns, and each is below 2^63 - 1. It is refused only when out of memory.
+    /// The job of the turns of the ids from `from` up to, but not including, `to`, each at its guess, with shared
+    /// brains and a shared world. The brains and the world are the field's, `from` is at most `to`, `to` is at most the
+    /// number of ids, there are as many guesses as turns, and each is below 2^63 - 1. It fails only if memory runs out.
     pub fn of(
         alloc: Global,
         field: &Field<'_>,
@@ -113,7 +113,7 @@ impl Job {
     {
         let GuessedTurns { from, to, guesses } = *turns;
         let Copies { minds, base } = copies;
-        // Called for its clause: what the field's world keeps, so that a job can be made of it.
+        // Called for its clause: what holds of the field's world, so that a job can be made of it.
         let _fit = field.world();
         let guesses = Vec::from_slice(alloc, guesses)?;
         reserve(&mut room, (to - from) as usize)?;
@@ -128,7 +128,7 @@ impl Job {
         })
     }
 
-    /// The looks at all its turns, in order, on its own world, by its own brains and seed, each at its guess. The
+    /// The looks at all its turns, in order, on its own world, with its own brains and seed, each at its guess. The
     /// worker calls the gate with its number and the id before each. It takes no memory.
     pub fn work<G: Gate>(self, gate: &G, worker: u32) -> Found
         ensures minds { result.minds ≡ self.minds }
@@ -157,7 +157,7 @@ impl Job {
     }
 }
 
-// Takes room for so many looks.
+// Reserves room for this many looks.
 fn reserve(room: &mut Vec<Look>, turns: usize) -> Result<(), OutOfMemory>
     ensures { OnOk result (turns ≤ vec_capacity room.new) }
 {
@@ -191,8 +191,8 @@ fn make_looks<G: Gate>(
     }
 }
 
-// Makes the look at a turn by a stream that stands at its guess, in the room with this number: that of an older look,
-// or the first free one.
+// Makes the look at a turn by a stream at its guess, in the room with this number: that of an older look, or the first
+// free one.
 #[inline]
 fn make_look(
     looks: &mut Vec<Look>,
@@ -216,7 +216,7 @@ fn make_look(
     look_into(looks, at, base, brains, stream, id);
 }
 
-// A stream at a place: this one where it stands there, and else another of its seed, since the way there is long.
+// A stream at a place: this one if it is there, and otherwise a new one of its seed, since moving it is slow.
 #[inline]
 fn stream_at(stream: Stream, place: u64) -> Stream
     requires { place < 2 ^ 63 }

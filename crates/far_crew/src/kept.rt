@@ -30,7 +30,7 @@ impl Copies {
     }
 }
 
-// A shared copy of a world, in the memory of this one where it is of the world's size and nobody else has it.
+// A shared copy of a world, in the memory of this one if it has the world's size and isn't shared any more.
 pub fn world_in(
     alloc: Global,
     kept: Option<Arc<World>>,
@@ -46,7 +46,8 @@ pub fn world_in(
     Ok(Arc::new(alloc, world.copy(alloc)?)?)
 }
 
-// Makes a shared world equal to another, if nobody else has it and the two are of one size; answers whether it did.
+// Makes a shared world equal to another, if it isn't shared any more and both have the same size; returns whether it
+// did.
 fn is_brought_up(base: &mut Arc<World>, world: &World) -> bool
     ensures { result ≡ true → arc_value base.new ≡ world.now }
 {
@@ -60,7 +61,7 @@ fn is_brought_up(base: &mut Arc<World>, world: &World) -> bool
     true
 }
 
-// A shared copy of brains: this one where it is one of them.
+// A shared copy of brains: this one if it is a copy of them.
 pub fn brains_in(
     alloc: Global,
     kept: Option<Arc<OwnBrains>>,

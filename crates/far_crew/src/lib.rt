@@ -1,9 +1,9 @@
 //! A crew whose workers stay ready over all windows of a game, and get jobs and send answers by channels.
 //!
 //! Nothing is assumed about what a channel delivers. A job owns what it needs, an answer carries its input, and each
-//! look of an answer is checked against the field before it is used: a look that agrees is the field's own. So a window
-//! leads where its turns lead one after another, whatever answers arrive, in any order, or not at all. All of this is
-//! this project's own.
+//! look of an answer is checked against the field before it is used: a look that agrees is the field's own. So the
+//! result of a window is that of its turns one after another, whatever answers arrive, in any order, or not at all. All
+//! of this is this project's own.
 #![tactic(auto)]
 
 mod agreement;

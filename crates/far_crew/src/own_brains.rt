@@ -9,7 +9,7 @@ use hex_geometry::OutOfMemory;
 use std::alloc::Global;
 use std::marker::Model;
 
-/// Two brains and a sheet of one's own, since a job outlives what a field lends.
+/// Two owned brains and a sheet, since a job outlives what a field lends.
 #[derive(Drop)]
 pub struct OwnBrains {
     red: Brain,
@@ -27,7 +27,7 @@ impl Model for OwnBrains {
 }
 
 impl OwnBrains {
-    /// Copies of lent brains, with their sheet. It is refused only when out of memory.
+    /// Copies of borrowed brains, with their sheet. It fails only if memory runs out.
     pub fn of(alloc: Global, brains: Brains<'_>) -> Result<OwnBrains, OutOfMemory>
         ensures { IfOk result (λ own. own ≡ minds_of brains.entry) }
     {
@@ -62,7 +62,7 @@ pub(crate) fn are_sheets_same(one: Sheet, other: Sheet) -> bool
 }
 
 impl OwnBrains {
-    // Whether these are copies of such brains.
+    // Whether these are copies of the given brains.
     pub(crate) fn is_copy_of(&self, brains: Brains<'_>) -> bool
         ensures { result ≡ true → self.now ≡ minds_of brains.entry }
     {

@@ -1,4 +1,4 @@
-// Which look settles each turn of a window: the first that agrees, and where there is none, one of the crew's own.
+// Which look settles each turn of a window: the first that agrees or, if there is none, one of the crew's own.
 ghost use Rattle.std.specs.Prelude.{◌≡◌, ◌+◌, ◌-◌, ◌<◌, ◌≤◌, List, [], None, length, slice_get, OnOk};
 ghost use Rattle.std.specs.Option.{option_copied};
 ghost use Rattle.std.specs.Vec.{vec_capacity, vec_len};
@@ -16,8 +16,7 @@ use hex_geometry::OutOfMemory;
 use round_book::Field;
 use spec_record::{Look, look};
 
-// Where the look at a turn stands: with this number among the looks in the answer of this line, or among the crew's
-// own.
+// Where the look at a turn is: the one with this number in the answer of this line, or among the crew's own.
 #[derive(Clone, Copy)]
 pub enum Pick {
     Theirs { line: usize, at: usize },
@@ -31,7 +30,7 @@ struct Answer<'a> {
     found: &'a Found,
 }
 
-// Takes room for the picks of so many turns, none of which has one yet, and for looks at all of them.
+// Reserves room for the picks of this many turns, none of which has one yet, and for looks at all of them.
 pub fn take_room(
     picks: &mut Vec<Option<Pick>>,
     own: &mut Vec<Look>,
@@ -47,7 +46,7 @@ pub fn take_room(
     blank(picks, turns)
 }
 
-// Has no pick for any of so many turns.
+// Sets no pick for each of this many turns.
 fn blank(picks: &mut Vec<Option<Pick>>, turns: usize) -> Result<(), OutOfMemory>
     ensures count { OnOk result (vec_len picks.new ≡ turns) }
     ensures none { OnOk result (AreNone picks.new.items) }
@@ -57,8 +56,7 @@ fn blank(picks: &mut Vec<Option<Pick>>, turns: usize) -> Result<(), OutOfMemory>
     Ok(())
 }
 
-// Picks for each turn of a window the first look that agrees, and where there is none, one of the crew's own, which is
-// made.
+// Picks for each turn of a window the first look that agrees. If there is none, it makes one of the crew's own.
 #[tactic(auto, using(crate::proofs::PickLemmas::none_picked))]
 pub fn choose<G: Gate>(
     caller: &Caller<'_, G>,
@@ -190,7 +188,7 @@ fn fill_turn<G: Gate>(
     ensures count { length picks.new ≡ turns.now.to - turns.now.from }
     ensures filled { AreFilled picks.new (id + 1 - turns.now.from) }
 
-    // one look at most is made, in the room that there is
+    // at most one look is made, in the room that there is
     ensures len { vec_len own.new ≤ vec_len own.old + 1 }
     ensures capacity { vec_capacity own.new ≡ vec_capacity own.old }
 {

@@ -1,4 +1,4 @@
-// Cells that are equal, whole.
+// Cells compared whole.
 ghost use Rattle.std.specs.Prelude.{◌≡◌, ◌↔◌, true};
 ghost use Rattle.std.specs.List.{AllByRecursion};
 ghost use Rattle.cell_world.specs.Cell.{rock};
@@ -10,7 +10,7 @@ use cell_world::{Cell, Colour, Marks, Part, Parts, World};
 use hex_geometry::Pos;
 use spec_record::Sighting;
 
-// Whether a world holds at each position the cell that was read there.
+// Whether a world has, at each position, the cell that was read there.
 pub(crate) fn are_cells_same(world: &World, reads: &[Sighting]) -> bool
     ensures { (result ≡ true) ↔ AllByRecursion (λ read. (world_of world.now).cells (seen_place read) ≡ seen_cell read) reads.now }
 {
@@ -25,7 +25,7 @@ pub(crate) fn are_cells_same(world: &World, reads: &[Sighting]) -> bool
     true
 }
 
-// The cell at a position: outside there is rock.
+// The cell at a position; outside there is rock.
 #[inline]
 #[tactic(auto, using(crate::proofs::CellLemmas::cell_right, crate::proofs::CellLemmas::cell_below))]
 fn cell_at(world: &World, p: Pos) -> Cell
@@ -65,7 +65,7 @@ fn is_same_cell(one: &Cell, other: &Cell) -> bool
     one.difference(other, all_parts()).is_none()
 }
 
-// Whether two cells are of one ground and hill, which are no parts.
+// Whether two cells have the same ground and hill, which are not parts.
 fn is_same_ground(one: &Cell, other: &Cell) -> bool
     ensures { (result ≡ true) ↔ ((one.now.rocky ≡ other.now.rocky) × (one.now.hill ≡ other.now.hill)) }
 {

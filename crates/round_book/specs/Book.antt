@@ -21,8 +21,8 @@ use Rattle.round_book.specs.declared.verdict.Verdict.{Verdict}
 use Rattle.round_book.specs.declared.verdict.Verdict.TheVariants.{Taken, Redone}
 use Rattle.round_book.specs.Window.{Window, AreVerdicts, IsPlayable, moment_before}
 
--- what a contract sees of a field: a game's world, brains, seed and place in the stream; whether it is whole; and where
--- it is lent, between which ends its window's turns are
+-- what a contract sees of a field: a game's world, brains, seed and place in the stream; whether it is whole; and if it
+-- is lent, the first id and the end of its window
 pub record FieldValue : Type 0 where
   pub world : Grid
   pub minds : Minds
@@ -31,8 +31,8 @@ pub record FieldValue : Type 0 where
   pub whole : Bool
   pub lent : Option (ℕ × ℕ)
 
--- what a contract sees of a book: the window's seed and turns, the next turn, the world and the place that the turns
--- before it left, the positions that they wrote, and their verdicts in order
+-- what a contract sees of a book: the window's seed and turns, the next turn, the world and the place after the turns
+-- before it, the positions that they wrote, and their verdicts in order
 pub record BookValue : Type 0 where
   pub seed : ℕ
   pub from : ℕ
@@ -43,7 +43,7 @@ pub record BookValue : Type 0 where
   pub written : List Pos
   pub verdicts : List Verdict
 
--- where a game stands
+-- the world and the place of a game
 abbrev pub field_moment : FieldValue → Moment
 field_moment field = record { world = world_of field.world; place = field.place }
 
@@ -58,13 +58,13 @@ window_of field from to = record {
   to = to;
 }
 
--- where the turns before the next one led
+-- the world and the place after the turns before the next one
 abbrev pub moment_of : BookValue → Moment
 moment_of book = record { world = world_of book.world; place = book.place }
 
--- a book stands on a window: it has the window's seed and turns; world and place are those of the turns up to the next
--- one, executed in order; it has their verdicts, each once; and its world is the base at every position that wasn't
--- written
+-- a book stands on a window: it has the window's seed and turns; its world and place are those after the turns up to
+-- the next one, executed in order; it has their verdicts, each once; and its world equals the base at every position
+-- that wasn't written
 pub record Stands (window : Window) (book : BookValue) : Type 0 where
   pub seed : book.seed ≡ window.seed
   pub from : book.from ≡ window.from
@@ -92,11 +92,11 @@ begun field from to = record {
   verdicts = [];
 }
 
--- a look holds in a book
+-- a look is valid in a book
 abbrev pub HoldsInBook : BookValue → LookValue → Type 0
 HoldsInBook book look = LookHolds look (world_of book.world).cells book.place
 
--- a part that was read at a position and that differs among these cells
+-- a part that was read at a position and that differs in these cells
 pub record IsChanged (reads : List Sighting) (cells : Cells) (at : Pos) (k : Part) : Type 0 where
   pub read : Sighting
   pub is_read : Contains reads read
@@ -104,7 +104,7 @@ pub record IsChanged (reads : List Sighting) (cells : Cells) (at : Pos) (k : Par
   pub named : has_part (seen_parts read) k ≡ true
   pub differs : ¬ Alike k (seen_cell read) (cells at)
 
--- all that the look read is as it was, and its random number is another
+-- all that the look read is unchanged, and its random number is at a different place
 pub record IsMoved (look : LookValue) (now : Moment) (guessed actual : ℕ) : Type 0 where
   pub unchanged :
       AllByRecursion (λ read. Agree (seen_parts read) (seen_cell read) (now.world.cells (seen_place read))) look.reads
@@ -113,17 +113,17 @@ pub record IsMoved (look : LookValue) (now : Moment) (guessed actual : ℕ) : Ty
   pub is_actual : actual ≡ now.place
   pub differs : actual ≢ guessed
 
--- why a look doesn't hold
+-- why a look isn't valid
 abbrev pub IsCause : LookValue → Moment → Cause → Type 0
 IsCause look now (cause.Part at k) = IsChanged look.reads now.world.cells at k
 IsCause look now (cause.Place guessed actual) = IsMoved look now guessed actual
 
--- what was read at a position that wasn't written is there still
+-- what was read at a position that wasn't written is unchanged
 abbrev pub AgreesIfUnwritten : List Pos → Cells → Sighting → Type 0
 AgreesIfUnwritten written cells read =
     ¬ Contains written (seen_place read) → Agree (seen_parts read) (seen_cell read) (cells (seen_place read))
 
--- the same of what a book has written, and of its world
+-- the same for the positions that a book has written, and for its world
 abbrev pub AgreesUnwritten : BookValue → Sighting → Type 0
 AgreesUnwritten book = AgreesIfUnwritten book.written (world_of book.world).cells
 
@@ -139,7 +139,7 @@ pub record CanTake (w : World) (writes : List Sighting) : Type 0 where
   pub each : AllByRecursion (CanPatchIn w) writes
   pub in_order : CanSetWrites w 9 writes
 
--- a book's written positions and these are another's
+-- the written positions of a book, and these, are those of another
 abbrev pub Wrote : List Pos → List Pos → List Pos → Type 0
 Wrote written more new = (p : Pos) → Contains new p ↔ (Contains written p ⊎ Contains more p)
 
@@ -154,12 +154,12 @@ pub record IsEnded (look : LookValue) (verdict : Verdict) (book new : BookValue)
   pub next : new.next ≡ book.next + 1
   pub verdicts : new.verdicts ≡ book.verdicts ++ verdict ∷ []
 
--- a look that held was taken
+-- a valid look was used
 pub record IsTaken (look : LookValue) (book new : BookValue) : Type 0 where
   pub holds : HoldsInBook book look
   pub ended : IsEnded look Taken book new
 
--- a turn was executed anew, for a cause
+-- a turn was executed again, for a cause
 pub record IsRedone (minds : Minds) (cause : Cause) (book new : BookValue) : Type 0 where
   pub now : moment_of new ≡ after_turn minds book.seed (moment_of book) book.next
   pub written : Wrote book.written (map (λ write. write.at) (writes minds (world_of book.world) book.next)) new.written
@@ -172,12 +172,12 @@ pub record IsSameWindow (book new : BookValue) : Type 0 where
   pub from : new.from ≡ book.from
   pub to : new.to ≡ book.to
 
--- what settling a look answers: nothing, and it was taken; or why it doesn't hold, and the book is as before
+-- what settling a look returns: nothing, and it was used; or why it isn't valid, and the book is unchanged
 abbrev pub Settles : LookValue → BookValue → BookValue → Option Cause → Type 0
 Settles look book new None = IsTaken look book new
 Settles look book new (Some cause) = (new ≡ book) × IsCause look (moment_of book) cause
 
--- a window of these turns may begin on a field: it is whole, and its stream lasts for them
+-- a window of these turns may begin on a field: it is whole, and its stream is long enough for them
 pub record CanBegin (field : FieldValue) (from to : ℕ) : Type 0 where
   pub whole : field.whole ≡ true
   pub forwards : from ≤ to
@@ -198,7 +198,7 @@ pub record StandsOn (field : FieldValue) (book : BookValue) : Type 0 where
   pub lent : field.lent ≡ Some (book.from, book.to)
   pub stands : StandsFor (window_of field book.from book.to) book
 
--- a field after the turns of a window: it is whole and not lent, and stands where they lead to
+-- a field after the turns of a window: it is whole and not lent, with the world and the place after them
 pub record IsPlayed (old : FieldValue) (from to : ℕ) (new : FieldValue) : Type 0 where
   pub now : field_moment new ≡ moment_before (window_of old from to) to
   pub minds : new.minds ≡ old.minds

@@ -1,5 +1,5 @@
--- What holds of every book that stands: its next turn may be settled, and it is what the events of workers lead to
--- (this project's own).
+-- Laws of every book that stands: its next turn may be settled, and the events of workers lead to it (this project's
+-- own).
 use Rattle.std.specs.Prelude.{◌≡◌, ℕ, ◌-◌, ◌<◌, ◌≤◌, List, Option, Some, None}
 use Rattle.std.specs.List.{AllByRecursion}
 use Rattle.cell_world.specs.Grid.{world_of}
@@ -17,20 +17,20 @@ use Rattle.round_book.specs.Window.{Window, look_for}
 abbrev pub next_look : Window → BookValue → LookValue
 next_look window book = look_for window book.next
 
--- what settling a look asks for, and what executing its turn anew with these brains asks for
+-- what settling a look requires, and what executing its turn again with these brains requires
 pub record MaySettle (minds : Minds) (book : BookValue) (look : LookValue) : Type 0 where
   pub turn : look.turn ≡ book.next
   pub unwritten : AllByRecursion (AgreesUnwritten book) look.reads
   pub writes : HoldsInBook book look → CanTake (world_of book.world) look.writes
   pub fit : Fits (world_of book.world) minds
 
--- a turn of a book was settled by a look: settling answered nothing, and the look was taken; or it answered why the
--- look doesn't hold, and the turn was executed anew for that cause, by these brains
+-- a turn of a book was settled by a look: settling returned nothing, and the look was used; or it returned why the look
+-- isn't valid, and the turn was executed again for that cause, by these brains
 abbrev pub IsSettled : Minds → LookValue → Option Cause → BookValue → BookValue → Type 0
 IsSettled minds look None book new = IsTaken look book new
 IsSettled minds look (Some found) book new = IsCause look (moment_of book) found × IsRedone minds found book new
 
--- where a book stands for a window, and its next turn is one of the window's, the look at that turn may be settled; and
+-- if a book stands for a window, and its next turn is one of the window's, the look at that turn may be settled; and
 -- once it is settled the book stands for the window
 pub record StandingBooksSettle : Type 0 where
   pub may : (window : Window) (book : BookValue) → StandsFor window book → book.next < book.to
@@ -45,12 +45,12 @@ pub record IsAt (state : State) (book : BookValue) : Type 0 where
   pub now : state.now ≡ moment_of book
   pub verdicts : state.verdicts ≡ book.verdicts
 
--- the verdict of a turn whose look was settled with this answer
+-- the verdict on a turn whose look was settled with this answer
 abbrev pub verdict_of : Option Cause → Verdict
 verdict_of None = Taken
 verdict_of (Some found) = Redone found
 
--- a book with which a window begins is at the first state; lawful events lead from there to every book that stands; and
+-- a book at the start of a window matches the first state; lawful events lead from there to every book that stands; and
 -- settling a book's next turn, whose look was put, is one lawful event
 pub record BooksAreReached : Type 0 where
   pub first : (field : FieldValue) (from to : ℕ) → IsAt (first_state (window_of field from to)) (begun field from to)

@@ -1,4 +1,4 @@
--- How many looks of a window are taken and how many turns are redone (this project's own).
+-- How many looks of a window are used and how many turns are executed again (this project's own).
 use Rattle.std.specs.Prelude.{ℕ, zero, suc, ◌+◌, ◌-◌, Bool, true, false, not, ◌&&◌, ◌||◌, nat_eq, List, [], ◌∷◌, Option, Some, None}
 use Rattle.hex_geometry.specs.Direction.{number_of}
 use Rattle.cell_world.specs.declared.ant.Ant.{Ant}
@@ -15,7 +15,7 @@ use Rattle.round_book.specs.declared.verdict.Verdict.{Verdict}
 use Rattle.round_book.specs.declared.verdict.Verdict.TheVariants.{Taken, Redone}
 use Rattle.round_book.specs.Window.{Window, look_for, moment_before}
 
--- whether both are there and alike, or neither is there
+-- whether there are two ants that are alike, or none
 abbrev pub same_if_any : (Ant → Ant → Bool) → Option Ant → Option Ant → Bool
 same_if_any same None None = true
 same_if_any same None (Some b) = false
@@ -55,31 +55,31 @@ do_agree parts c d =
     && (is_alike_if parts.food Food c d
     && (is_alike_if parts.red_marks RedMarks c d && is_alike_if parts.black_marks BlackMarks c d))))
 
--- whether all that was read is as it was
+-- whether all that was read is unchanged
 abbrev pub is_unchanged : List Sighting → Cells → Bool
 is_unchanged [] cells = true
 is_unchanged (read ∷ reads) cells =
     do_agree (seen_parts read) (seen_cell read) (cells (seen_place read)) && is_unchanged reads cells
 
--- whether a look holds among cells at a place, as a test that computes
+-- whether a look is valid in these cells at a place, as a test that computes
 abbrev pub look_holds : LookValue → Cells → ℕ → Bool
 look_holds look cells place = is_unchanged look.reads cells && (not look.drew || nat_eq place look.guess)
 
--- whether the look at turn t of a window holds when its turn comes: it is taken
+-- whether the look at turn t of a window is valid at that turn, so that it is used
 unfoldable pub is_taken : Window → ℕ → Bool
 is_taken window t = look_holds (look_for window t) (moment_before window t).world.cells (moment_before window t).place
 
--- whether a verdict is that the look was taken
+-- whether a verdict is that the look was used
 abbrev pub is_taken_verdict : Verdict → Bool
 is_taken_verdict Taken = true
 is_taken_verdict (Redone cause) = false
 
--- how many of the first n turns of a window are taken
+-- how many looks at the first n turns of a window are used
 abbrev pub taken_among : Window → ℕ → ℕ
 taken_among window zero = 0
 taken_among window (suc n) = taken_among window n + one_if (is_taken window (window.from + n))
 
--- how many turns of a window are taken, and how many are redone
+-- how many looks of a window are used, and how many of its turns are executed again
 pub record Counted : Type 0 where
   pub taken : ℕ
   pub redone : ℕ

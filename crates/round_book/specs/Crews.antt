@@ -5,7 +5,7 @@ use Rattle.std.specs.Prelude.{ℕ}
 pub record SoloValue : Type 0 where
   pub turns : ℕ
 
--- a crew that is a function: by which it plays, and how many turns it has played
+-- a crew that is a function: the function that plays, and how many turns it has played
 pub record LedValue (F : Type 0) : Type 0 where
   pub play : F
   pub turns : ℕ

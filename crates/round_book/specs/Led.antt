@@ -8,7 +8,7 @@ use Rattle.round_book.specs.declared.field.Field.{Field}
 use Rattle.round_book.specs.Book.{CanBegin, FieldValue, IsPlayed, window_of}
 use Rattle.round_book.specs.Counts.{counts_of}
 
--- a window was played, or was refused and the field is as before
+-- a window was played; or it failed, and the field is unchanged
 pub record IsWindow (result : Result Counts OutOfMemory) (old : FieldValue) (from to : ℕ)
     (new : FieldValue) : Type 0 where
   pub played : OnOk result (IsPlayed old from to new)
@@ -17,7 +17,7 @@ pub record IsWindow (result : Result Counts OutOfMemory) (old : FieldValue) (fro
 
 module _ {F : Type 0}
     (g : Mut F (MutBor Field × (ℕ × (ℕ × Unit {0}))) (Result Counts OutOfMemory × (MutBor Field × Unit {0}))) where
-  -- each window may be asked for
+  -- each window may be requested
   abbrev pub CanPlay : Type 0
   CanPlay =
       (f : F) (field : MutBor Field) (from to : ℕ) → CanBegin field.now from to → g.pre f (field, (from, (to, tt)))
@@ -31,7 +31,7 @@ module _ {F : Type 0}
     pub called : Called g f (shown, (from, (to, tt))) (result, (left, tt)) f'
     pub leaves : left.now ≡ new
 
-  -- each such call plays its window, or is refused and leaves the field as it was
+  -- each such call plays its window, or fails and leaves the field unchanged
   abbrev pub PlaysWindows : Type 0
   PlaysWindows =
       (f : F) (old : FieldValue) (from to : ℕ) (result : Result Counts OutOfMemory) (f' : F) (new : FieldValue) →

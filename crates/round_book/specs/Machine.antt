@@ -17,7 +17,7 @@ pub record Put : Type 0 where
   pub hand : ℕ
   pub ticket : ℕ
 
--- how many tickets were drawn, which of them each hand holds, which looks were put, and what came of the turns that
+-- how many tickets were drawn, which of them each hand holds, which looks were put, and the verdicts on the turns that
 -- were settled
 pub record State : Type 0 where
   pub drawn : ℕ
@@ -48,13 +48,13 @@ pub data Event : Type 0 where
 abbrev pub IsPut : State → ℕ → Type 0
 IsPut state ticket = (hand : ℕ) × Contains state.put (record { hand = hand; ticket = ticket })
 
--- the next turn may be settled so: it is one of the window, its look was put, and that is its verdict
+-- the next turn may be settled with this verdict: it is one of the window, its look was put, and that is its verdict
 pub record CanSettle (window : Window) (state : State) (verdict : Verdict) : Type 0 where
   pub in_window : state.next < window.to
   pub is_put : IsPut state (state.next - window.from)
   pub is_verdict : IsVerdict window state.now state.next verdict
 
--- a hand may put a ticket's look: the ticket is a turn's and in that hand, and its look wasn't put
+-- a hand may put a ticket's look: the ticket is that of a turn and in that hand, and its look wasn't put
 pub record CanPut (window : Window) (state : State) (hand ticket : ℕ) : Type 0 where
   pub is_turn : window.from + ticket < window.to
   pub is_held : Contains (state.hands hand) ticket
@@ -69,19 +69,19 @@ IsLawful window state (Settles verdict) = CanSettle window state verdict
 abbrev pub dealt : (ℕ → List ℕ) → ℕ → ℕ → ℕ → List ℕ
 dealt hands hand ticket other = cond (nat_eq other hand) (hands other ++ ticket ∷ []) (hands other)
 
--- the moment in which a look's writes are patched, and its random number is used
+-- the moment after a look's writes were patched and its random number was used
 abbrev pub taken : Moment → LookValue → Moment
 taken now look = record {
   world = with_cells now.world (patched_cells now.world.cells look.writes);
   place = now.place + one_if look.drew;
 }
 
--- the moment after the turn is settled: with the parts that its look wrote; or executed anew
+-- the moment after the turn is settled: with the parts that its look wrote, or executed again
 abbrev pub settled : Window → Moment → ℕ → Verdict → Moment
 settled window now t Taken = taken now (look_for window t)
 settled window now t (Redone cause) = after_turn window.minds window.seed now t
 
--- what an event makes of a state
+-- the state after an event
 abbrev pub happens : Window → State → Event → State
 happens window state (Draws hand) = record state { drawn = state.drawn + 1; hands = dealt state.hands hand state.drawn }
 happens window state (Puts hand ticket) = record state { put = state.put ++ record { hand = hand; ticket = ticket } ∷ [] }
@@ -96,26 +96,26 @@ abbrev pub run : Window → State → List Event → State
 run window state [] = state
 run window state (event ∷ events) = run window (happens window state event) events
 
--- each event is lawful where it happens
+-- each event is lawful when it happens
 abbrev pub AreLawful : Window → State → List Event → Type 0
 AreLawful window state [] = ⊤
 AreLawful window state (event ∷ events) =
     IsLawful window state event × AreLawful window (happens window state event) events
 
--- how often a number stands in a list
+-- how often a number is in a list
 abbrev pub times : ℕ → List ℕ → ℕ
 times x [] = 0
 times x (y ∷ ys) = one_if (nat_eq y x) + times x ys
 
--- each ticket below c is in one hand, once, and no other ticket is in any
+-- each ticket below c is in exactly one hand, once, and no hand has any other ticket
 pub record AreDealt (c : ℕ) (hands : ℕ → List ℕ) : Type 0 where
   pub each : (x : ℕ) → x < c
       → (hand : ℕ) × (times x (hands hand) ≡ 1) × ((other : ℕ) → other ≢ hand → times x (hands other) ≡ 0)
   pub no_other : (x : ℕ) → c ≤ x → (hand : ℕ) → times x (hands hand) ≡ 0
 
--- what is true of every state that lawful events lead to, in whatever order they happen: the turns that were settled
--- did what the turns from `from` on do one after another; each has its verdict, in order; each ticket is in one hand;
--- and who put a look drew its ticket
+-- what holds in every state that lawful events lead to, in whatever order they happen: the settled turns did what the
+-- turns from `from` on do one after another; each has its verdict, in order; each ticket is in one hand; and each look
+-- was put by the hand that drew its ticket
 pub record IsReached (window : Window) (state : State) : Type 0 where
   pub from_first : window.from ≤ state.next
   pub to_last : state.next ≤ window.to

@@ -1,4 +1,4 @@
--- A window of turns, and what its turns make of it one after another (this project's own).
+-- A window of turns, and what its turns do one after another (this project's own).
 use Rattle.std.specs.Prelude.{◌≡◌, ◌≢◌, ℕ, ◌+◌, ◌-◌, ◌<◌, ◌≤◌, ◌^◌, true, List, [], ◌∷◌, ◌++◌, zero, suc}
 use Rattle.std.specs.List.{AllByRecursion, Contains}
 use Rattle.hex_geometry.specs.declared.position.Pos.{Pos}
@@ -17,8 +17,8 @@ use Rattle.round_book.specs.declared.verdict.Cause.TheVariants as cause
 use Rattle.round_book.specs.declared.verdict.Verdict.{Verdict}
 use Rattle.round_book.specs.declared.verdict.Verdict.TheVariants.{Taken, Redone}
 
--- a window: the brains and the seed of its game, the world and the place in the stream with which it begins (its base),
--- and its turns: those of the ids from `from` up to, and not including, `to`
+-- a window: the brains and the seed of its game, the world and the place in the stream at its start (its base), and its
+-- turns: those of the ids from `from` up to, but not including, `to`
 pub record Window : Type 0 where
   pub minds : Minds
   pub seed : ℕ
@@ -27,16 +27,15 @@ pub record Window : Type 0 where
   pub from : ℕ
   pub to : ℕ
 
--- a window whose turns are turns: its base is a world, its brains are brains and fit it, and it doesn't end before it
--- begins
+-- a sound window: its base is a world, its brains are sound and fit it, and it doesn't end before it begins
 pub record IsSound (window : Window) : Type 0 where
   pub valid : Valid window.base
   pub sound : AreSound window.minds
   pub fits : Fits window.base window.minds
   pub forwards : window.from ≤ window.to
 
--- a window that may be played: its brains are brains and fit its base, its turns are ids of it, and the stream lasts
--- for them
+-- a window that may be played: its brains are sound and fit its base, its turns are ids of it, and the stream is long
+-- enough for them
 pub record IsPlayable (window : Window) : Type 0 where
   pub valid : Valid window.base
   pub sound : AreSound window.minds
@@ -45,7 +44,7 @@ pub record IsPlayable (window : Window) : Type 0 where
   pub ids : window.to ≤ window.base.ids
   pub lasting : window.place + (window.to - window.from) < 2 ^ 63
 
--- the world and the place after the turns from `from` up to, and not including, turn t, one after another
+-- the world and the place after the turns from `from` up to, but not including, turn t, one after another
 unfoldable pub moment_before : Window → ℕ → Moment
 moment_before window t =
     after_turns window.minds window.seed (record { world = window.base; place = window.place }) window.from
@@ -63,11 +62,11 @@ guesses_for window = guesses_of window.minds window.base window.place window.fro
 unfoldable pub look_for : Window → ℕ → LookValue
 look_for window t = look_of window.minds window.seed window.base (guess_for window t) t
 
--- the look at turn t holds in a world at a place
+-- the look at turn t is valid in a world at a place
 abbrev pub HoldsIn : Window → Moment → ℕ → Type 0
 HoldsIn window now t = Holds window.minds window.base (guess_for window t) now.world now.place t
 
--- a part of a position that turn t reads, in which the base and the world of now differ
+-- a part of a position that turn t reads, in which the base and the world `now` differ
 pub record IsOther (window : Window) (now : World) (t : ℕ) (at : Pos) (k : Part) : Type 0 where
   pub read : Claim
   pub is_read : Contains (reads window.minds window.base t) read
@@ -75,7 +74,7 @@ pub record IsOther (window : Window) (now : World) (t : ℕ) (at : Pos) (k : Par
   pub named : has_part read.parts k ≡ true
   pub differs : ¬ Alike k (window.base.cells at) (now.cells at)
 
--- every part that turn t reads is as in the base, and its random number is another than the guessed one
+-- every part that turn t reads is as in the base, and its random number is not the guessed one
 pub record IsElsewhere (window : Window) (now : Moment) (t guessed actual : ℕ) : Type 0 where
   pub unchanged : AllByRecursion (λ read. Agree read.parts (window.base.cells read.at) (now.world.cells read.at)) (reads window.minds window.base t)
   pub flips : flips window.minds window.base t ≡ true
@@ -83,8 +82,8 @@ pub record IsElsewhere (window : Window) (now : Moment) (t guessed actual : ℕ)
   pub is_actual : actual ≡ now.place
   pub differs : actual ≢ guessed
 
--- what may be said of turn t where the turns before it led to this moment: taken, where its look holds; else redone,
--- with a part that it reads and that differs, or, where none differs, with the guessed and the actual place
+-- the verdict on turn t, if the turns before it led to this moment: taken, if its look is valid; otherwise redone, with
+-- a part that it reads and that differs or, if none differs, with the guessed and the actual place
 abbrev pub IsVerdict : Window → Moment → ℕ → Verdict → Type 0
 IsVerdict window now t Taken = HoldsIn window now t
 IsVerdict window now t (Redone (cause.Part at k)) = IsOther window now.world t at k

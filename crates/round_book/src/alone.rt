@@ -1,4 +1,4 @@
-// A window played on one thread: each look is settled as soon as it is made, so that one room is enough for all looks.
+// A window played on one thread: each look is settled as soon as it is made, so one room is enough for all looks.
 ghost use Rattle.std.specs.Prelude.{◌≡◌, ◌+◌, ◌<◌, ◌≤◌, ◌^◌, IfOk, OnOk, OnErr};
 ghost use Rattle.std.specs.Vec.{vec_capacity, vec_len};
 ghost use Rattle.round_book.specs.Book.{CanBegin, IsPlayed, IsSameWindow, StandsOn, window_of};
@@ -17,11 +17,11 @@ use std::alloc::Global;
 // The number of a worker that works alone.
 const ALONE: u32 = 0;
 
-/// Plays the turns of the ids from `from` up to, and not including, `to` on the caller's thread, which calls the gate
+/// Plays the turns of the ids from `from` up to, but not including, `to` on the caller's thread, which calls the gate
 /// as worker 0 before each look that it makes. The field is whole, `from` is at most `to`, `to` is at most the number
 /// of ids, and the place plus the number of turns is below 2^63. Afterwards the field is whole, and its world and place
-/// are those to which the turns lead in order. The result counts the looks that were used and the turns that were
-/// executed again. It fails only if memory runs out; the field is then unchanged.
+/// are those after the turns in order. The result counts the looks that were used and the turns that were executed
+/// again. It fails only if memory runs out; the field is then unchanged.
 pub fn play_window<G: Gate>(
     gate: &G,
     alloc: Global,
@@ -48,7 +48,7 @@ pub fn play_window<G: Gate>(
     Ok(counts)
 }
 
-// Makes the first look of a list, for its room. That comes once on a field, so it is a call.
+// Makes the first look of a list, for its room. This happens once on a field, so it is a call.
 #[inline(never)]
 fn make_room(looks: &mut Vec<Look>, field: &Field<'_>, id: u32)
     requires none { vec_len looks.old ≡ 0 }
@@ -61,7 +61,7 @@ fn make_room(looks: &mut Vec<Look>, field: &Field<'_>, id: u32)
     looks.push_reserved(look(field.world(), field.brains(), field.seed(), place, id));
 }
 
-// Settles the turns of a window, of which there is one, by looks that are made one after another, in one room and off
+// Settles the turns of a window, which has at least one, by looks that are made one after another, in one room and from
 // one stream.
 fn settle_alone<G: Gate>(
     book: &mut Book,

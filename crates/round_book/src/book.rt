@@ -19,9 +19,9 @@ use cell_world::World;
 use spec_record::{Look, look};
 use std::marker::Model;
 
-/// A window of turns that is being settled, one after another. It has a world of its own, which is that after the turns
-/// so far, the place in the stream that they left, the positions that they wrote, and what came of the look at each.
-/// Only a field's `begin` makes one, and it has no copy.
+/// A window of turns that is being settled, one after another. It has its own world, which is that after the turns so
+/// far, the place in the stream after them, the positions that they wrote, and the verdict on each look. Only a field's
+/// `begin` makes one, and it can't be copied.
 #[derive(Drop)]
 pub struct Book {
     seed: u32,
@@ -54,7 +54,7 @@ impl Model for Book {
 }
 
 impl Book {
-    // A book of these turns, in a workspace that is ready and has room for them.
+    // A book of these turns, in a ready workspace with room for them.
     pub(crate) fn over(work: Workspace, seed: u32, place: u64, from: u32, to: u32) -> Book
         requires ready { IsWorkspaceReady work.world work }
         requires forwards { from ≤ to }
@@ -85,7 +85,7 @@ impl Book {
         self.next
     }
 
-    // The end of the window: the id behind its last turn.
+    // The end of the window: the id after its last turn.
     #[inline]
     pub(crate) fn to(&self) -> u32
         ensures { result ≡ self.now.to }
@@ -102,7 +102,7 @@ impl Book {
         self.to - self.from
     }
 
-    // How many looks were taken so far.
+    // How many looks were used so far.
     #[inline]
     pub(crate) fn taken(&self) -> u32
         ensures count { result ≡ count_by is_taken_verdict self.now.verdicts }
@@ -111,7 +111,7 @@ impl Book {
         self.taken
     }
 
-    // Gives the workspace back, and the place to which the turns led.
+    // Gives the workspace back, and the place after the turns.
     #[inline]
     pub(crate) fn close(self) -> (Workspace, u64)
         ensures world { result.0.world ≡ self.world }
@@ -160,7 +160,7 @@ impl Book {
         cause
     }
 
-    // Why a look doesn't hold, if it doesn't.
+    // Why a look isn't valid, if it isn't.
     #[inline(always)]
     fn cause_against(&self, look: &Look) -> Option<Cause>
         requires { AllByRecursion (AgreesUnwritten self.now) look.now.reads }
@@ -172,7 +172,7 @@ impl Book {
         }
     }
 
-    // Why a look doesn't hold, if it doesn't, where all that it read is as it was.
+    // Why a look isn't valid, if it isn't, but all that it read is unchanged.
     #[inline(always)]
     fn move_against(&self, look: &Look) -> Option<Cause>
         requires { AllByRecursion (λ read. Agree (seen_parts read) (seen_cell read) ((world_of self.now.world).cells (seen_place read))) look.now.reads }
@@ -187,11 +187,11 @@ impl Book {
         None
     }
 
-    /// Executes the next turn, by these brains, on the book's world at its place, and notes the cause: world and place
-    /// become those of the turn, and the positions that it writes are noted as written. It takes no memory.
+    /// Executes the next turn, by these brains, on the book's world at its place, and notes the cause. World and place
+    /// become those after the turn, and the positions that it writes are noted as written. It takes no memory.
     ///
-    /// The next turn is one of the window, and the brains fit the book's world. A book in which a turn was executed
-    /// again although its look is valid, or for a cause that isn't the look's, doesn't stand.
+    /// The next turn is one of the window, and the brains fit the book's world. If a turn was executed again although
+    /// its look is valid, or for a cause that isn't the look's, the book no longer stands for its window.
     #[inline(never)]
     pub fn redo(&mut self, brains: Brains<'_>, cause: Cause)
         requires in_window { self.old.next < self.old.to }
@@ -200,7 +200,7 @@ impl Book {
         ensures same { IsSameWindow self.old self.new }
     {
         lemma_valid(brains, &self.work.world);
-        // the look at a turn in the very world in which it is taken says what the turn does
+        // a look at a turn in the very world in which the turn is taken says what it does
         let look = look(&self.work.world, brains, self.seed, self.place, self.next);
         self.end_turn(&look, Verdict::Redone(cause));
     }
@@ -221,8 +221,8 @@ impl Book {
     }
 }
 
-/// Gives nothing, and does nothing that can be seen: it is called for its clauses, that brains and a world are what
-/// their types promise. The program's own, for a caller whose proof needs it before a turn.
+/// Returns nothing and does nothing that can be seen. It is called for its clauses: that brains and a world are what
+/// their types promise. It is public for a caller whose proof needs that before a turn.
 #[inline]
 pub fn lemma_valid(brains: Brains<'_>, world: &World)
     ensures sound { AreSound (minds_of brains.entry) }
@@ -234,7 +234,7 @@ pub fn lemma_valid(brains: Brains<'_>, world: &World)
     let _width = world.width();
 }
 
-// One look where it was taken, and none where its turn was executed anew.
+// 1 if the look was used, and 0 if its turn was executed again.
 #[inline(always)]
 fn taken_by(verdict: &Verdict) -> u32
     ensures { result ≡ one_if (is_taken_verdict verdict.now) }
@@ -245,7 +245,7 @@ fn taken_by(verdict: &Verdict) -> u32
     }
 }
 
-// One where it is so, and nothing where it isn't.
+// 1 if true, and 0 otherwise.
 #[inline]
 pub(crate) fn one_if(is: bool) -> u64
     ensures { result ≡ one_if is }

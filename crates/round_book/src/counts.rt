@@ -1,4 +1,4 @@
-// How a window came out.
+// The counts of a window.
 ghost use Rattle.std.specs.Prelude.{◌≡◌, ◌-◌};
 ghost use Rattle.round_book.specs.Book.{IsPlayed, StandsOn, window_of};
 ghost use Rattle.round_book.specs.Counts.{counts_of};
@@ -24,7 +24,7 @@ impl Model for Counts {
 }
 
 impl Counts {
-    /// How many looks held and were taken.
+    /// How many looks were valid and used.
     #[inline]
     pub fn taken(&self) -> u32
         ensures { result ≡ self.now.taken }
@@ -42,9 +42,9 @@ impl Counts {
 }
 
 impl Field<'_> {
-    /// Ends a window. The field is whole again, with the world and the place to which the window's turns lead. The
-    /// result counts the looks that were used and the turns that were executed again. The field is lent for the window
-    /// of the book, which stands on it, and all its turns are settled.
+    /// Ends a window. The field is whole again, with the world and the place after the window's turns. The result
+    /// counts the looks that were used and the turns that were executed again. The field is lent for the window of the
+    /// book, the book stands on it, and all its turns are settled.
     #[inline(always)]
     pub fn finish(&mut self, book: Book) -> Counts
         requires stands { StandsOn self.old book }

@@ -1,4 +1,4 @@
-// Crews: who plays windows.
+// Crews, which play windows.
 ghost use Rattle.std.specs.Prelude.{◌≡◌, ℕ, ◌+◌, ◌-◌, ◌^◌, ⊤, min, IfOk, OnOk, OnErr};
 ghost use Rattle.round_book.specs.Book.{CanBegin, IsPlayed, window_of};
 ghost use Rattle.round_book.specs.Counts.{counts_of};
@@ -8,24 +8,24 @@ use crate::field::Field;
 use hex_geometry::OutOfMemory;
 use std::alloc::Global;
 
-/// Who plays the windows of a game: alone, or with workers. Whoever it is, a window leads where its turns lead one
-/// after another, and the counts are the same.
+/// A crew plays the windows of a game, alone or with workers. Whichever it is, a window leads to the same world and
+/// place as its turns one after another, with the same counts.
 pub trait Crew {
     /// How many turns it has played.
     ghost played: { Self → ℕ };
 
-    /// What it needs, so that it can play.
+    /// What must hold for it to play.
     ghost ready: { Self → Type 0 } = { λ _. ⊤ };
 
-    /// How many turns the crew has played, from 0; at the last value, 2^64 - 1, it stays.
+    /// How many turns the crew has played, from 0; it stays at the largest `u64`, 2^64 - 1.
     fn turns(&self) -> u64
         ensures { result ≡ played self.now };
 
-    /// Plays the turns of the ids from `from` up to, and not including, `to`. The field is whole, `from` is at most
+    /// Plays the turns of the ids from `from` up to, but not including, `to`. The field is whole, `from` is at most
     /// `to`, `to` is at most the number of ids, and the place plus the number of turns is below 2^63. Afterwards the
-    /// field is whole, and its world and place are those to which the turns lead in order. The result counts the looks
-    /// that were used and the turns that were executed again. It fails only if memory runs out; the field and the count
-    /// of turns are then unchanged.
+    /// field is whole, and its world and place are those after the turns in order. The result counts the looks that
+    /// were used and the turns that were executed again. It fails only if memory runs out; the field and the count of
+    /// turns are then unchanged.
     fn window(
         &mut self,
         alloc: Global,

@@ -18,8 +18,8 @@ use std::alloc::Global;
 use std::marker::Model;
 use std::mem;
 
-/// Where a game stands: its world, its brains, its seed and its place in the stream. It is whole, or lent for a window
-/// of turns, whose ends it knows; while it is lent it shows what it was when the window began.
+/// The state of a game: its world, its brains, its seed and its place in the stream. It is whole, or lent for a window
+/// of turns between two ids. While it is lent, it shows its state at the start of the window.
 #[derive(Drop)]
 pub struct Field<'b> {
     world: World,
@@ -28,7 +28,7 @@ pub struct Field<'b> {
     brains: Brains<'b>,
     seed: u32,
     place: u64,
-    // the stream that the last window left, so that the next one makes no jump
+    // the stream after the last window, so that the next one makes no jump
     stream: Option<Stream>,
     // the room of the last window's looks, once one was made
     looks: Vec<Look>,
@@ -82,7 +82,7 @@ impl<'b> Field<'b> {
         })
     }
 
-    /// The world; while the field is lent, that with which the window began.
+    /// The world; while the field is lent, the world at the start of the window.
     #[inline]
     pub fn world(&self) -> &World
         ensures world { result.now ≡ self.now.world }
@@ -108,7 +108,7 @@ impl<'b> Field<'b> {
         self.seed
     }
 
-    /// How many random numbers were drawn; while the field is lent, as the window began.
+    /// How many random numbers were drawn; while the field is lent, the number at the start of the window.
     #[inline]
     pub fn place(&self) -> u64
         ensures { result ≡ self.now.place }
@@ -116,11 +116,11 @@ impl<'b> Field<'b> {
         self.place
     }
 
-    /// Begins the window of the turns of the ids from `from` up to, and not including, `to`. The field is lent for
+    /// Begins the window of the turns of the ids from `from` up to, but not including, `to`. The field is lent for
     /// them, and the book stands on it, with no turn settled yet. The field is whole, `from` is at most `to`, `to` is
     /// at most the number of ids, and the place plus the number of turns is below 2^63. It fails only if memory runs
     /// out; the field is then whole and unchanged. No call on the book takes memory: it has room for the positions that
-    /// the turns write, seven each and no more than the world has cells.
+    /// the turns write, seven for each turn but no more than the world has cells.
     #[inline(always)]
     pub fn begin(&mut self, _alloc: Global, from: u32, to: u32) -> Result<Book, OutOfMemory>
         requires { CanBegin self.old from to }
@@ -132,8 +132,7 @@ impl<'b> Field<'b> {
         self.lend(from, to)
     }
 
-    // Gives out a stream that stands at the field's seed and place: the kept one, where it stands there, and else a new
-    // one.
+    // Returns a stream at the field's seed and place: the kept one if it is there, and otherwise a new one.
     #[inline]
     pub(crate) fn take_stream(&mut self) -> Stream
         requires { self.old.place < 2 ^ 63 }
@@ -158,7 +157,7 @@ impl<'b> Field<'b> {
         self.looks = looks;
     }
 
-    // Gives out a list with room for a look at least.
+    // Returns a list with room for at least one look.
     #[inline]
     pub(crate) fn take_looks(&mut self, alloc: Global) -> Result<Vec<Look>, OutOfMemory>
         ensures room { IfOk result (λ looks. 1 ≤ vec_capacity looks) }
@@ -171,8 +170,8 @@ impl<'b> Field<'b> {
         Ok(looks)
     }
 
-    // Lends the workspace, once it has room for the window. It gets the room where it lies, so that no call is lent one
-    // that is on its way.
+    // Lends the workspace, after it got room for the window. It gets the room where it is stored, so that it isn't
+    // moved for the call.
     #[inline(always)]
     fn lend(&mut self, from: u32, to: u32) -> Result<Book, OutOfMemory>
         requires { CanBegin self.old from to }
@@ -196,8 +195,8 @@ impl<'b> Field<'b> {
         Ok(Book::over(work, self.seed, self.place, from, to))
     }
 
-    // Takes back what was lent, with the world and the place to which the window led: the field's own world is brought
-    // up to it at the positions that were written.
+    // Takes back what was lent, with the world and the place after the window. The field's own world is made equal to
+    // that world at the positions that were written.
     #[inline(always)]
     pub(crate) fn take_back(&mut self, work: Workspace, place: u64)
         requires marks { AreMarked work.world work.marked.items work.written.items }

@@ -11,8 +11,8 @@ use hex_geometry::OutOfMemory;
 use std::alloc::Global;
 use std::marker::Model;
 
-/// A crew that plays each window by a function, which counts its own looks by `finish`. It makes a crew of workers,
-/// which are started by a function, one that plays as any other.
+/// A crew that plays each window by a function, which counts its own looks by `finish`. So a crew of workers that a
+/// function starts can be used as any other crew.
 #[derive(Drop)]
 pub struct Led<F: Drop> {
     play: F,
@@ -45,8 +45,7 @@ impl<F: FnMut(&mut Field<'_>, u32, u32) -> Result<Counts, OutOfMemory> + Drop> C
         self.turns
     }
 
-    // A window that is played is played by a call of the function, which leaves the field and the function as they are
-    // then.
+    // A call of the function plays the window. Field and function are afterwards as the call left them.
     fn window(
         &mut self,
         _alloc: Global,

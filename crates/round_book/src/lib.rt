@@ -2,8 +2,8 @@
 //!
 //! A window is a run of turns of one round. Its looks are made on the world at its start. Then they are settled one
 //! after another: a valid look is used, and any other turn is executed again. Whichever worker made a look, and
-//! whenever, the window leaves what its turns do one after another. The number of looks that are used depends on the
-//! turns and the window alone. All of this is this project's own.
+//! whenever, the result of the window is that of its turns one after another. The number of looks that are used depends
+//! only on the turns and the window. All of this is this project's own.
 #![tactic(auto)]
 
 mod alone;

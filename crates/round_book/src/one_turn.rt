@@ -10,7 +10,7 @@ use crate::verdict::Cause;
 use spec_record::Look;
 
 /// Settles the next turn of a window by the look at it: uses the look if it is valid, and otherwise executes the turn
-/// again and says why. The book stands on the field, the next turn is one of the window, and the look is the one at
+/// again and returns why. The book stands on the field, the next turn is one of the window, and the look is the one at
 /// that turn on the field's world at its guess. The turn is settled as the law `books_are_reached` requires, and the
 /// book stands on the field again, one turn further. So a book that stands meets the conditions of `settle`.
 #[inline(always)]

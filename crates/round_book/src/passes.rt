@@ -14,8 +14,8 @@ use cell_world::{Ant, Cell, Ground, Part, Parts, World};
 use hex_geometry::Pos;
 use spec_record::Sighting;
 
-// Sets the named parts of each write: of one alone at once; of more first where that doesn't raise the weight of the
-// cell, then at the others, so that the world is light enough at every step.
+// Sets the named parts of each write. A single write is set at once. Of several, first those are set that don't raise
+// the weight of the cell, then the others, so that the world is light enough at every step.
 #[inline(always)]
 pub(crate) fn set_writes(world: &mut World, writes: &[Sighting])
     requires once { EachOnce (seen_positions writes.now) }
@@ -30,7 +30,7 @@ pub(crate) fn set_writes(world: &mut World, writes: &[Sighting])
     set_pass(world, writes, true);
 }
 
-// Sets the named parts of a write that is the only one. Most turns write what their ant is about and nothing else.
+// Sets the named parts of the only write. Most turns write only their ant's state, rest and direction.
 #[inline(always)]
 fn set_one(world: &mut World, write: &Sighting)
     requires { CanTake (world_of world.old) (write.now ∷ []) }
@@ -44,7 +44,7 @@ fn set_one(world: &mut World, write: &Sighting)
     }
 }
 
-// Whether these parts are what an ant is about, and no other.
+// Whether these parts are exactly an ant's state, rest and direction.
 #[inline]
 fn is_mind_alone(parts: Parts) -> bool
     ensures { result ≡ true → parts ≡ only Part.Mind }
@@ -52,7 +52,7 @@ fn is_mind_alone(parts: Parts) -> bool
     parts == Parts::none().with(Part::Mind)
 }
 
-// Gives the ant of `p` the posture of that of another cell.
+// Gives the ant at `p` the state, rest and direction of the ant of another cell.
 #[inline(always)]
 fn set_posture(world: &mut World, p: Pos, source: &Cell)
     requires { CanPatchIn (world_of world.old) (p, only Part.Mind, source.now) }
@@ -73,7 +73,7 @@ fn set_posture(world: &mut World, p: Pos, source: &Cell)
     );
 }
 
-// Sets the named parts of a write that is the only one, whichever they are.
+// Sets the named parts of the only write, whichever they are.
 #[inline(never)]
 fn set_parts(world: &mut World, write: &Sighting)
     requires { CanTake (world_of world.old) (write.now ∷ []) }
@@ -119,7 +119,7 @@ fn is_in_pass(heavier: bool, raises: bool) -> bool
     if heavier { raises } else { !raises }
 }
 
-// What a cell weighs.
+// The weight of a cell.
 #[inline]
 #[tactic(auto, unfolding(cell_world::specs::Cell::cell_weight))]
 fn weight(cell: &Cell) -> u64
@@ -128,7 +128,7 @@ fn weight(cell: &Cell) -> u64
     u64::from(cell.food) + ant_weight(&cell.ant)
 }
 
-// What an ant weighs, if there is one.
+// The weight of an ant, if there is one.
 #[inline]
 fn ant_weight(ant: &Option<Ant>) -> u64
     ensures { result ≡ ant_weight ant.now }

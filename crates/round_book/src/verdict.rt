@@ -1,11 +1,11 @@
-// What came of a turn's look.
+// The verdict on a turn's look.
 use cell_world::Part;
 use hex_geometry::Pos;
 
-/// Why a look at a turn didn't hold.
+/// Why a look at a turn wasn't valid.
 #[derive(Clone, Copy, Debug, PartialEq, Eq)]
 pub enum Cause {
-    /// A part that was read at this position is another there now.
+    /// A part that was read at this position has changed.
     Part {
         /// The position.
         at: Pos,
@@ -16,15 +16,15 @@ pub enum Cause {
     Place {
         /// The place in the stream at which the look was made.
         guessed: u64,
-        /// The place at which the turn's number stands.
+        /// The actual place of the turn's number.
         actual: u64,
     },
 }
 
-/// What came of the look at a turn.
+/// The verdict on the look at a turn.
 #[derive(Clone, Copy, Debug, PartialEq, Eq)]
 pub enum Verdict {
-    /// The look held, and what it wrote was taken.
+    /// The look was valid, and its writes were set.
     Taken,
     /// It wasn't valid, and the turn was executed again.
     Redone(Cause),

@@ -20,7 +20,7 @@ use hex_geometry::{OutOfMemory, Pos, index_of};
 use spec_record::Sighting;
 use std::alloc::Global;
 
-// A world, which of its cells were written since it was lent, as marks and as a list, and what came of the turns so
+// A world, which of its cells were written since it was lent, as marks and as a list, and the verdicts on the turns so
 // far.
 #[derive(Drop)]
 pub(crate) struct Workspace {
@@ -43,8 +43,8 @@ impl Workspace {
         })
     }
 
-    // Takes room for the positions that so many turns write, seven each and no more than there are cells, and for their
-    // verdicts.
+    // Reserves room for the positions that this many turns write, seven for each but no more than there are cells, and
+    // for their verdicts.
     #[inline(always)]
     pub(crate) fn reserve(&mut self, turns: u32) -> Result<(), OutOfMemory>
         ensures rest { self.new ≡ record self.old { written = self.new.written; verdicts = self.new.verdicts } }
@@ -58,8 +58,8 @@ impl Workspace {
         self.reserve_verdicts(turns as usize)
     }
 
-    // Takes room for so many written positions more, and no more than there are cells. Most windows find the room of an
-    // earlier one, so the cells are counted only where that is too small.
+    // Reserves room for this many more written positions, but no more than there are cells. Most windows find the room
+    // of an earlier one, so the cells are counted only if that is too small.
     #[inline]
     fn reserve_written(&mut self, more: usize) -> Result<(), OutOfMemory>
         ensures rest { self.new ≡ record self.old { written = self.new.written } }
@@ -75,7 +75,7 @@ impl Workspace {
         Ok(())
     }
 
-    // Takes room for so many verdicts more.
+    // Reserves room for this many more verdicts.
     #[inline]
     fn reserve_verdicts(&mut self, more: usize) -> Result<(), OutOfMemory>
         ensures rest { self.new ≡ record self.old { verdicts = self.new.verdicts } }
@@ -89,7 +89,7 @@ impl Workspace {
         Ok(())
     }
 
-    // Whether the cell at `p` was written; beyond the world there is none.
+    // Whether the cell at `p` was written; false outside the world.
     #[inline]
     pub(crate) fn is_marked(&self, p: Pos) -> bool
         requires { AreMarked self.now.world self.now.marked.items self.now.written.items }
@@ -101,7 +101,7 @@ impl Workspace {
         self.has_mark(p)
     }
 
-    // Whether the cell at `p`, which is one of the world, is marked.
+    // Whether the cell at `p`, which is inside the world, is marked.
     #[inline]
     fn has_mark(&self, p: Pos) -> bool
         requires marks { AreMarked self.now.world self.now.marked.items self.now.written.items }
@@ -111,7 +111,7 @@ impl Workspace {
         self.marked[index_of(self.world.width(), p)]
     }
 
-    // Marks the cell at `p` as written, and lists it where it wasn't.
+    // Marks the cell at `p` as written, and lists it if it wasn't marked.
     #[inline]
     pub(crate) fn mark(&mut self, p: Pos)
         requires marks { AreMarked self.old.world self.old.marked.items self.old.written.items }
@@ -130,8 +130,8 @@ impl Workspace {
         }
     }
 
-    // The first part, in the order of the reads, that was read and is another now. Most looks read no cell that was
-    // written, so the marks of all are asked first, and the others are a call.
+    // The first part, in the order of the reads, that was read and has changed. Most looks read no cell that was
+    // written, so all marks are tested first, and the rest is a call.
     #[inline(always)]
     pub(crate) fn first_change(&self, reads: &[Sighting]) -> Option<Cause>
         requires marks { AreMarked self.now.world self.now.marked.items self.now.written.items }
@@ -158,7 +158,7 @@ impl Workspace {
         true
     }
 
-    // The first part, in the order of the reads, that was read and is another now. It compares the written cells alone.
+    // The first part, in the order of the reads, that was read and has changed. It compares only written cells.
     #[inline(never)]
     fn first_difference(&self, reads: &[Sighting]) -> Option<Cause>
         requires marks { AreMarked self.now.world self.now.marked.items self.now.written.items }
@@ -174,7 +174,7 @@ impl Workspace {
         None
     }
 
-    // The same of one position.
+    // The same for one position.
     #[inline(always)]
     fn change(&self, read: &Sighting) -> Option<Cause>
         requires marks { AreMarked self.now.world self.now.marked.items self.now.written.items }
@@ -188,7 +188,7 @@ impl Workspace {
         self.difference_at(read)
     }
 
-    // The same of one position, which is compared. Few are, so it is a call.
+    // The same for one position, whose cell is compared. Few are, so this is a call.
     #[inline(never)]
     fn difference_at(&self, read: &Sighting) -> Option<Cause>
         requires { IsInside self.now.world.width self.now.world.height (seen_place read.now) }
@@ -239,7 +239,7 @@ impl Workspace {
         }
     }
 
-    // Takes all marks off, and empties the lists.
+    // Clears all marks, and empties the lists.
     pub(crate) fn clear(&mut self)
         requires { AreMarked self.old.world self.old.marked.items self.old.written.items }
         ensures { IsWorkspaceReady self.old.world self.new }
@@ -257,7 +257,7 @@ fn cell_count(world: &World) -> usize
     world.width() as usize * world.height() as usize
 }
 
-// Whether the position is one of the world.
+// Whether the position is inside the world.
 #[inline]
 fn is_inside(world: &World, p: Pos) -> bool
     ensures inside { (result ≡ true) ↔ ((p.x < world.now.width) × (p.y < world.now.height)) }
@@ -266,7 +266,7 @@ fn is_inside(world: &World, p: Pos) -> bool
     p.x < world.width() && p.y < world.height()
 }
 
-// Takes the marks of these positions off.
+// Clears the marks of these positions.
 fn unmark(marked: &mut [bool], world: &World, places: &[Pos])
     requires { AreMarked world.now marked.old places.now }
     ensures { AreMarked world.now marked.new [] }

@@ -1,5 +1,4 @@
--- What the rule of a board says, in words, and which of its steps are events of the workers on its window (this
--- project's own).
+-- The rule of a board in words, and which of its steps are events of the workers on its window (this project's own).
 use Rattle.std.specs.Prelude.{◌≡◌, ◌≢◌, ◌⊎◌, ◌↔◌, ℕ, ◌+◌, ◌-◌, ◌<◌, ◌≤◌, Some, List, slice_index, slice_set}
 use mathlib.Core.Option as maybe
 use lib.ListN.{get_elem?}
@@ -42,28 +41,28 @@ holders s = summed (λ v. one_if v.holds) s.views
 abbrev pub word_of : State BoardSlot View → ℕ → ℕ
 word_of s j = slice_index s.words (j + 2)
 
--- what the word of a look says
+-- the meaning of a look's word
 pub record LookSays (key : Basis) (s : State BoardSlot View) (j : ℕ) : Type 0 where
-  -- it is one of the four
+  -- it is one of the four values
   pub one_of_four : word_of s j ≤ look_emptied
-  -- empty only where no seat put it
+  -- empty only if no seat put the look
   pub empty : word_of s j ≡ look_empty → putters s j ≡ 0
-  -- full only where one seat put it and none took it; the slot is home then, with the look at its turn
+  -- full only if one seat put it and none took it; then the slot is home, with the look at its turn
   pub full : word_of s j ≡ look_full → (putters s j ≡ 1) × (takers s j ≡ 0) ×
       HasHome (get_elem? s.homes (j + 1)) (OneLook (Some (look_for (window_for key) ((window_for key).from + j))))
-  -- emptied exactly where a seat took it
+  -- emptied exactly if a seat took it
   pub emptied : (word_of s j ≡ look_emptied) ↔ (takers s j ≡ 1)
-  -- in hand: nobody took it, one seat is between the two steps of a put or of a take, and it is put exactly where that
+  -- in hand: no seat took it, one seat is between the two steps of a put or of a take, and it was put exactly if that
   -- is a take
   pub in_hand : word_of s j ≡ look_in_hand
       → (takers s j ≡ 0) × (putting_now s j + taking_now s j ≡ 1) × (putters s j ≡ taking_now s j)
   -- no look waits in a slot whose word says empty or emptied
   pub bare : (word_of s j ≡ look_empty) ⊎ (word_of s j ≡ look_emptied) → IsSpare (get_elem? s.homes (j + 1))
-  -- a seat that drew its ticket and hasn't put it: the word says empty, or in hand while that seat puts it
+  -- for a seat that drew its ticket and hasn't put it, the word says empty, or in hand while that seat puts it
   pub drawn : (i : ℕ) (v : View) → get_elem? s.views i ≡ maybe.some v → 1 ≤ times j v.drawn → times j v.put ≡ 0 →
       (word_of s j ≡ look_empty) ⊎ ((word_of s j ≡ look_in_hand) × (putting j v.phase ≡ 1))
 
--- what the rule says of the tickets, of the book and of each look
+-- the rule for the tickets, the book and each look
 pub record BoardsSay : Type 0 where
   pub tickets : (key : Basis) (s : State BoardSlot View) → IsKept key s → slice_index s.words 0 ≤ turns_of key + 17
   pub book_home_stands : (key : Basis) (s : State BoardSlot View) → IsKept key s → summed has_opened s.views ≡ 1
@@ -73,16 +72,17 @@ pub record BoardsSay : Type 0 where
       → slice_index s.words 1 ≢ book_home →
       (slice_index s.words 1 ≡ book_out) × (holders s ≡ 1)
   pub looks : (key : Basis) (s : State BoardSlot View) → IsKept key s → (j : ℕ) → j < turns_of key → LookSays key s j
-  -- no look is put or taken but of a turn of the window
+  -- only looks at turns of the window are put or taken
   pub turns_alone : (key : Basis) (s : State BoardSlot View) → IsKept key s → (j : ℕ) → 1 ≤ putters s j + takers s j
       → j < turns_of key
 
--- the workers on the window are where the board is: as many tickets are drawn, and the looks of the same turns were put
+-- the workers on the window match the board: the same number of tickets is drawn, and the looks of the same turns were
+-- put
 pub record Mirrors (key : Basis) (s : State BoardSlot View) (m : machine.State) : Type 0 where
   pub drawn : m.drawn ≡ slice_index s.words 0
   pub put : (j : ℕ) → machine.IsPut m j ↔ (1 ≤ putters s j)
 
--- the steps that draw a ticket and that end a put are events; hands are what they are in the machine
+-- the steps that draw a ticket and that end a put are events; hands mean the same as in the machine
 pub record BoardStepsAreEvents : Type 0 where
   pub draws : (key : Basis) (s : State BoardSlot View) (id : ℕ) (v : View) (m : machine.State) (hand : ℕ) →
       IsKept key s → get_elem? s.views id ≡ maybe.some v → Mirrors key s m →
@@ -108,8 +108,8 @@ pub record Way (window : Window) (Is : machine.State → Type 0) : Type 0 where
   pub lawful : machine.AreLawful window (machine.first_state window) events
   pub there : Is (machine.run window (machine.first_state window) events)
 
--- wherever a board is, lawful events of workers lead to a state that is there too; and where the looks of all turns
--- that a book has settled were put, to one that is where the board is and where the book is
+-- whatever the state of a board, lawful events of workers lead to a state that matches it; and if the looks of all
+-- turns that a book has settled were put, they lead to one that matches the board and the book
 pub record BoardsAreReached : Type 0 where
   pub board : (key : Basis) (s : State BoardSlot View) → IsKept key s → Way (window_for key) (Mirrors key s)
   pub book : (key : Basis) (s : State BoardSlot View) (book : BookValue) → IsKept key s
@@ -117,7 +117,7 @@ pub record BoardsAreReached : Type 0 where
       ((j : ℕ) → j < book.next - book.from → 1 ≤ putters s j)
       → Way (window_for key) (λ m. Mirrors key s m × IsAt m book)
 
--- the workers on a window are where a closed board is: so many tickets were drawn, and the looks of these tickets were
+-- the workers on a window match a closed board: this number of tickets was drawn, and the looks of these tickets were
 -- put
 pub record IsWhereClosed (window : Window) (count : ℕ) (tickets : List ℕ) (m : machine.State) : Type 0 where
   pub drawn : m.drawn ≡ count

@@ -1,4 +1,4 @@
--- What each step on a board tells the seat that makes it, and which step that is (this project's own).
+-- What the seat that makes a step on a board knows after it, and which step that is (this project's own).
 use Rattle.std.specs.Prelude.{◌≡◌, ◌≢◌, ℕ, suc, ◌+◌, ◌<◌, ◌≤◌, ◌^◌, true, false, [], ◌∷◌, ◌++◌, Option, Some, None}
 use Rattle.std.specs.List.{AllByRecursion}
 use Rattle.atomic_table.specs.Table.{Me, Step, rest}
@@ -18,8 +18,8 @@ use Rattle.round_workers.specs.BoardView.{book_home, book_out, look_emptied, loo
 abbrev pub At : Type 0
 At = Me BoardSlot View
 
--- a step with these numbers, and one on this word with them. A load, and what writes one number, has 0 for the second;
--- only a compare-exchange has another number there
+-- a step with these numbers, and one on this word with them. A load, and a step that writes one number, has 0 for the
+-- second; only a compare-exchange has another number there
 abbrev pub Carries : Step BoardSlot → (first second : ℕ) → Type 0
 Carries step first second = (step.first ≡ first) × (step.second ≡ second)
 
@@ -30,7 +30,7 @@ IsStep step word first second = (step.word ≡ word) × Carries step first secon
 abbrev pub drew : View → ℕ → View
 drew v ticket = record v { drawn = v.drawn ++ ticket ∷ [] }
 
--- the ticket is the seat's, above each that it drew, and small
+-- the seat has the ticket, which is small and above each that it drew before
 abbrev pub tells_draw : Step BoardSlot → At → ℕ → At → Type 0
 tells_draw step me found new =
     IsStep step 0 1 0 × (new ≡ (drew me.0 found, me.1)) × AllByRecursion (λ k. k < found) me.0.drawn × (found < 2 ^ 32)
@@ -56,12 +56,12 @@ newcomer v = record {
   phase = Resting;
 }
 
--- a seat after another went into it
+-- a seat after another was joined into it
 abbrev pub views_joined : View → View → View
 views_joined v w =
     record v { parts = v.parts ++ w.parts; drawn = v.drawn ++ w.drawn; put = v.put ++ w.put; took = v.took ++ w.took }
 
--- the seat is as it was, and drew no ticket twice
+-- the seat is unchanged, and drew no ticket twice
 abbrev pub tells_each_once : Step BoardSlot → At → ℕ → At → Type 0
 tells_each_once step me found new = IsStep step 0 0 0 × (new ≡ me) × ((k : ℕ) → times k me.0.drawn ≤ 1)
 
@@ -69,7 +69,7 @@ tells_each_once step me found new = IsStep step 0 0 0 × (new ≡ me) × ((k : �
 abbrev pub after_try : View → Try → View
 after_try v last = record v { tries = v.tries + 1; last = last }
 
--- the first seat in the midst of opening the book
+-- the first seat while it opens the book
 abbrev pub opens_now : View → View
 opens_now v = record v { phase = Opening }
 
@@ -85,21 +85,21 @@ with_book v = record (after_try v (OfBook book_home)) { holds = true }
 abbrev pub without_book : View → View
 without_book v = record v { holds = false }
 
--- a seat in the midst of putting the look of a ticket, and after it
+-- a seat while it puts the look of a ticket, and after that
 abbrev pub puts_now : View → ℕ → View
 puts_now v ticket = record v { phase = Putting ticket }
 
 abbrev pub has_put : View → ℕ → View
 has_put v ticket = record v { phase = Resting; put = v.put ++ ticket ∷ [] }
 
--- a seat in the midst of taking the look of a ticket, and after it
+-- a seat while it takes the look of a ticket, and after that
 abbrev pub takes_now : View → ℕ → View
 takes_now v ticket = record (after_try v (OfLook ticket look_full)) { phase = Taking ticket }
 
 abbrev pub has_taken : View → ℕ → View
 has_taken v ticket = record v { phase = Resting; took = v.took ++ ticket ∷ [] }
 
--- the book's slot was home, and is the seat's
+-- the book's slot was home, and the seat has it now
 abbrev pub tells_open : Step BoardSlot → At → ℕ → At → Type 0
 tells_open step me found new =
     IsStep step 1 book_home book_out × (found ≡ book_home) × (new ≡ (opens_now me.0, (0, TheBook None) ∷ me.1))
@@ -107,7 +107,8 @@ tells_open step me found new =
 abbrev pub tells_opened : Step BoardSlot → At → ℕ → At → Type 0
 tells_opened step me found new = IsStep step 1 book_home 0 × (new ≡ (has_seen me.0, rest me.1))
 
--- where the book was home it is the seat's, and stands for the window that the seat knows; else another seat has it
+-- if the book was home, the seat has it now, and it stands for the window that the seat knows; otherwise another seat
+-- has it
 pub record TellsTake (me : At) (found : ℕ) (new : At) : Type 0 where
   pub home : found ≡ book_home
       → (book : BookValue) × StandsFor (window_about me.0.about) book
@@ -120,7 +121,7 @@ tells_take_book step me found new = IsStep step 1 book_home book_out × TellsTak
 abbrev pub tells_give_book : Step BoardSlot → At → ℕ → At → Type 0
 tells_give_book step me found new = IsStep step 1 book_home 0 × (new ≡ (without_book me.0, rest me.1))
 
--- the look's slot was home, with no look waiting in it, and is the seat's
+-- the look's slot was home, with no look waiting in it, and the seat has it now
 abbrev pub tells_put : Step BoardSlot → At → ℕ → At → Type 0
 tells_put step me found new =
     Carries step look_empty look_in_hand
@@ -134,7 +135,7 @@ tells_has_put step me found new =
 abbrev pub look_at_ticket : View → ℕ → LookValue
 look_at_ticket v ticket = look_for (window_about v.about) ((window_about v.about).from + ticket)
 
--- where the look's word was full the look is the seat's, and it is that at its turn; else the seat keeps what it found
+-- if the look's word was full, the seat has the look at its turn now; otherwise the seat keeps what it found
 pub record TellsTakeLook (ticket : ℕ) (me : At) (found : ℕ) (new : At) : Type 0 where
   pub full : found ≡ look_full
       → new ≡ (takes_now me.0 ticket, (ticket + 1, OneLook (Some (look_at_ticket me.0 ticket))) ∷ me.1)

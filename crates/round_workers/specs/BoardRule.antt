@@ -1,4 +1,4 @@
--- What is true of a board between any two steps of its seats (this project's own).
+-- What holds of a board between any two steps of its seats (this project's own).
 --
 -- Word 0 is the number of tickets drawn. Word 1 is the book's: `book_home`, or `book_out`. Word j + 2 is that of the
 -- look of ticket j: `look_empty`, `look_in_hand`, `look_full` or `look_emptied`. Slot 0 is the book's, and slot j + 1
@@ -26,7 +26,7 @@ use Rattle.round_workers.specs.Crews.{most_workers}
 abbrev pub turns_of : Basis → ℕ
 turns_of basis = basis.to - basis.from
 
--- 1 for the first seat of a board, else 0
+-- 1 for the first seat of a board, otherwise 0
 abbrev pub first_one : Option Basis → ℕ → ℕ
 first_one None number = 0
 first_one (Some basis) zero = 1
@@ -35,40 +35,39 @@ first_one (Some basis) (suc number) = 0
 abbrev pub is_first : View → ℕ
 is_first v = first_one v.about v.number
 
--- the number, where it is so
+-- the number if true, otherwise 0
 abbrev pub only_if : Bool → ℕ → ℕ
 only_if true n = n
 only_if false n = 0
 
--- 1 for the first seat once it has opened the book, else 0
+-- 1 for the first seat once it has opened the book, otherwise 0
 abbrev pub has_opened : View → ℕ
 has_opened v = only_if v.opened (is_first v)
 
--- 1 in the midst of opening the book, else 0
+-- 1 while opening the book, otherwise 0
 abbrev pub phase_opening : Phase → ℕ
 phase_opening Resting = 0
 phase_opening Opening = 1
 phase_opening (Putting j) = 0
 phase_opening (Taking j) = 0
 
--- 1 in the midst of putting the look of ticket x, else 0
+-- 1 while putting the look of ticket x, otherwise 0
 abbrev pub putting : ℕ → Phase → ℕ
 putting x Resting = 0
 putting x Opening = 0
 putting x (Putting j) = one_if (nat_eq j x)
 putting x (Taking j) = 0
 
--- 1 in the midst of taking the look of ticket x, else 0
+-- 1 while taking the look of ticket x, otherwise 0
 abbrev pub taking : ℕ → Phase → ℕ
 taking x Resting = 0
 taking x Opening = 0
 taking x (Putting j) = 0
 taking x (Taking j) = one_if (nat_eq j x)
 
--- what is true of each seat that didn't go into another: it knows the board's window; its own number is among its
--- parts; the first seat alone makes others; it drew at most as many tickets behind the window as it has parts; what it
--- put, or is about to put, it drew; what it put and took are looks of turns alone; and the first seat alone opens the
--- book
+-- what holds of each seat that wasn't joined into another. It knows the board's window, and its own number is among its
+-- parts. Only the first seat makes others. The seat drew at most as many tickets after the window as it has parts. It
+-- drew what it put or is about to put, and it put and took only looks of turns. Only the first seat opens the book
 pub record IsSeated (key : Basis) (v : View) : Type 0 where
   pub same : v.about ≡ Some key
   pub own : 1 ≤ times v.number v.parts
@@ -78,7 +77,7 @@ pub record IsSeated (key : Basis) (v : View) : Type 0 where
   pub within : (x : ℕ) → turns_of key ≤ x → times x v.put + times x v.took ≡ 0
   pub opens : phase_opening v.phase + has_opened v ≤ is_first v
 
--- of a seat that went into another nothing is left
+-- a seat that was joined into another has nothing left
 abbrev pub Sits : Basis → View → Type 0
 Sits key v = (v ≡ spent_seat) ⊎ IsSeated key v
 
@@ -94,8 +93,8 @@ pub record AreParts (views : List View) : Type 0 where
   pub few : made_by views ≤ most_workers
   pub first : summed is_first views ≡ 1
 
--- the tickets of all seats are the numbers below the ticket word, each once; at most as many as are behind the window
--- were drawn beyond it
+-- the tickets of all seats are the numbers below the ticket word, each once; the word exceeds the number of turns at
+-- most by the number of tickets drawn after the window
 pub record AreDealt (turns word : ℕ) (views : List View) : Type 0 where
   pub each : (x : ℕ) → summed (λ v. times x v.drawn) views ≡ once_below x word
   pub within : word ≤ turns + summed (λ v. late_among turns v.drawn) views
@@ -104,16 +103,16 @@ pub record AreDealt (turns word : ℕ) (views : List View) : Type 0 where
 abbrev pub HasHome : maybe.Option (maybe.Option BoardSlot) → BoardSlot → Type 0
 HasHome home place = home ≡ maybe.some (maybe.some place)
 
--- a slot is home, with a book in it that stands for the window
+-- a slot is home, and a book in it stands for the window
 abbrev pub HasBook : maybe.Option (maybe.Option BoardSlot) → Window → Type 0
 HasBook home window = (book : BookValue) × HasHome home (TheBook (Some book)) × StandsFor window book
 
--- a slot is home, with a look's room in it in which no look is waiting; there may be an old one
+-- a slot is home, with a look's room in which no look waits; there may be an old one
 abbrev pub IsSpare : maybe.Option (maybe.Option BoardSlot) → Type 0
 IsSpare home = (old : Option LookValue) × HasHome home (Spare old)
 
--- the book, by its word and what its slot has at home: so many seats hold it, are opening it, opened it, and have seen
--- it opened
+-- the book, by its word and by what its slot has at home: how many seats hold it, are opening it, opened it, and have
+-- seen it opened
 pub record IsBookKept (window : Window) (word : ℕ) (home : maybe.Option (maybe.Option BoardSlot))
     (held opens opened seen : ℕ) : Type 0 where
   pub out : word ≡ held + opens
@@ -124,10 +123,10 @@ pub record IsBookKept (window : Window) (word : ℕ) (home : maybe.Option (maybe
   pub bare : opens + opened ≡ 0 → HasHome home (TheBook None)
   pub stands : opened ≡ 1 → held ≡ 0 → HasBook home window
 
--- the look of a ticket, by its word and what its slot has at home: so many seats put it, took it, are putting it and
--- are taking it. The word says how far the look is: in hand while a seat puts it, full once it is put, emptied once it
--- is taken; while a seat takes it, it is in hand again. So it is 1 for a put that is under way, 2 for one that is done,
--- 1 more for a take that is done, and 1 less for one that is under way
+-- the look of a ticket, by its word and by what its slot has at home: how many seats put it, took it, are putting it
+-- and are taking it. The word is the state of the look: in hand while a seat puts it, full once it is put, in hand
+-- again while a seat takes it, and emptied once it is taken. So it is 1 for a put in progress, 2 for one that is done,
+-- 1 more for a take that is done, and 1 less for one in progress
 pub record IsLookKept (window : Window) (ticket word : ℕ) (home : maybe.Option (maybe.Option BoardSlot))
     (put took puts takes : ℕ) : Type 0 where
   pub sum : word + takes ≡ puts + (put + put) + took

@@ -13,7 +13,7 @@ use Rattle.round_workers.specs.declared.board.view.View.{View}
 use Rattle.round_workers.specs.BoardPlays.{after_try}
 use Rattle.round_workers.specs.BoardView.{look_full, window_for}
 
--- the window that a board is for, as its seats know it
+-- the window of a board, as its seats know it
 abbrev pub basis_of : Board → Basis
 basis_of board = board.table.shared.key
 
@@ -45,6 +45,6 @@ left_if zero took look = None
 left_if (suc put) zero look = Some look
 left_if (suc put) (suc took) look = None
 
--- the look of a ticket, where the seat, with those that went into it, put it and didn't take it
+-- the look of a ticket, if the seat, with those joined into it, put it and didn't take it
 abbrev pub left_look : Window → View → ℕ → Option LookValue
 left_look window v ticket = left_if (times ticket v.put) (times ticket v.took) (look_for window (window.from + ticket))

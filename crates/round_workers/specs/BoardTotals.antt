@@ -1,4 +1,4 @@
--- Totals over the seats of a board, by which "exactly one" and "each once" are said (this project's own).
+-- Totals over the seats of a board, with which "exactly one" and "each once" are stated (this project's own).
 use Rattle.std.specs.Prelude.{ℕ, ◌+◌, nat_le, nat_lt, List, [], ◌∷◌}
 use Rattle.cell_world.specs.Cell.{one_if}
 
@@ -7,7 +7,7 @@ abbrev pub summed : {A : Type 0} → (A → ℕ) → List A → ℕ
 summed f [] = 0
 summed f (v ∷ vs) = f v + summed f vs
 
--- 1 where x is below n, else 0
+-- 1 if x is below n, otherwise 0
 abbrev pub once_below : ℕ → ℕ → ℕ
 once_below x n = one_if (nat_lt x n)
 

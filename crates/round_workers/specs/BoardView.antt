@@ -13,7 +13,7 @@ use Rattle.round_workers.specs.declared.board.view.Phase.TheVariants.{Resting}
 use Rattle.round_workers.specs.declared.board.view.Try.TheVariants.{Never}
 use Rattle.round_workers.specs.declared.board.view.View.{View}
 
--- the window that a board is for
+-- the window of a board
 abbrev pub window_for : Basis → Window
 window_for basis = record {
   minds = record { red = basis.red.value; black = basis.black.value; sheet = sheet_of basis.sheet };
@@ -61,7 +61,7 @@ first_seat basis = record {
   phase = Resting;
 }
 
--- a seat that went into another
+-- a seat that was joined into another
 abbrev pub spent_seat : View
 spent_seat = record {
   about = None;
@@ -78,14 +78,14 @@ spent_seat = record {
   phase = Resting;
 }
 
--- what the word of the book says: the book is at home, or a seat has it
+-- the values of the book's word: the book is at home, or a seat has it
 abbrev pub book_home : ℕ
 book_home = 0
 
 abbrev pub book_out : ℕ
 book_out = 1
 
--- what the word of a look says: nobody put it yet, a seat has its room in hand, it waits to be taken, it was taken
+-- the values of a look's word: no seat put it yet, a seat has its room in hand, it waits to be taken, it was taken
 abbrev pub look_empty : ℕ
 look_empty = 0
 
@@ -98,7 +98,7 @@ look_full = 2
 abbrev pub look_emptied : ℕ
 look_emptied = 3
 
--- the slots that are out with a seat between two calls: the book's, whose room is empty while the seat holds the book
+-- the slots that a seat has in hand between two calls: the book's, whose room is empty while the seat holds the book
 abbrev pub out_with : Bool → List (ℕ × BoardSlot)
 out_with false = []
 out_with true = (0, TheBook None) ∷ []

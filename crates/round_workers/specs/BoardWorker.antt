@@ -21,8 +21,8 @@ abbrev pub turns_in : Window → ℕ
 turns_in window = window.to - window.from
 
 -- what a worker's seat knows, and the turns whose looks the worker made: the seat isn't the first, doesn't hold the
--- book and took no other in; it drew its tickets in order, and put the look of each that is a turn's; and those are the
--- turns, in order
+-- book, and no other was joined into it; it drew its tickets in order, and put the look of each that is a turn's; and
+-- those are the turns, in order
 pub record IsWorker (v : View) (made : List ℕ) : Type 0 where
   pub other : v.number ≢ 0
   pub free : v.holds ≡ false
@@ -31,7 +31,7 @@ pub record IsWorker (v : View) (made : List ℕ) : Type 0 where
   pub puts : v.put ≡ those_below (turns_in (window_about v.about)) v.drawn
   pub made_them : made ≡ map (λ ticket. (window_about v.about).from + ticket) v.put
 
--- a seat is what it was, but for the looks that it took and for its tries
+-- a seat is unchanged, except for the looks that it took and for its tries
 pub record IsSameButTook (old new : View) : Type 0 where
   pub about : new.about ≡ old.about
   pub number : new.number ≡ old.number

@@ -1,11 +1,11 @@
 -- What a contract sees of a crew of workers (this project's own).
 use Rattle.std.specs.Prelude.{ℕ, ◌≤◌}
 
--- how many workers a crew has at most, and how many other seats a board's first seat makes at most
+-- the most workers in a crew, and the most other seats that a board's first seat makes
 abbrev pub most_workers : ℕ
 most_workers = 16
 
--- so many workers can be a crew
+-- a crew can have this number of workers
 abbrev pub IsCrewSize : ℕ → Type 0
 IsCrewSize workers = (1 ≤ workers) × (workers ≤ most_workers)
 

@@ -1,4 +1,4 @@
--- Stepping stones between the definitions and the code: no public clause cites them.
+-- Definitions between the public ones and the code; no public clause cites them.
 pub mod BoardCrew
 pub mod BoardPlaces
 pub mod BookInHand

@@ -36,11 +36,11 @@ pub use view::{Basis, BoardSlot, Phase, Try, View};
 pub use worker::Worker;
 
 impl Board {
-    /// A board for the window of the turns of the ids from `from` up to, and not including, `to`, of a field, and its
+    /// A board for the window of the turns of the ids from `from` up to, but not including, `to`, of a field, and its
     /// first seat. The seat knows the window. No ticket is drawn, no look is put, and the book isn't there yet. The
-    /// field is whole, `from` is at most `to`, `to` at most the number of ids, and the place with the number of turns
-    /// is below 2^63. It is refused only when out of memory; it takes the room of all looks, and of the list of those
-    /// that are left in the end.
+    /// field is whole, `from` is at most `to`, `to` is at most the number of ids, and the place plus the number of
+    /// turns is below 2^63. It fails only if memory runs out. It takes the memory for all looks, and for the list of
+    /// those that are left at the end.
     pub fn new(
         alloc: Global,
         field: &Field<'_>,
@@ -81,7 +81,7 @@ impl Board {
     }
 
     /// Draws the next ticket. The tickets of a board are the numbers from 0, and each is drawn once, by one of the
-    /// seats. Ticket k is for turn number k of the window; a ticket beyond the last turn says that all turns are drawn.
+    /// seats. Ticket k is for turn number k of the window; a ticket after the last turn means that all turns are drawn.
     /// The seat has drawn no such ticket yet. The ticket is higher than all that the seat drew before.
     #[inline]
     pub fn draw(&self, seat: &mut Seat) -> u32
@@ -95,9 +95,9 @@ impl Board {
         ticket as u32
     }
 
-    /// Makes another seat of this board. It knows the same window, and has seen the book opened where the first seat
-    /// has. Its number, which is its one part, is the count of the seats that were made, from 1. The seat is the first
-    /// one, and made fewer than 16.
+    /// Makes another seat of this board. It knows the same window, and has seen the book opened if the first seat has.
+    /// Its number, which is its only part, is the count of the seats that were made, from 1. The given seat is the
+    /// first one, and has made fewer than 16.
     pub fn split(&self, seat: &mut Seat) -> Seat
         requires board { IsSeatOf self.now seat.old }
         requires first { (known seat.old).number ≡ 0 }

@@ -10,7 +10,7 @@ use round_book::Field;
 use std::thread;
 use std::thread::Threads;
 
-// Makes the looks of each piece, each piece in a thread; a single piece in that of the caller.
+// Makes the looks of each piece, each piece in its own thread; a single piece in the caller's thread.
 pub fn look_at_pieces<R: Threads + Sync, G: Gate>(
     team: &Team<'_, R, G>,
     field: &Field<'_>,

@@ -1,4 +1,4 @@
-// At which random numbers the turns of a window are guessed to stand.
+// The guesses for the turns of a window: the places of their random numbers.
 ghost use Rattle.std.specs.Prelude.{◌≡◌, ◌+◌, ◌-◌, ◌<◌, ◌≤◌, OnOk};
 ghost use Rattle.round_book.specs.Book.{CanBegin, window_of};
 ghost use Rattle.round_book.specs.Window.{guess_for, guesses_for};
@@ -8,7 +8,7 @@ use hex_geometry::OutOfMemory;
 use round_book::Field;
 use spec_record::guess_at;
 
-// The guess of a turn of a window, or of the one behind it, from that of an earlier one.
+// The guess for a turn of a window, or for the one after its last turn, from that for an earlier one.
 #[inline]
 pub fn guess_on(field: &Field<'_>, turns: Turns, guess: u64, at: u32, id: u32) -> u64
     requires window { CanBegin field.now turns.from turns.to }
@@ -21,7 +21,7 @@ pub fn guess_on(field: &Field<'_>, turns: Turns, guess: u64, at: u32, id: u32) -
     guess_at(field.world(), field.brains(), guess, at, id)
 }
 
-// Lists the guess of each turn of a window, in order, in the place of what was in the list.
+// Lists the guess for each turn of a window, in order, and drops what was in the list.
 pub fn list_guesses(
     guesses: &mut Vec<u64>,
     field: &Field<'_>,

@@ -18,8 +18,8 @@ use round_book::Field;
 use spec_record::{Look, look_into};
 use std::alloc::Global;
 
-// A worker's turns, and rooms for its looks. The looks of the turns are the first of the list; behind them stand those
-// of an earlier window that had more turns, so that no room is made twice.
+// A worker's turns, and rooms for its looks. The looks of the turns come first in the list; after them are those of an
+// earlier window that had more turns, so that no room is made twice.
 #[derive(Drop)]
 pub struct Piece {
     pub share: Share,
@@ -27,7 +27,7 @@ pub struct Piece {
 }
 
 impl Piece {
-    // Takes these turns on, and room for their looks.
+    // Takes these turns, and room for their looks.
     fn take_on(&mut self, share: Share) -> Result<(), OutOfMemory>
         ensures share { self.new.share ≡ share }
         ensures room { OnOk result (HasPieceRoom self.new) }
@@ -64,8 +64,8 @@ fn make_looks<G: Gate>(looks: &mut Vec<Look>, share: Share, field: &Field<'_>, g
     }
 }
 
-// Makes the look at a turn, by a stream that stands at its guess, in the room with this number: that of an older look,
-// or the first free one.
+// Makes the look at a turn, by a stream at its guess, in the room with this number: that of an older look, or the first
+// free one.
 #[inline]
 fn make_look(looks: &mut Vec<Look>, at: usize, field: &Field<'_>, stream: &mut Stream, id: u32)
     requires id { id < field.now.world.ids }
@@ -85,7 +85,7 @@ fn make_look(looks: &mut Vec<Look>, at: usize, field: &Field<'_>, stream: &mut S
 }
 
 // Gives each worker that has a turn of the window its share, in a piece with room for its looks, from the first piece
-// on; answers how many pieces that are. The guesses are counted here, each id once.
+// on; returns how many pieces that is. The guesses are counted here, each id once.
 pub fn deal(
     pieces: &mut Vec<Piece>,
     alloc: Global,
@@ -109,7 +109,7 @@ pub fn deal(
     Ok(dealt)
 }
 
-// Gives a share to the next piece, if it has a turn; answers how many pieces have one then.
+// Gives a share to the next piece, if it has a turn; returns how many pieces then have one.
 fn give(
     pieces: &mut Vec<Piece>,
     alloc: Global,

@@ -17,8 +17,8 @@ use std::alloc::Global;
 use std::marker::Model;
 use std::thread::Threads;
 
-/// A crew of workers that make the looks of a window at the same time, each those of a contiguous piece of its turns;
-/// they are settled in order on the caller's thread. It keeps the rooms of its looks from one window to the next.
+/// A crew of workers that make the looks of a window at the same time, each for a contiguous piece of its turns. The
+/// looks are settled in order on the caller's thread. It keeps the rooms of its looks from one window to the next.
 #[derive(Drop)]
 pub struct PieceCrew<'c, R: Threads + Sync, G: Gate> {
     team: Team<'c, R, G>,
@@ -50,7 +50,7 @@ impl<'c, R: Threads + Sync, G: Gate> PieceCrew<'c, R, G> {
         }
     }
 
-    /// How many turns the crew has played, from 0; at the last value, 2^64 - 1, it stays.
+    /// How many turns the crew has played, from 0; it stays at the largest `u64`, 2^64 - 1.
     #[inline]
     pub fn turns(&self) -> u64
         ensures { result ≡ self.now.turns }
@@ -58,13 +58,13 @@ impl<'c, R: Threads + Sync, G: Gate> PieceCrew<'c, R, G> {
         self.turns
     }
 
-    /// Plays the turns of the ids from `from` up to, and not including, `to`. The field is whole, `from` is at most
+    /// Plays the turns of the ids from `from` up to, but not including, `to`. The field is whole, `from` is at most
     /// `to`, `to` is at most the number of ids, and the place plus the number of turns is below 2^63. Afterwards the
-    /// field is whole, and its world and place are those to which the turns lead in order. The result counts the looks
-    /// that were used and the turns that were executed again. It fails only if memory runs out; the field and the count
-    /// of turns are then unchanged.
+    /// field is whole, and its world and place are those after the turns in order. The result counts the looks that
+    /// were used and the turns that were executed again. It fails only if memory runs out; the field and the count of
+    /// turns are then unchanged.
     ///
-    /// Of n turns, worker k of W makes the looks of those from `from` + k * n / W up to, and not including, `from` + (k
+    /// Of n turns, worker k of W makes the looks of those from `from` + k * n / W up to, but not including, `from` + (k
     /// + 1) * n / W, and calls the gate with its number and the id before each. A worker without a turn starts no
     /// thread. All looks are made before the field is lent, unless no second worker has a turn: then each look is
     /// settled as soon as it is made.
@@ -89,7 +89,7 @@ impl<'c, R: Threads + Sync, G: Gate> PieceCrew<'c, R, G> {
     }
 }
 
-// Plays a window by the workers of a team, in these pieces and such as are wanted besides.
+// Plays a window by the workers of a team, in these pieces and new ones if needed.
 fn play<R: Threads + Sync, G: Gate>(
     team: &Team<'_, R, G>,
     alloc: Global,
@@ -110,7 +110,7 @@ fn play<R: Threads + Sync, G: Gate>(
     play_pieces(team, alloc, &mut pieces[..dealt], field, turns)
 }
 
-// Plays a window whose turns are dealt out, in these pieces.
+// Plays a window whose turns are shared out, in these pieces.
 fn play_pieces<R: Threads + Sync, G: Gate>(
     team: &Team<'_, R, G>,
     alloc: Global,

@@ -8,7 +8,7 @@ use Rattle.cell_world.specs.declared.part.Parts.{Parts}
 use Rattle.cell_world.specs.Parts.{union}
 use Rattle.cell_world.specs.World.{Cells}
 
--- a position, and parts of its cell; there may be none
+-- a position, and parts of its cell, perhaps none
 pub record Claim : Type 0 where
   pub at : Pos
   pub parts : Parts
@@ -16,7 +16,7 @@ pub record Claim : Type 0 where
 abbrev pub claim : Pos → Parts → Claim
 claim p parts = record { at = p; parts = parts }
 
--- one claim more: where the position is claimed already the parts go there, else it comes last
+-- one more claim: its parts are added to the entry of its position if there is one; otherwise it is added last
 abbrev pub with_claim : List Claim → Claim → List Claim
 with_claim [] new = new ∷ []
 with_claim (old ∷ claims) new =
@@ -31,7 +31,7 @@ merged_onto claims (new ∷ more) = merged_onto (with_claim claims new) more
 unfoldable pub merged : List Claim → List Claim
 merged claims = merged_onto [] claims
 
--- a position, parts, and a cell that was seen or left there
+-- a position, parts, and a cell that was read or left there
 abbrev pub Sighting : Type 0
 Sighting = Pos × Parts × Cell
 
@@ -49,11 +49,11 @@ seen_cell sighting = sighting.2
 abbrev pub seen_positions : List Sighting → List Pos
 seen_positions sightings = map seen_place sightings
 
--- each position is there once
+-- each position occurs once
 abbrev pub EachOnce : List Pos → Type 0
 EachOnce [] = ⊤
 EachOnce (p ∷ places) = AllByRecursion (λ q. q ≢ p) places × EachOnce places
 
--- the claims, each with what the cells hold there
+-- the claims, each with the cell at its position
 abbrev pub with_cells_at : Cells → List Claim → List Sighting
 with_cells_at cells claims = map (λ c. (c.at, c.parts, cells c.at)) claims

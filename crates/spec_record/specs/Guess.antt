@@ -1,4 +1,4 @@
--- At which random number a turn of a window is guessed to stand (this project's own).
+-- The guess for a turn of a window: the place of its random number (this project's own).
 use Rattle.std.specs.Prelude.{ℕ, zero, suc, ◌+◌, ◌-◌, Bool, true, false, List, [], ◌∷◌, Option, Some, None}
 use Rattle.hex_geometry.specs.declared.position.Pos.{Pos}
 use Rattle.cell_world.specs.declared.ant.Ant.{Ant}
@@ -20,7 +20,7 @@ is_flip (Turn side next) = false
 is_flip (Move met unmet) = false
 is_flip (Flip bound met unmet) = true
 
--- whether an ant that is so many turns from acting is at a Flip
+-- whether an ant with this resting count acts and is at a Flip
 abbrev pub flips_now : ℕ → Minds → Ant → Bool
 flips_now zero minds ant = is_flip (instruction_at (mind_of minds ant.colour) ant.state)
 flips_now (suc left) minds ant = false
@@ -33,11 +33,11 @@ abbrev pub flips_from : Minds → Cells → Option Pos → Bool
 flips_from minds cells None = false
 flips_from minds cells (Some p) = ant_flips minds (cells p).ant
 
--- whether the ant of id t is alive, not resting and at a Flip
+-- whether the ant of id t is alive, doesn't rest and is at a Flip
 unfoldable pub flips : Minds → World → ℕ → Bool
 flips minds w t = flips_from minds w.cells (place_in w t)
 
--- how many of n ids from `from` on are alive, not resting and at a Flip
+-- how many ants of the n ids from `from` on are alive, don't rest and are at a Flip
 abbrev pub flips_among : Minds → World → ℕ → ℕ → ℕ
 flips_among minds w from zero = 0
 flips_among minds w from (suc n) = flips_among minds w from n + one_if (flips minds w (from + n))
@@ -46,7 +46,7 @@ flips_among minds w from (suc n) = flips_among minds w from n + one_if (flips mi
 unfoldable pub guess : Minds → World → ℕ → ℕ → ℕ → ℕ
 guess minds base place from t = place + flips_among minds base from (t - from)
 
--- the guesses of n turns from `from` on
+-- the guesses for n turns from `from` on
 abbrev pub guesses_of : Minds → World → ℕ → ℕ → ℕ → ℕ → List ℕ
 guesses_of minds base place from t zero = []
 guesses_of minds base place from t (suc n) = guess minds base place from t ∷ guesses_of minds base place from (suc t) n

@@ -1,4 +1,4 @@
--- On what the turn of an ant depends, and what it changes (this project's own).
+-- What the turn of an ant depends on, and what it changes (this project's own).
 use Rattle.std.specs.Prelude.{◌≡◌, ◌≢◌, ℕ, ◌≤◌, false, true, AllPairs, List, length, map, None}
 use Rattle.std.specs.List.{AllByRecursion}
 use Rattle.hex_geometry.specs.declared.position.Pos.{Pos}
@@ -23,8 +23,8 @@ LooksAreMerged =
     (claims : List Claim)
     → AllPairs ◌≢◌ (map (λ c. c.at) (merged claims)) × ((p : Pos) → parts_at (merged claims) p ≡ parts_at claims p)
 
--- the world `now` goes on from a base, as far as the turn of id t depends on it: it has the same sizes, rocks and
--- hills, the ant is dead in it if it was dead in the base, and it is on no two cells
+-- the world `now` follows a base, as far as the turn of id t depends on it: it has the same sizes, rocks and hills, the
+-- ant is dead in it if it was dead in the base, and it isn't on two cells
 pub record GoesOn (base now : World) (t : ℕ) : Type 0 where
   pub width : now.width ≡ base.width
   pub height : now.height ≡ base.height
@@ -33,8 +33,8 @@ pub record GoesOn (base now : World) (t : ℕ) : Type 0 where
   pub dead : place_in base t ≡ None → place_in now t ≡ None
   pub once : (p q : Pos) → holds_id t (now.cells p) ≡ true → holds_id t (now.cells q) ≡ true → p ≡ q
 
--- both are worlds that the brains fit, of the same sizes, number of ids, rocks and hills, and who is dead in the base
--- is dead in `now`
+-- both are worlds that the brains fit, with the same sizes, number of ids, rocks and hills, and the ants that are dead
+-- in the base are dead in `now`
 pub record IsLater (minds : Minds) (base now : World) : Type 0 where
   pub valid_base : Valid base
   pub valid : Valid now
@@ -47,7 +47,7 @@ pub record IsLater (minds : Minds) (base now : World) : Type 0 where
   pub hills : (p : Pos) → (now.cells p).hill ≡ (base.cells p).hill
   pub dead : (t : ℕ) → place_in base t ≡ None → place_in now t ≡ None
 
--- what the turn that was looked at comes to in these cells, in which this is its outcome
+-- the turn of the look does this in these cells, where this is its outcome
 pub record IsLookedAt (look : LookValue) (cells : Cells) (outcome : Outcome) : Type 0 where
   -- it draws and kills as in the look
   pub drew : outcome.drew ≡ look.drew
@@ -56,46 +56,46 @@ pub record IsLookedAt (look : LookValue) (cells : Cells) (outcome : Outcome) : T
   pub written :
       AllByRecursion (λ write. Agree (seen_parts write) (outcome.cells (seen_place write)) (seen_cell write))
       look.writes
-  -- every part that it doesn't write stays, with the ground and the hill of each cell
+  -- every part that it doesn't write is unchanged, and so are the ground and the hill of each cell
   pub others : (p : Pos) (k : Part)
       → AllByRecursion (λ write. seen_place write ≡ p → has_part (seen_parts write) k ≡ false) look.writes →
       Alike k (outcome.cells p) (cells p)
   pub rocks : (p : Pos) → (outcome.cells p).rocky ≡ (cells p).rocky
   pub hills : (p : Pos) → (outcome.cells p).hill ≡ (cells p).hill
 
--- a turn depends on no more than what a look at it in a base reads: where that is the same, and the random number too
--- if it draws one, the turn is what was looked at
+-- a turn depends only on what a look at it in a base reads: if that is the same, and so is the random number if it
+-- draws one, the turn does what the look says
 abbrev pub TurnsAreLocal : Type 0
 TurnsAreLocal =
     (minds : Minds) (seed : ℕ) (base : World) (guess : ℕ) (now : World) (place t : ℕ) → IsLater minds base now
     → Holds minds base guess now place t →
     IsLookedAt (look_of minds seed base guess t) now.cells (turn minds seed now place t)
 
--- the same, from no more premises than are needed
+-- the same, from the fewest premises
 abbrev pub TurnsAreLocalAlone : Type 0
 TurnsAreLocalAlone =
     (minds : Minds) (seed : ℕ) (base : World) (guess : ℕ) (now : World) (place t : ℕ) → GoesOn base now t
     → Holds minds base guess now place t →
     IsLookedAt (look_of minds seed base guess t) now.cells (turn minds seed now place t)
 
--- the outcome that a look gives in these cells: its writes are set, and it draws and kills as it did
+-- the outcome of a look in these cells: its writes are set, and it draws and kills as the look says
 abbrev pub outcome_by : LookValue → Cells → Outcome
 outcome_by look cells = record { cells = patched_cells cells look.writes; drew = look.drew; killed = look.killed }
 
--- such a turn is made by setting the writes of the look
+-- the outcome of such a turn is that of setting the writes of the look
 abbrev pub TurnsArePatches : Type 0
 TurnsArePatches =
     (minds : Minds) (seed : ℕ) (base : World) (guess : ℕ) (now : World) (place t : ℕ) → GoesOn base now t
     → Holds minds base guess now place t →
     turn minds seed now place t ≡ outcome_by (look_of minds seed base guess t) now.cells
 
--- a look in hand that holds tells what its turn does
+-- a valid look determines what its turn does
 abbrev pub LooksTell : Type 0
 LooksTell = (minds : Minds) (seed : ℕ) (base : World) (guess : ℕ) (now : World) (place t : ℕ) → GoesOn base now t →
     LookHolds (look_of minds seed base guess t) now.cells place →
     turn minds seed now place t ≡ outcome_by (look_of minds seed base guess t) now.cells
 
--- a turn changes no part but those that it writes, and no ground or hill
+-- a turn changes only the parts that it writes, and no ground or hill
 pub record WritesAlone (minds : Minds) (seed : ℕ) (w : World) (place t : ℕ) : Type 0 where
   pub parts : (p : Pos) (k : Part) → AllByRecursion (λ c. c.at ≡ p → has_part c.parts k ≡ false) (writes minds w t) →
       Alike k ((turn minds seed w place t).cells p) (w.cells p)
@@ -110,13 +110,13 @@ abbrev pub TurnsAreSmall : Type 0
 TurnsAreSmall =
     (minds : Minds) (w : World) (t : ℕ) → Valid w → (length (reads minds w t) ≤ 19) × (length (writes minds w t) ≤ 7)
 
--- a turn draws a random number exactly where its ant is alive, not resting and at a Flip
+-- a turn draws a random number exactly if its ant is alive, doesn't rest and is at a Flip
 abbrev pub TurnsDrawAtFlips : Type 0
 TurnsDrawAtFlips =
     (minds : Minds) (seed : ℕ) (w : World) (place t : ℕ) → (turn minds seed w place t).drew ≡ flips minds w t
 
--- the writes of a look that holds may be set in `now`, first those that don't raise the weight of their cell and then
--- the others, and that makes the turn
+-- the writes of a valid look may be set in `now`, first those that don't raise the weight of their cell and then the
+-- others, and the result is that of the turn
 abbrev pub LooksSettle : Type 0
 LooksSettle = (minds : Minds) (seed : ℕ) (base : World) (guess : ℕ) (now : World) (place t room : ℕ) →
     AreSound minds → IsLater minds base now → Holds minds base guess now place t → 1 ≤ room →

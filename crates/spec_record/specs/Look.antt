@@ -1,4 +1,4 @@
--- A turn worked out on a world: what it read, what it would write (this project's own).
+-- A turn computed on a world: what it read, and what it would write (this project's own).
 use Rattle.std.specs.Prelude.{ℕ, Bool, List}
 use Rattle.cell_world.specs.World.{World}
 use Rattle.ant_turn.specs.Minds.{Minds}
@@ -16,12 +16,12 @@ pub record LookValue : Type 0 where
   pub writes : List Sighting
   pub killed : List ℕ
 
--- what every look keeps: it lists each position that it reads once, and each that it writes
+-- what holds of every look: it lists each position that it reads once, and each that it writes once
 pub record IsListedOnce (seen left : List Sighting) : Type 0 where
   pub reads : EachOnce (seen_positions seen)
   pub writes : EachOnce (seen_positions left)
 
--- the look of an outcome: what is read as it was, what is written as it is then
+-- the look of an outcome: what is read, as it was before; what is written, as it is after
 abbrev pub look_with : ℕ → ℕ → Outcome → List Sighting → List Sighting → LookValue
 look_with t guess outcome seen left = record {
   turn = t;
@@ -32,9 +32,9 @@ look_with t guess outcome seen left = record {
   killed = outcome.killed;
 }
 
--- the look at the turn of id t on a base, its random number guessed at this place: whether it draws and whom it kills,
--- the positions that it reads with their parts and their cells in the base, and the positions that it writes with their
--- parts and their cells after the turn
+-- the look at the turn of id t on a base, with its random number guessed at this place: whether it draws and which ants
+-- it kills, the positions that it reads with their parts and their cells in the base, and the positions that it writes
+-- with their parts and their cells after the turn
 unfoldable pub look_of : Minds → ℕ → World → ℕ → ℕ → LookValue
 look_of minds seed base guess t =
     let outcome = turn minds seed base guess t in

@@ -19,7 +19,7 @@ abbrev pub parts_at : List Claim → Pos → Parts
 parts_at [] p = no_parts
 parts_at (c ∷ claims) p = union (parts_there c p) (parts_at claims p)
 
--- the cell that a write makes of the one at its position: that cell with the named parts of the write's
+-- the cell at a write's position after the write: the old cell with the named parts of the write's
 abbrev pub patched_by_write : Cells → Sighting → Cell
 patched_by_write cells write = patched (cells (seen_place write)) (seen_cell write) (seen_parts write)
 
@@ -45,7 +45,7 @@ pub record CanWrite (w : World) (room : ℕ) (write : Sighting) : Type 0 where
 abbrev pub with_lighter : World → Sighting → World
 with_lighter w write = if raises w.cells write then w else put w (seen_place write) (patched_by_write w.cells write)
 
--- and if it does
+-- the world with a write set, if it raises its cell's weight
 abbrev pub with_heavier : World → Sighting → World
 with_heavier w write = if raises w.cells write then put w (seen_place write) (patched_by_write w.cells write) else w
 
@@ -54,7 +54,7 @@ abbrev pub after_lighter : World → List Sighting → World
 after_lighter w [] = w
 after_lighter w (write ∷ writes) = after_lighter (with_lighter w write) writes
 
--- and with those set that do
+-- the world with those writes set that raise their cell's weight
 abbrev pub after_heavier : World → List Sighting → World
 after_heavier w [] = w
 after_heavier w (write ∷ writes) = after_heavier (with_heavier w write) writes
@@ -65,7 +65,7 @@ CanSetLighter w room [] = ⊤
 CanSetLighter w room (write ∷ writes) =
     (raises w.cells write ≡ false → CanWrite w room write) × CanSetLighter (with_lighter w write) room writes
 
--- and those that do
+-- those writes that raise their cell's weight may be set, one after another
 abbrev pub CanSetHeavier : World → ℕ → List Sighting → Type 0
 CanSetHeavier w room [] = ⊤
 CanSetHeavier w room (write ∷ writes) =

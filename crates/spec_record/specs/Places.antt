@@ -1,4 +1,4 @@
--- Where turns and rounds leave the place in the stream (the task's number generation and kinetics).
+-- The place in the stream after turns and rounds (the task's number generation and kinetics).
 use Rattle.std.specs.Prelude.{◌≡◌, ℕ, zero, suc, ◌+◌}
 use Rattle.cell_world.specs.Cell.{one_if}
 use Rattle.ant_turn.specs.Minds.{Minds}
@@ -18,7 +18,7 @@ flips_in_rounds minds seed m (suc r) =
     let now = after_rounds minds seed m r in
     flips_in_rounds minds seed m r + flips_in_turns minds seed now 0 now.world.ids
 
--- the place is the old one and one more for each Flip that is executed
+-- the place is the old one plus one for each Flip that is executed
 pub record PlacesCountFlips : Type 0 where
   pub turns : (minds : Minds) (seed : ℕ) (m : Moment) (from n : ℕ)
       → (after_turns minds seed m from n).place ≡ m.place + flips_in_turns minds seed m from n

@@ -22,7 +22,7 @@ use Rattle.ant_turn.specs.Sheet.{Sheet}
 use Rattle.ant_turn.specs.Turn.{has_ant, instruction_at, is_blocked, stepped}
 use Rattle.spec_record.specs.Claims.{Claim, claim, merged}
 
--- who is there and what it is about; what the ant carries and what lies there; all of an ant
+-- an ant's identity with its state, rest and direction; its load with the food on its cell; all of an ant
 abbrev pub who_and_mind : Parts
 who_and_mind = with_part (only part.Who) part.Mind
 
@@ -40,7 +40,7 @@ abbrev pub marks_part : Colour → Part
 marks_part Red = part.RedMarks
 marks_part Black = part.BlackMarks
 
--- what a condition asks of the sensed cell, for an ant of this colour
+-- the parts of the sensed cell that a condition tests, for an ant of this colour
 abbrev pub asked : Cond → Colour → Parts
 asked Friend colour = only part.Who
 asked Foe colour = only part.Who
@@ -59,16 +59,16 @@ emptied sheet cells [] = []
 emptied sheet cells (p ∷ places) =
     (if is_surrounded sheet cells p then p ∷ [] else []) ++ emptied sheet (check_at sheet cells p) places
 
--- the neighbours of a cell that holds an ant; of another none
+-- the neighbours of a cell if it holds an ant; otherwise none
 abbrev pub neighbours_if_manned : Cells → Pos → List Pos
 neighbours_if_manned cells p = if has_ant (cells p).ant then neighbours_of p else []
 
--- whose ants decide the checks around q: q, its neighbours, and the neighbours of each of these that holds an ant
+-- the cells whose ants decide the checks around q: q, its neighbours, and the neighbours of each of these that holds an
+-- ant
 abbrev pub seen_around : Cells → Pos → List Pos
 seen_around cells q = places_around q ++ flat_map (neighbours_if_manned cells) (neighbours_of q)
 
--- what the ant of p reads besides when it goes to q: what it carries, whose ants decide the checks, and what the killed
--- leave
+-- what the ant at p also reads when it moves to q: its load, the ants that decide the checks, and what the killed leave
 abbrev pub reads_going : Sheet → Cells → Pos → Ant → Pos → ℕ → List Claim
 reads_going sheet cells p ant q next =
     let after = stepped sheet cells p ant q next in
@@ -76,7 +76,7 @@ reads_going sheet cells p ant q next =
     ∷ map (λ r. claim r (only part.Who)) (seen_around after q)
     ++ map (λ r. claim r load_and_food) (emptied sheet after (places_around q))
 
--- what the ant of p reads besides by its instruction
+-- what the ant at p also reads by its instruction
 abbrev pub reads_besides : Sheet → Cells → Pos → Ant → Instr → List Claim
 reads_besides sheet cells p ant (Sense sight met unmet condition) =
     claim (sensed_pos p ant.facing sight) (asked condition ant.colour) ∷ []
@@ -92,18 +92,18 @@ reads_besides sheet cells p ant (Move met unmet) =
     else reads_going sheet cells p ant ahead met
 reads_besides sheet cells p ant (Flip bound met unmet) = []
 
--- what an ant reads besides its own cell: nothing while it rests
+-- what an ant reads besides its own cell; nothing while it rests
 abbrev pub reads_acting : ℕ → Minds → Cells → Pos → Ant → List Claim
 reads_acting zero minds cells p ant =
     reads_besides minds.sheet cells p ant (instruction_at (mind_of minds ant.colour) ant.state)
 reads_acting (suc left) minds cells p ant = []
 
--- what the ant of p reads, if there is one: who it is and what it is about, and what its turn reads besides
+-- what the ant at p reads, if there is one: its identity, its state, rest and direction, and what its turn also reads
 abbrev pub reads_of : Minds → Cells → Pos → Option Ant → List Claim
 reads_of minds cells p None = []
 reads_of minds cells p (Some ant) = claim p who_and_mind ∷ reads_acting ant.resting minds cells p ant
 
--- of a dead ant nothing
+-- nothing for a dead ant
 abbrev pub reads_from : Minds → Cells → Option Pos → List Claim
 reads_from minds cells None = []
 reads_from minds cells (Some p) = reads_of minds cells p (cells p).ant

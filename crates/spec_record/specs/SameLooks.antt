@@ -1,4 +1,4 @@
--- A look depends on the cells that its turn reads and on one instruction alone (this project's own).
+-- A look depends only on the cells that its turn reads and on one instruction (this project's own).
 use Rattle.std.specs.Prelude.{◌≡◌, ℕ, List, None, Some, map}
 use Rattle.std.specs.List.{AllByRecursion}
 use Rattle.hex_geometry.specs.declared.position.Pos.{Pos}
@@ -11,13 +11,12 @@ use Rattle.spec_record.specs.Claims.{Claim}
 use Rattle.spec_record.specs.Look.{look_of}
 use Rattle.spec_record.specs.Reads.{reads}
 
--- two worlds hold the same, all of it, at the position of each claim
+-- two worlds have the same whole cell at the position of each claim
 abbrev pub SameAt : Cells → Cells → List Claim → Type 0
 SameAt v w claims = AllByRecursion (λ p. v p ≡ w p) (map (λ c. c.at) claims)
 
--- as far as a look at turn t goes, one of these brains on v is the same as one of the others on w: the rules are; who
--- is dead in v is dead in w; the cells that the turn reads in v are the same in w; and an ant that is alive has the
--- same instruction
+-- for a look at turn t, one pair of brains on v is the same as the other pair on w: the rules are the same; an ant dead
+-- in v is dead in w; the cells that the turn reads in v are the same in w; and a living ant has the same instruction
 pub record SameForLook (minds others : Minds) (v w : World) (t : ℕ) : Type 0 where
   pub valid : Valid w
   pub sheet : others.sheet ≡ minds.sheet
@@ -26,8 +25,8 @@ pub record SameForLook (minds others : Minds) (v w : World) (t : ℕ) : Type 0 w
   pub instruction : (p : Pos) (ant : Ant) → place_in v t ≡ Some p → (v.cells p).ant ≡ Some ant
       → instruction_at (mind_of others ant.colour) ant.state ≡ instruction_at (mind_of minds ant.colour) ant.state
 
--- then the looks are the same: what they read and write, whom they kill, and whether they draw. Nothing is asked of the
--- rest of the worlds, of their sizes, or of the other instructions
+-- then the looks are the same: what they read and write, which ants they kill, and whether they draw. The rest of the
+-- worlds, their sizes and the other instructions don't matter
 abbrev pub LooksAgree : Type 0
 LooksAgree =
     (minds others : Minds) (seed : ℕ) (v w : World) (guess t : ℕ) → SameForLook minds others v w t

@@ -1,4 +1,4 @@
--- A world on which a turn is tried out: one that is lent, and cells that are laid over it (this project's own).
+-- A world on which a turn is tried: a borrowed one, with cells that were set over it (this project's own).
 use Rattle.std.specs.Prelude.{ℕ, ◌-◌, List, [], ◌∷◌, length}
 use Rattle.hex_geometry.specs.declared.position.Pos.{Pos}
 use Rattle.cell_world.specs.declared.cell.Cell.{Cell}
@@ -9,17 +9,17 @@ use Rattle.cell_world.specs.World.{Cells, World, put_cell, with_cells}
 abbrev pub Sets : Type 0
 Sets = List (Pos × Cell)
 
--- what a contract sees of a trail: the world that is lent, and what was set since
+-- what a contract sees of a trail: the borrowed world, and what was set since
 pub record TrailValue : Type 0 where
   pub base : Grid
   pub sets : Sets
 
--- the cells, with each of these put in turn
+-- the cells after each of these was set in turn
 unfoldable pub laid : Cells → Sets → Cells
 laid cells [] = cells
 laid cells (new ∷ more) = laid (put_cell cells new.0 new.1) more
 
--- the world for which a trail stands
+-- the world of a trail
 abbrev pub trail_world : TrailValue → World
 trail_world trail = with_cells (world_of trail.base) (laid (world_of trail.base).cells trail.sets)
 

@@ -1,4 +1,4 @@
-// At which random number each turn of a window is guessed to stand.
+// The guess for each turn of a window: the place of its random number.
 ghost use Rattle.std.specs.Prelude.{◌≡◌, ◌+◌, ◌-◌, ◌≤◌, ◌<◌, ◌^◌, ℕ, IfOk, length, nat_eq};
 ghost use Rattle.cell_world.specs.Grid.{world_of};
 ghost use Rattle.brain_read.specs.Soundness.{IsSound};
@@ -11,7 +11,7 @@ use brain_read::Instr;
 use cell_world::{Ant, OutOfMemory, World};
 use std::alloc::Global;
 
-/// Whether the ant of this id is alive, not resting and at a Flip, so that its turn draws a random number.
+/// Whether the ant with this id is alive, doesn't rest and is at a Flip, so that its turn draws a random number.
 ///
 /// Each ant's state is below the length of its colour's brain.
 #[inline]
@@ -29,11 +29,11 @@ pub fn at_flip(base: &World, brains: Brains<'_>, id: u32) -> bool
     acts(&ant) && is_flip(instruction(brains, &ant))
 }
 
-/// The guess of each turn from `from` to `to - 1`, in order: at which random number the turn stands if each turn before
+/// The guess for each turn from `from` to `to - 1`, in order: the place of the turn's random number if each turn before
 /// it draws as it would in the base.
 ///
-/// Each ant's state is below the length of its colour's brain, `from` is at most `to`, `to` at most the number of ids,
-/// and place + to - from is below 2^63. The one refusal is out of memory.
+/// Each ant's state is below the length of its colour's brain, `from` is at most `to`, `to` is at most the number of
+/// ids, and place + to - from is below 2^63. The only error is out of memory.
 pub fn guesses(
     alloc: Global,
     base: &World,
@@ -57,10 +57,10 @@ pub fn guesses(
     Ok(all)
 }
 
-/// The guess of turn `t` alone: at which random number it stands if each turn from `from` on before it draws as it
-/// would in the base. Whoever looks at the turns from `t` on begins there. It takes no memory.
+/// The guess for turn `t`: the place of its random number if each turn from `from` on before it draws as it would in
+/// the base. To look at the turns from `t` on, begin with this guess. It takes no memory.
 ///
-/// Each ant's state is below the length of its colour's brain, `from` is at most `t`, `t` at most the number of ids,
+/// Each ant's state is below the length of its colour's brain, `from` is at most `t`, `t` is at most the number of ids,
 /// and place + t - from is below 2^63.
 pub fn guess_at(base: &World, brains: Brains<'_>, place: u64, from: u32, t: u32) -> u64
     requires fit { Fits (world_of base.now) (minds_of brains) }
@@ -85,7 +85,7 @@ fn acts(ant: &Ant) -> bool
     ant.resting == 0
 }
 
-// The instruction at which an ant is.
+// The instruction of an ant's state.
 #[inline]
 pub(crate) fn instruction(brains: Brains<'_>, ant: &Ant) -> Instr
     requires { ant.now.state < length (mind_of (minds_of brains) ant.now.colour) }

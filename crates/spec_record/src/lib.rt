@@ -1,8 +1,8 @@
-//! Looks: turns worked out ahead, on the world with which a window of turns begins.
+//! Looks: turns computed ahead, on the world at the start of a window of turns.
 //!
-//! A look records what the turn of an ant reads and what it would write, by parts of cells, so that it can be settled
-//! later, on a world that other turns have changed meanwhile: where nothing that it read is different, the turn is what
-//! was looked at. All of this is this project's own, but where an item names a section of the task.
+//! A look records what the turn of an ant reads and what it would write, by parts of cells. So it can be settled later,
+//! on a world that other turns have changed meanwhile: if everything that it read is unchanged, the turn does what the
+//! look says. All of this is this project's own, unless an item names a section of the task.
 #![tactic(auto)]
 
 mod guess;

@@ -1,4 +1,4 @@
-// What a Move that goes reads and writes, as its look finds it.
+// What a Move that succeeds reads and writes, as its look finds it.
 ghost use Rattle.std.specs.Prelude.{◌≡◌, ◌≤◌, ◌<◌, ◌||◌, true, [], ◌∷◌, length};
 ghost use Rattle.hex_geometry.specs.Neighbourhood.{neighbours_of};
 ghost use Rattle.hex_geometry.specs.Position.{HasNeighbours, IsInner, IsInside, same_pos};
@@ -20,15 +20,15 @@ use brain_read::Instr;
 use cell_world::{Cell, Colour, Part, Parts, World};
 use hex_geometry::{Pos, neighbours};
 
-// The step of an ant that goes: from its cell onto the one ahead.
+// The step of an ant: from its cell onto the one ahead.
 #[derive(Clone, Copy)]
 pub(crate) struct Step {
     pub(crate) from: Pos,
     pub(crate) to: Pos,
 }
 
-// Notes that it is read whose ants decide the checks around `q`, when the ant of `p`, which alone is noted, went there.
-// A mark for each cell near `q` tells those that are noted, so that nothing is searched.
+// Notes the reads of those ants that decide the checks around `q`, after the ant at `p`, the only one noted so far,
+// went there. Each cell near `q` has a mark that says whether it was noted, so that nothing is searched.
 #[inline]
 pub(crate) fn note_checks(list: &mut ArrayVec<Sighting, 19>, base: &World, p: Pos, q: Pos)
     requires inner { IsInner base.now.width base.now.height q }
@@ -48,7 +48,7 @@ pub(crate) fn note_checks(list: &mut ArrayVec<Sighting, 19>, base: &World, p: Po
     }
 }
 
-// Where an ant other than that of `p` is on `r`, which is beside `q`, notes that it is read who is on the neighbours.
+// If an ant other than that at `p` is on `r`, which is beside `q`, notes that the ants on the neighbours are read.
 #[inline]
 fn note_beyond(
     list: &mut ArrayVec<Sighting, 19>,
@@ -70,7 +70,7 @@ fn note_beyond(
     }
 }
 
-// Notes that it is read who is on the neighbours of `r`, which is `q` or beside it.
+// Notes that the ants on the neighbours of `r` are read; `r` is `q` or beside it.
 fn note_neighbours(
     list: &mut ArrayVec<Sighting, 19>,
     seen: &mut [bool],
@@ -92,7 +92,7 @@ fn note_neighbours(
     }
 }
 
-// Notes that it is read who is on `r`, which is near `q`.
+// Notes that the ant on `r`, which is near `q`, is read.
 #[inline]
 fn note_who(list: &mut ArrayVec<Sighting, 19>, seen: &mut [bool], base: &World, q: Pos, r: Pos)
     requires near { IsWithin 2 q r }
@@ -119,7 +119,7 @@ fn number_near(q: Pos, r: Pos) -> usize
     (r.y as usize + 2 - q.y as usize) * 5 + (r.x as usize + 2 - q.x as usize)
 }
 
-// Whether no ant of this colour is on the cells that were seen.
+// Whether no ant of this colour is on the cells that were read.
 #[inline]
 pub(crate) fn are_none_of(colour: Colour, list: &[Sighting]) -> bool
     ensures { result ≡ true → AreNoneOf colour list.now }
@@ -132,7 +132,7 @@ pub(crate) fn are_none_of(colour: Colour, list: &[Sighting]) -> bool
     true
 }
 
-// The state of an ant after a Move that goes; of another instruction 0.
+// The state of an ant after a Move that succeeds; 0 for any other instruction.
 #[inline]
 pub(crate) fn state_gone(instruction: Instr) -> u16
     ensures { result ≡ going.state_gone instruction }
@@ -143,7 +143,7 @@ pub(crate) fn state_gone(instruction: Instr) -> u16
     }
 }
 
-// Who is there.
+// Which ant is there.
 #[inline]
 pub(crate) fn who() -> Parts
     ensures { result ≡ only Part.Who }
@@ -151,7 +151,7 @@ pub(crate) fn who() -> Parts
     Parts::none().with(Part::Who)
 }
 
-// Whether an ant other than that of `p` is on `r`.
+// Whether an ant other than that at `p` is on `r`.
 #[inline]
 fn is_manned(base: &World, p: Pos, r: Pos) -> bool
     requires { IsInside base.now.width base.now.height r }
@@ -170,8 +170,8 @@ fn has_ant(cell: &Cell) -> bool
     cell.ant.is_some()
 }
 
-// Notes what is read and written of the killed around the cell to which an ant went, when its turn was executed on the
-// trail.
+// Notes what is read and written of the killed ants around the cell that an ant entered, after its turn was executed on
+// the trail.
 pub(crate) fn note_fallen(
     reads: &mut ArrayVec<Sighting, 19>,
     writes: &mut ArrayVec<Sighting, 7>,
@@ -199,7 +199,7 @@ pub(crate) fn note_fallen(
     }
 }
 
-// The same of one cell.
+// The same for one cell.
 #[inline]
 fn note_if_fallen(
     reads: &mut ArrayVec<Sighting, 19>,
@@ -227,7 +227,7 @@ fn note_if_fallen(
     }
 }
 
-// Whether an ant was on `r` when the step was made, and none is at last.
+// Whether an ant was on `r` when the step was made, and none is there at the end.
 #[inline]
 fn has_fallen(base: &World, trail: &Trail<'_>, step: Step, r: Pos) -> bool
     requires inside { IsInside base.now.width base.now.height r }
@@ -247,7 +247,7 @@ fn was_manned(base: &World, step: Step, r: Pos) -> bool
     is_same(r, step.to) || is_manned(base, step.from, r)
 }
 
-// What an ant carries and what lies there.
+// What an ant carries, and the food on its cell.
 #[inline]
 pub(crate) fn load_and_food() -> Parts
     ensures { result ≡ load_and_food }
@@ -266,7 +266,7 @@ pub(crate) fn whole_ant() -> Parts
         .with(Part::Load)
 }
 
-// All of an ant, and what lies there.
+// All of an ant, and the food on its cell.
 #[inline]
 fn ant_and_food() -> Parts
     ensures { result ≡ ant_and_food }

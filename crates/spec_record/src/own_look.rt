@@ -13,10 +13,10 @@ use ant_random::Stream;
 use ant_turn::Brains;
 use cell_world::World;
 
-/// The look at the turn of the ant of this id in `base`, with its random number guessed at a place of the seed's
+/// The look at the turn of the ant with this id in `base`; its random number is guessed to be at a place of the seed's
 /// stream. It has the positions that the turn reads, each once, with their parts and their cells in `base`; those that
 /// it writes, each once, with their parts and their cells after the turn; whether it draws; and which ants it kills.
-/// The base stays unchanged. It takes no memory.
+/// The base is unchanged. It takes no memory.
 ///
 /// Each ant's state is below the length of its colour's brain, the id is below the number of ids, and the guess is
 /// below 2^63 - 1.
@@ -32,8 +32,8 @@ pub fn look(base: &World, brains: Brains<'_>, seed: u32, guess: u64, id: u32) ->
     look
 }
 
-/// The same look, with its random number guessed at the current place of a stream. The stream advances by one number if
-/// the turn draws one, so that looks at consecutive turns are made at their guesses. It takes no memory.
+/// The same look; its random number is guessed to be at the current place of a stream. The stream advances by one
+/// number if the turn draws one, so that looks at consecutive turns are made at their guesses. It takes no memory.
 ///
 /// Each ant's state is below the length of its colour's brain, the id is below the number of ids, and the stream is
 /// below 2^63 - 1.
@@ -51,8 +51,8 @@ pub fn look_by(base: &World, brains: Brains<'_>, stream: &mut Stream, id: u32) -
 }
 
 /// The same look, put into a list: it replaces the look with this number, or is added after the last one if the list
-/// has room. The other looks stay. It takes no memory: the looks of one window use the rooms of those of an earlier
-/// one.
+/// has room. The other looks are unchanged. It takes no memory: the looks of one window reuse the rooms of those of an
+/// earlier one.
 ///
 /// Each ant's state is below the length of its colour's brain, the id is below the number of ids, and the stream is
 /// below 2^63 - 1.
@@ -73,12 +73,12 @@ pub fn look_into(
     requires next { at ≤ vec_len looks.old }
     requires room { at < vec_capacity looks.old }
 
-    // the look is there, and the others are as they were
+    // the look is there, and the others are unchanged
     ensures made { take (at + 1) looks.new.items ≡ take at looks.old.items ++ look_of (minds_of brains.entry) stream.old.seed
         (world_of base.now) stream.old.place id ∷ [] }
     ensures behind { drop (at + 1) looks.new.items ≡ drop (at + 1) looks.old.items }
 
-    // the stream goes on only where the turn draws; the list keeps its memory
+    // the stream advances only if the turn draws; the list keeps its memory
     ensures stream { stream.new ≡ record stream.old {
       place = stream.old.place + one_if
           (look_of (minds_of brains.entry) stream.old.seed (world_of base.now) stream.old.place id).drew;
@@ -93,8 +93,8 @@ pub fn look_into(
     }
 }
 
-// A stream of the seed on which the turn of this id draws what it draws at the guess. It stands there only where the
-// turn draws, since the way there is long.
+// A stream of the seed from which the turn of this id draws its number at the guess. It is moved to the guess only if
+// the turn draws, since moving it is slow.
 #[inline]
 fn stream_for(base: &World, brains: Brains<'_>, seed: u32, guess: u64, id: u32) -> Stream
     requires fit { Fits (world_of base.now) (minds_of brains) }

@@ -50,7 +50,7 @@ impl Look {
         self.turn
     }
 
-    /// The place of the random number, if the turn draws one, at which the look was made.
+    /// The place at which the look guesses the random number, if the turn draws one.
     #[inline]
     pub fn guess(&self) -> u64
         ensures { result ≡ self.now.guess }

@@ -17,7 +17,8 @@ pub(crate) struct Seen<'c> {
     pub(crate) cell: &'c Cell,
 }
 
-// Notes these parts of the cell at `p`: where the position is in the list the parts go there, else it comes last.
+// Notes these parts of the cell at `p`: they are added to its entry if the position is in the list; otherwise it is
+// added last.
 #[inline]
 pub(crate) fn note<const N: usize>(
     list: &mut ArrayVec<Sighting, N>,
@@ -37,7 +38,7 @@ pub(crate) fn note<const N: usize>(
     }
 }
 
-// Makes a list that of these parts of the cell at `p` alone, in the room that it has.
+// Replaces a list by one with only these parts of the cell at `p`, in the memory that it has.
 #[inline]
 pub(crate) fn note_alone<const N: usize>(
     list: &mut ArrayVec<Sighting, N>,
@@ -56,7 +57,7 @@ pub(crate) fn note_alone<const N: usize>(
     }
 }
 
-// Makes a list that of what was seen first, and then of what was seen second, maybe at the same position.
+// Replaces a list by one of two sightings, which may be at the same position.
 #[inline]
 pub(crate) fn note_two(list: &mut ArrayVec<Sighting, 19>, first: Seen<'_>, second: Seen<'_>)
     ensures { list.new.items ≡ sighting.sighted ((first.entry.at, first.entry.parts, first.entry.cell.now) ∷ []) (second.entry.at, second.entry.parts, second.entry.cell.now) }
@@ -74,7 +75,7 @@ pub(crate) fn note_two(list: &mut ArrayVec<Sighting, 19>, first: Seen<'_>, secon
     }
 }
 
-// At which number a position is in the list, or how long the list is.
+// The number of a position in the list, or the length of the list if it isn't there.
 #[inline]
 fn number_of(list: &[Sighting], p: Pos) -> usize
     ensures { result ≡ sighting.seen_number p list.now }
@@ -103,7 +104,7 @@ pub(crate) fn union(a: Parts, b: Parts) -> Parts
     with_if(all, b, Part::BlackMarks)
 }
 
-// The same set with this part where the other set has it.
+// The same set with this part, if the other set has it.
 #[inline]
 fn with_if(parts: Parts, other: Parts, part: Part) -> Parts
     ensures { result ≡ (if has_part other part then with_part parts part else parts) }
@@ -115,7 +116,7 @@ fn with_if(parts: Parts, other: Parts, part: Part) -> Parts
     }
 }
 
-// Whether two positions are one.
+// Whether two positions are equal.
 #[inline]
 #[tactic(auto, unfolding(hex_geometry::specs::Position::same_pos))]
 pub(crate) fn is_same(p: Pos, q: Pos) -> bool

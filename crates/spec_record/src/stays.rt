@@ -15,7 +15,7 @@ use brain_read::{Cond, Instr};
 use cell_world::{Ant, Colour, Part, Parts, World};
 use hex_geometry::{Dir, Pos, adjacent, sensed};
 
-// Onto which cell the ant of `p` goes by an instruction, if it goes.
+// The cell to which the ant at `p` moves by an instruction, if it moves.
 #[inline]
 pub(crate) fn destination(base: &World, p: Pos, ant: &Ant, instruction: Instr) -> Option<Pos>
     requires inner { IsInner base.now.width base.now.height p }
@@ -28,7 +28,7 @@ pub(crate) fn destination(base: &World, p: Pos, ant: &Ant, instruction: Instr) -
     }
 }
 
-// The cell ahead, where an ant can move onto it.
+// The cell ahead, if an ant can move onto it.
 #[inline]
 fn free_ahead(base: &World, p: Pos, facing: Dir) -> Option<Pos>
     requires inner { IsInner base.now.width base.now.height p }
@@ -40,7 +40,7 @@ fn free_ahead(base: &World, p: Pos, facing: Dir) -> Option<Pos>
     if is_blocked(&cell) { None } else { Some(ahead) }
 }
 
-// Which cell it reads besides who it is and what it is about.
+// Which cell it reads besides its identity and its state, rest and direction.
 #[inline]
 pub(crate) fn read_at(p: Pos, ant: &Ant, instruction: Instr) -> Pos
     requires { HasNeighbours p }
@@ -53,7 +53,7 @@ pub(crate) fn read_at(p: Pos, ant: &Ant, instruction: Instr) -> Pos
     }
 }
 
-// And which parts of that cell.
+// Which parts of that cell it reads.
 #[inline]
 pub(crate) fn read_parts(colour: Colour, instruction: Instr) -> Parts
     ensures { result ≡ standing.read_parts colour instruction }
@@ -67,7 +67,7 @@ pub(crate) fn read_parts(colour: Colour, instruction: Instr) -> Parts
     }
 }
 
-// Which parts of its cell it writes besides what it is about.
+// Which parts of its cell it writes besides its state, rest and direction.
 #[inline]
 pub(crate) fn written_besides(colour: Colour, instruction: Instr) -> Parts
     ensures { result ≡ standing.written_besides colour instruction }
@@ -90,7 +90,7 @@ fn markers(colour: Colour) -> Parts
     }
 }
 
-// What a condition asks of the sensed cell, for an ant of this colour.
+// The parts of the sensed cell that a condition tests, for an ant of this colour.
 #[inline]
 fn asked(cond: Cond, colour: Colour) -> Parts
     ensures { result ≡ asked cond colour }

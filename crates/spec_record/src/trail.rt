@@ -1,4 +1,4 @@
-// A borrowed world, and cells that are laid over it.
+// A borrowed world, with cells that were set over it.
 ghost use Rattle.std.specs.Prelude.{◌≡◌, if◌then◌else◌};
 ghost use Rattle.hex_geometry.specs.Position.{IsInside, same_pos};
 ghost use Rattle.cell_world.specs.Cell.{holds_id};
@@ -12,8 +12,8 @@ use cell_world::{Cell, Ground, World};
 use hex_geometry::Pos;
 use std::marker::Model;
 
-/// A world on which a turn is tried out. It starts as a borrowed world, which stays unchanged, and keeps the cells that
-/// are set, at most 9, in a list.
+/// A world on which a turn is tried. It starts as a borrowed world, which is unchanged, and keeps the cells that are
+/// set, at most 9, in a list.
 #[derive(Drop)]
 pub struct Trail<'w> {
     base: &'w World,
@@ -33,13 +33,13 @@ impl<'w> Model for Trail<'w> {
 }
 
 impl<'w> Trail<'w> {
-    /// The trail that begins as this world, with room for 9 cells. It takes no memory.
+    /// The trail that starts as this world, with room for 9 cells. It takes no memory.
     #[inline]
     pub fn over(base: &'w World) -> Trail<'w>
         ensures world { trail_world result ≡ world_of base.now }
         ensures room { trail_room result ≡ 9 }
     {
-        // that the base keeps what every world keeps is known from any of its readers
+        // reading the base makes its invariant known here
         let _width = base.width();
         Trail {
             base,
@@ -47,7 +47,7 @@ impl<'w> Trail<'w> {
         }
     }
 
-    // The content of the cell at `p`, which is inside.
+    // The cell at `p`, which is inside.
     #[inline]
     pub(crate) fn cell(&self, p: Pos) -> Cell
         requires { IsInside (trail_world self.now).width (trail_world self.now).height p }
@@ -92,7 +92,7 @@ impl<'w> Ground for Trail<'w> {
     }
 }
 
-// Whether the cell holds the ant of this id.
+// Whether the cell holds the ant with this id.
 #[inline]
 fn holds(cell: &Cell, id: u32) -> bool
     ensures { result ≡ holds_id id cell.now }
@@ -103,7 +103,7 @@ fn holds(cell: &Cell, id: u32) -> bool
     }
 }
 
-// The last of these cells that was put at `p`.
+// The last of these cells that was set at `p`.
 #[inline]
 fn newest(sets: &[(Pos, Cell)], p: Pos) -> Option<Cell>
     ensures { result ≡ newest None p sets.now }
@@ -115,7 +115,7 @@ fn newest(sets: &[(Pos, Cell)], p: Pos) -> Option<Cell>
     found
 }
 
-// The cell that was put at `q` where that is `p`, and else what was found before.
+// The cell that was set at `q` if that is `p`, and otherwise what was found before.
 #[inline]
 #[tactic(auto, unfolding(hex_geometry::specs::Position::same_pos))]
 fn newer(found: Option<Cell>, q: Pos, cell: &Cell, p: Pos) -> Option<Cell>
@@ -124,7 +124,7 @@ fn newer(found: Option<Cell>, q: Pos, cell: &Cell, p: Pos) -> Option<Cell>
     if q == p { Some(*cell) } else { found }
 }
 
-// The first of these positions whose last cell holds the ant of this id.
+// The first of these positions whose last cell holds the ant with this id.
 fn set_place(sets: &[(Pos, Cell)], id: u32) -> Option<Pos>
     ensures { result ≡ first_held sets.now id sets.now }
 {
@@ -136,7 +136,7 @@ fn set_place(sets: &[(Pos, Cell)], id: u32) -> Option<Pos>
     None
 }
 
-// Whether the cell that was found, if one was, holds the ant of this id.
+// Whether the cell that was found, if any, holds the ant with this id.
 #[inline]
 fn found_holds(found: Option<Cell>, id: u32) -> bool
     ensures { result ≡ found_holds id found }

@@ -17,7 +17,7 @@ pub record AreTurnsOf (field : FieldValue) (turns : GuessedTurns) : Type 0 where
   pub begins : CanBegin field turns.from turns.to
   pub guesses : turns.guesses.now ≡ guesses_for (window_on field turns)
 
--- these turns can be looked at on a world: they are ids of it, and each has a guess at which a number can be drawn
+-- a look can be made at these turns on a world: they are ids of it, and each has a guess at which a number can be drawn
 pub record CanLookAt (base : Grid) (turns : GuessedTurns) : Type 0 where
   pub forwards : turns.from ≤ turns.to
   pub ids : turns.to ≤ base.ids

@@ -1,4 +1,4 @@
--- What comes of comparing what was read.
+-- The result of comparing what was read.
 use Rattle.std.specs.Prelude.{List, Option, Some, None}
 use Rattle.std.specs.List.{AllByRecursion, Contains}
 use Rattle.hex_geometry.specs.declared.position.Pos.{Pos}
@@ -13,7 +13,7 @@ use Rattle.round_book.specs.Book.{IsChanged}
 abbrev pub IsUnwritten : List Pos → Sighting → Type 0
 IsUnwritten written read = ¬ Contains written (seen_place read)
 
--- a change of what was read, or that all is as it was
+-- a change of what was read, or that all is unchanged
 abbrev pub Changes : List Sighting → Cells → Option Cause → Type 0
 Changes reads cells None =
     AllByRecursion (λ read. Agree (seen_parts read) (seen_cell read) (cells (seen_place read))) reads

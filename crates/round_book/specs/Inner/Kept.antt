@@ -1,4 +1,4 @@
--- What the fields of a field and of a book keep.
+-- What holds of the fields of a field and of a book.
 use Rattle.std.specs.Prelude.{◌≡◌, ℕ, ◌+◌, ◌-◌, ◌*◌, ◌<◌, ◌≤◌, ◌^◌, [], Option}
 use Rattle.std.specs.List.{count_by}
 use Rattle.std.specs.Option.{ForSome}
@@ -9,21 +9,21 @@ use Rattle.round_book.specs.declared.workspace.Workspace.{Workspace}
 use Rattle.round_book.specs.Counts.{is_taken_verdict}
 use Rattle.round_book.specs.Inner.Workspace.{AreMarked, most_listed}
 
--- a workspace that has an equal world, and in which nothing is written yet
+-- a workspace with an equal world, and with nothing written yet
 pub record IsWorkspaceReady (world : Grid) (work : Workspace) : Type 0 where
   pub same : work.world ≡ world
   pub marks : AreMarked world work.marked.items []
   pub none_written : work.written.items ≡ []
   pub no_verdicts : work.verdicts.items ≡ []
 
--- brains that fit the world, and a workspace that is ready, if it is there
+-- brains that fit the world, and a ready workspace, if there is one
 pub record IsFieldKept (world : Grid) (minds : Minds) (workspace : Option Workspace) : Type 0 where
   pub fits : Fits (world_of world) minds
   pub sound : AreSound minds
   pub ready : ForSome workspace (IsWorkspaceReady world)
 
--- a turn of the window or its end, a stream that lasts for the turns that are left, room for what they write and for
--- their verdicts, and the verdicts so far that a look was taken, counted
+-- the next turn is one of the window or its end; the stream is long enough for the turns that are left; there is room
+-- for what they write and for their verdicts; and the looks used so far are counted
 pub record IsWorkspaceKept (from to next place taken : ℕ) (work : Workspace) : Type 0 where
   pub begun : from ≤ next
   pub left : next ≤ to

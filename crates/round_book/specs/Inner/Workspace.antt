@@ -1,4 +1,5 @@
--- What a book works on: a world of its own, which positions were written since it was lent, and what came of its turns.
+-- What a book works on: a world of its own, which positions were written since it was lent, and the verdicts on its
+-- turns.
 use Rattle.std.specs.Prelude.{◌≡◌, ℕ, ◌+◌, ◌*◌, min, Bool, true, false, List, [], ◌∷◌, length, slice_index_or}
 use Rattle.std.specs.List.{Contains}
 use Rattle.hex_geometry.specs.declared.position.Pos.{Pos}
@@ -12,7 +13,7 @@ abbrev pub marks_in : List Bool → ℕ
 marks_in [] = 0
 marks_in (mark ∷ marks) = one_if mark + marks_in marks
 
--- how long a list of written positions may get by so many more: as long as the world has cells at the most
+-- the greatest length of a list of written positions after this many more: at most the number of the world's cells
 abbrev pub most_listed : Grid → ℕ → ℕ → ℕ
 most_listed grid listed more = min (listed + more) (grid.width * grid.height)
 

@@ -1,4 +1,4 @@
--- The way of one window over a board (this project's own).
+-- One window played over a board (this project's own).
 use Rattle.std.specs.Prelude.{◌≡◌, ℕ, ◌+◌, ◌<◌, ◌≤◌, true, false, List, [], map, slice_index_or, All, IfSome, Vec}
 use Rattle.std.specs.List.{AllByRecursion}
 use Rattle.std.specs.Vec.{vec_capacity, vec_len}
@@ -21,14 +21,14 @@ use Rattle.round_workers.specs.BoardWorker.{turns_in}
 use Rattle.round_workers.specs.Crews.{most_workers}
 
 -- a worker is ready to work on a board: its seat is one of the board, and has seen the book opened; it drew no ticket
--- behind the window; and its list has room for all turns
+-- after the window; and its list has room for all turns
 pub record IsHired (board : Board) (worker : Worker) : Type 0 where
   pub seat : IsSeatOf board worker.seat
   pub opened : (known worker.seat).opened ≡ true
   pub early : AllByRecursion (λ ticket. ticket < turns_in (board_window board)) (known worker.seat).drawn
   pub room : turns_in (board_window board) ≤ vec_capacity worker.made
 
--- a worker has worked: its seat is of the board still, with its number
+-- a worker has worked: its seat is still one of the board, with its number
 pub record HasWorked (board : Board) (old new : Worker) : Type 0 where
   pub seat : IsSeatOf board new.seat
   pub number : (known new.seat).number ≡ (known old.seat).number
@@ -37,8 +37,8 @@ pub record HasWorked (board : Board) (old new : Worker) : Type 0 where
 abbrev pub seat_numbers : List Worker → List ℕ
 seat_numbers workers = map (λ worker. (known worker.seat).number) workers
 
--- the first seat has opened the book and doesn't hold it, and every seat that it made is a worker's or went into it,
--- once
+-- the first seat has opened the book and doesn't hold it, and every seat that it made is a worker's or was joined into
+-- it, once
 pub record IsManned (board : Board) (first : Seat) (workers : List Worker) : Type 0 where
   pub seat : IsSeatOf board first
   pub zeroth : (known first).number ≡ 0
@@ -47,7 +47,7 @@ pub record IsManned (board : Board) (first : Seat) (workers : List Worker) : Typ
   pub numbered : (k : ℕ)
       → times k (known first).parts + times k (seat_numbers workers) ≡ once_below k ((known first).made + 1)
 
--- an empty list with room for so many turns
+-- an empty list with room for this many turns
 pub record IsRoom {A : Type 0} (turns : ℕ) (room : Vec ℕ A) : Type 0 where
   pub bare : room.items ≡ []
   pub wide : turns ≤ vec_capacity room
@@ -58,8 +58,8 @@ pub record IsLaid (for_window : Window) (laid : Laid) : Type 0 where
   pub seat : IsSeatOf laid.board laid.first
   pub first : known laid.first ≡ first_seat (basis_of laid.board)
 
--- all else that a window takes memory for, but for its book: its guesses, the lists of the workers, and room for the
--- workers, for their lists and for the rooms of its looks
+-- everything else that a window takes memory for, except its book: its guesses, the lists of the workers, and room for
+-- the workers, for their lists and for the rooms of its looks
 pub record IsCrewStocked (for_window : Window) (stock : CrewStock) : Type 0 where
   pub guesses : stock.guesses.items ≡ guesses_for for_window
   pub lists : All (IsRoom (turns_in for_window)) stock.lists.items

@@ -1,4 +1,4 @@
--- What lies in a slot of a board (this project's own).
+-- What is in a slot of a board (this project's own).
 use Rattle.std.specs.Prelude.{◌≡◌, ℕ, ◌+◌, ◌-◌, ◌<◌, ◌≤◌, ◌^◌, Bool, true, false, List, [], length, replicate, slice_index_or, Option, Some, None}
 use Rattle.std.specs.Vec.{vec_capacity, vec_len}
 use mathlib.Core.Option as maybe
@@ -15,33 +15,33 @@ use Rattle.round_workers.specs.declared.board.view.View.{View}
 use Rattle.round_workers.specs.declared.share.Turns.{Turns}
 use Rattle.round_workers.specs.BoardView.{first_seat, window_for}
 
--- what the room of the book has in it
+-- the content of the book's room
 abbrev pub book_room : BoardSlot → Option (Option BookValue)
 book_room Nothing = None
 book_room (TheBook content) = Some content
 book_room (Spare old) = None
 book_room (OneLook content) = None
 
--- the look in a place, if one is there
+-- the look in a place, if there is one
 abbrev pub look_in : BoardSlot → Option LookValue
 look_in Nothing = None
 look_in (TheBook content) = None
 look_in (Spare old) = None
 look_in (OneLook content) = content
 
--- what the room of a look has in it
+-- the content of a look's room
 abbrev pub look_room : BoardSlot → Option (Option LookValue)
 look_room Nothing = None
 look_room (TheBook content) = None
 look_room (Spare old) = Some old
 look_room (OneLook content) = Some content
 
--- of so many slots the values of the first n are taken out, and the others are there
+-- of this many slots the values of the first n are taken out, and the others are there
 pub record AreTaken (n count : ℕ) (filled : List Bool) : Type 0 where
   pub taken : (k : ℕ) → k < n → slice_index_or filled k false ≡ false
   pub there : (k : ℕ) → n ≤ k → k < count → slice_index_or filled k false ≡ true
 
--- there is room for a board of so many turns
+-- there is room for a board of this many turns
 pub record IsStocked (turns : ℕ) (stock : Stock) : Type 0 where
   pub rooms : vec_len stock.rooms + turns + 1 ≤ vec_capacity stock.rooms
   pub words : stock.words.items ≡ replicate (turns + 2) 0
@@ -56,8 +56,7 @@ pub record AreBare (turns : ℕ) (slots : List BoardSlot) : Type 0 where
   pub book : get_elem? slots 0 ≡ maybe.some (TheBook None)
   pub spares : (j : ℕ) → j < turns → (old : Option LookValue) × (get_elem? slots (j + 1) ≡ maybe.some (Spare old))
 
--- what a table has that is laid for these turns of a field: what it was told, its counts, and the hand of its first
--- seat
+-- a table for these turns of a field: the window that it was given, its counts, and the hand of its first seat
 pub record IsTableFor (field : FieldValue) (turns : Turns) (key : Basis) (table_id : TableId)
     (hand : Hand BoardSlot View) : Type 0 where
   pub window : window_for key ≡ window_of field turns.from turns.to

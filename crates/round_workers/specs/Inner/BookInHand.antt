@@ -9,14 +9,14 @@ use Rattle.round_workers.specs.declared.board.view.View.{View}
 use Rattle.round_workers.specs.BoardSeats.{IsHandOf, board_window}
 use Rattle.round_workers.specs.BoardWorker.{IsSameButTook}
 
--- a seat of a board that is in the midst of no step holds the book, and the field is lent for the board's window
+-- a seat of a board that is between two calls holds the book, and the field is lent for the board's window
 pub record CanSettle (board : Board) (field : FieldValue) (hand : Hand BoardSlot View) : Type 0 where
   pub seated : IsHandOf board hand
   pub rests : hand.me.0.phase ≡ Resting
   pub holds : hand.me.0.holds ≡ true
   pub lent : IsLentFor field (board_window board)
 
--- a seat took looks, some or none, and is in the midst of no step again
+-- a seat took some looks or none, and is between two calls again
 pub record HasSettled (old new : Hand BoardSlot View) : Type 0 where
   pub table : new.table_id ≡ old.table_id
   pub rests : new.me.0.phase ≡ Resting

@@ -24,8 +24,8 @@ all_have_room n pieces = All HasPieceRoom (take n pieces)
 abbrev pub AreLooked : Window → Share → List LookValue → Type 0
 AreLooked window share looks = take (share.to - share.from) looks ≡ looks_for window share.from (share.to - share.from)
 
--- the first turn of a share, in a window of this field that begins at turn `from`, is guessed to stand where the share
--- says
+-- the guess for the first turn of a share, in a window of this field that begins at turn `from`, is the one of the
+-- share
 abbrev pub IsGuessed : FieldValue → ℕ → Share → Type 0
 IsGuessed field from share = share.guess ≡ guess_for (window_of field from share.to) share.from
 

@@ -1,11 +1,11 @@
--- How the turns of a window are shared out among workers, and what each makes of its share (this project's own).
+-- How the turns of a window are shared out among workers, and the looks at each share (this project's own).
 use Rattle.std.specs.Prelude.{ℕ, zero, suc, ◌+◌, ◌-◌, List, [], ◌∷◌, ◌++◌, nat_lt, if◌then◌else◌}
 use Rattle.work_share.specs.Borders.{border}
 use Rattle.round_book.specs.Window.{Window, guess_for, look_for}
 use Rattle.spec_record.specs.Look.{LookValue}
 use Rattle.round_workers.specs.declared.share.Share.{Share}
 
--- of n turns from `from` on worker k has the piece between two borders of the row of turns, where this is the guess of
+-- worker k has, of n turns from `from` on, the piece between two borders of the row of turns, and this is the guess for
 -- its first turn
 abbrev pub share_of : (workers from n k guess : ℕ) → Share
 share_of workers from n k guess = record {

@@ -1,4 +1,4 @@
-// The book of a board: it is opened, taken and given.
+// The book of a board: opening, taking and giving it.
 ghost use Rattle.std.specs.Prelude.{◌≡◌, ◌+◌, ◌≤◌, ◌∷◌, true, false, Some, IfSome, IfNone, IsSomeAnd, OnSome};
 ghost use Rattle.atomic_table.specs.Table.{rest};
 ghost use Rattle.round_book.specs.Book.{IsLentFor, StandsFor};
@@ -72,8 +72,8 @@ impl Board {
         self.end_book(&mut seat.hand, room);
     }
 
-    // Tries once for the book, without waiting, and with it settles for as long as the next turn's look is there. The
-    // book lies in its room meanwhile.
+    // Tries once for the book, without waiting, and with it settles turns until the next turn's look isn't there. The
+    // book stays in its room meanwhile.
     #[inline]
     pub(crate) fn settle_with_book(&self, seat: &mut Seat, field: &Field<'_>)
         requires board { IsSeatOf self.now seat.old }

@@ -1,4 +1,4 @@
-// A crew whose looks are made, and settled, by workers that pass a book.
+// A crew whose workers make the looks, and settle them by passing a book.
 ghost use Rattle.std.specs.Prelude.{◌≡◌, ◌≢◌, ◌+◌, ◌-◌, ◌<◌, ◌≤◌, ◌^◌, ℕ, false, [], ◌∷◌, ◌++◌, All, length, min, slice_index_or, IfOk, OnOk, OnErr};
 ghost use Rattle.std.specs.Vec.{vec_capacity, vec_len};
 ghost use Rattle.round_book.specs.Book.{IsLentFor};
@@ -29,7 +29,7 @@ use std::marker::Model;
 use std::thread;
 use std::thread::Threads;
 
-// How many workers a crew has at most.
+// The most workers in a crew.
 const MOST_WORKERS: usize = 16;
 
 /// A crew of workers that draw the turns of a window, put the looks at them on a board, and pass its book from one to
@@ -65,7 +65,7 @@ impl<'c, R: Threads + Sync, G: Gate> BoardCrew<'c, R, G> {
         }
     }
 
-    /// How many turns the crew has played, from 0; at the last value, 2^64 - 1, it stays.
+    /// How many turns the crew has played, from 0; it stays at the largest `u64`, 2^64 - 1.
     #[inline]
     pub fn turns(&self) -> u64
         ensures { result ≡ self.now.turns }
@@ -73,16 +73,16 @@ impl<'c, R: Threads + Sync, G: Gate> BoardCrew<'c, R, G> {
         self.turns
     }
 
-    /// Plays the turns of the ids from `from` up to, and not including, `to`. The field is whole, `from` is at most
+    /// Plays the turns of the ids from `from` up to, but not including, `to`. The field is whole, `from` is at most
     /// `to`, `to` is at most the number of ids, and the place plus the number of turns is below 2^63. Afterwards the
-    /// field is whole, and its world and place are those to which the turns lead in order. The result counts the looks
-    /// that were used and the turns that were executed again. It fails only if memory runs out, before the field is
-    /// lent; the field and the count of turns are then unchanged.
+    /// field is whole, and its world and place are those after the turns in order. The result counts the looks that
+    /// were used and the turns that were executed again. It fails only if memory runs out, before the field is lent;
+    /// the field and the count of turns are then unchanged.
     ///
     /// The number of workers is the smaller of the crew's and the number of turns. A worker that draws a turn calls the
     /// gate with its number and the id, makes the look, puts it on the board and tries once for the book. With the book
-    /// it settles the next turns as long as their looks are there. No worker waits for another. A single worker needs
-    /// no board: it settles each look as soon as it has made it.
+    /// it settles the next turns until a look isn't there. No worker waits for another. A single worker needs no board:
+    /// it settles each look as soon as it has made it.
     pub fn window(
         &mut self,
         alloc: Global,
@@ -104,20 +104,20 @@ impl<'c, R: Threads + Sync, G: Gate> BoardCrew<'c, R, G> {
     }
 }
 
-// What a crew keeps from one window to the next, so that a window takes memory for its table alone, and where it has
-// more turns than those before. Nothing is known of what lies in it between two windows.
+// What a crew keeps from one window to the next. So a window takes memory only for its table, and if it has more turns
+// than those before. Nothing is known of its content between two windows.
 #[derive(Drop)]
 struct CrewStock {
     board: Stock,
     guesses: Vec<u64>,
-    // The lists of the workers of the window, each of its own, and those that no worker has.
+    // The lists of the workers of the window, one each, and those that no worker has.
     lists: Vec<Vec<u32>>,
     idle: Vec<Vec<u32>>,
     workers: Vec<Worker>,
 }
 
 impl CrewStock {
-    // A stock of nothing.
+    // An empty stock.
     fn new(alloc: Global) -> CrewStock {
         CrewStock {
             board: Stock::new(alloc),
@@ -129,8 +129,8 @@ impl CrewStock {
     }
 }
 
-// Plays a window by the workers of a team, or by one alone where no second worker would have a turn: then there is
-// nobody to pass a book to.
+// Plays a window by the workers of a team; or by one alone if no second worker would have a turn, since then there is
+// no other to pass a book to.
 fn play<R: Threads + Sync, G: Gate>(
     team: &Team<'_, R, G>,
     alloc: Global,
@@ -144,7 +144,7 @@ fn play<R: Threads + Sync, G: Gate>(
     ensures counts { IfOk result (λ counts. counts ≡ counts_of (books.window_of field.old turns.from turns.to)) }
     ensures unchanged { OnErr result (field.new ≡ field.old) }
 {
-    // A window of one worker is not to pay for a stock that it doesn't use.
+    // A window of one worker doesn't take memory for a stock that it doesn't use.
     if team.workers.min(turns.to - turns.from) <= 1 {
         return play_window(team.gate, alloc, field, turns.from, turns.to);
     }
@@ -152,7 +152,7 @@ fn play<R: Threads + Sync, G: Gate>(
     play_on_board(team, alloc, kept, field, turns)
 }
 
-// Plays a window on a board of its own.
+// Plays a window on its own board.
 fn play_on_board<R: Threads + Sync, G: Gate>(
     team: &Team<'_, R, G>,
     alloc: Global,
@@ -180,9 +180,9 @@ struct Laid {
     first: Seat,
 }
 
-// A board of the window and its first seat, and all else that the window takes memory for, but for its book: its
-// guesses, and room for so many workers, for their lists, and for the rooms of all looks in the list of those that are
-// kept.
+// A board of the window and its first seat, and everything else that the window takes memory for, except its book: its
+// guesses, and room for this many workers, for their lists, and for the rooms of all looks in the list of those that
+// are kept.
 fn lay(
     alloc: Global,
     stock: &mut CrewStock,
@@ -203,7 +203,7 @@ fn lay(
     Ok(Laid { board, first })
 }
 
-// Lays out so many empty lists, each with room for so many turns, and has room for as many workers' lists to come back.
+// Prepares this many empty lists, each with room for this many turns, and room to take as many workers' lists back.
 fn lay_lists(
     alloc: Global,
     lists: &mut Vec<Vec<u32>>,
@@ -225,7 +225,7 @@ fn lay_lists(
     Ok(())
 }
 
-// An empty list with room for so many turns: one that no worker has, or a new one.
+// An empty list with room for this many turns: one that no worker has, or a new one.
 fn list(alloc: Global, idle: &mut Vec<Vec<u32>>, turns: usize) -> Result<Vec<u32>, OutOfMemory>
     ensures list { IfOk result (IsRoom turns) }
     ensures fewer { vec_len idle.new ≤ vec_len idle.old }
@@ -240,7 +240,7 @@ fn list(alloc: Global, idle: &mut Vec<Vec<u32>>, turns: usize) -> Result<Vec<u32
     Ok(made)
 }
 
-// Has room for so many workers, of which there is none yet.
+// Reserves room for this many workers, of which there is none yet.
 fn lay_workers(workers: &mut Vec<Worker>, count: usize) -> Result<(), OutOfMemory>
     ensures bare { OnOk result (workers.new.items ≡ []) }
     ensures wide { OnOk result (count ≤ vec_capacity workers.new) }
@@ -276,7 +276,7 @@ fn settle<R: Threads + Sync, G: Gate>(
     settle_left(ended, &mut stock.board, field, &stock.guesses, turns)
 }
 
-// Gives each list to a worker of its own, with a seat of its own.
+// Gives each list to a worker with its own seat.
 fn hire(board: &Board, first: &mut Seat, workers: &mut Vec<Worker>, lists: &mut Vec<Vec<u32>>)
     requires manned { IsManned board.now first.old workers.old.items }
     requires hired { All (IsHired board.now) workers.old.items }
@@ -309,7 +309,7 @@ fn worker(number: u32, seat: Seat, made: Vec<u32>) -> Worker
     Worker { number, seat, made }
 }
 
-// Each worker works, in a thread of its own.
+// Each worker works, in its own thread.
 fn work_all<R: Threads + Sync, G: Gate>(
     team: &Team<'_, R, G>,
     board: &Board,
@@ -371,7 +371,7 @@ fn join(board: &Board, first: &mut Seat, worker: Worker) -> Vec<u32>
     made
 }
 
-// Settles what the workers left, by the looks that they left and, where one isn't there, by a look that is made here.
+// Settles what the workers left, by the looks that they left; if a look is missing, it is made here.
 fn settle_left(
     ended: Ended,
     stock: &mut Stock,

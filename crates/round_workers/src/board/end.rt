@@ -19,12 +19,13 @@ use round_book::Book;
 use spec_record::Look;
 use std::alloc::Global;
 
-/// What a board leaves: its book, the looks that were put and not taken, by ticket, and how many tickets were drawn.
+/// What is left of a board: its book, the looks that were put and not taken, by ticket, and how many tickets were
+/// drawn.
 #[derive(Drop)]
 pub struct Closed {
     /// The book.
     pub book: Book,
-    /// For each turn of the window, in order, its look, if it was put and not taken.
+    /// For each turn of the window, in order, its look if it was put and not taken.
     pub looks: Vec<Option<Look>>,
     /// How many tickets were drawn.
     pub drawn: u32,
@@ -39,17 +40,17 @@ impl Board {
         requires board { IsSeatOf self seat }
         requires first { (known seat).number ≡ 0 }
 
-        // all went into it, so that it knows of each event
+        // all were joined into it, so that it knows each event
         requires whole { (k : ℕ) → k ≤ (known seat).made → 1 ≤ times k (known seat).parts }
         requires opened { (known seat).opened ≡ true }
         requires free { (known seat).holds ≡ false }
 
-        // what the workers did comes to a window, played
+        // the workers together played the window so far
         ensures book { StandsFor (board_window self) result.book }
         ensures drawn { (k : ℕ) → times k (known seat).drawn ≡ once_below k result.drawn }
         ensures reached { Way (board_window self) (IsWhereClosed (board_window self) result.drawn (known seat).put) }
 
-        // the looks that nobody took
+        // the looks that no seat took
         ensures turns { length result.looks.items ≡ (basis_of self).to - (basis_of self).from }
         ensures looks { (k : ℕ) → k < (basis_of self).to - (basis_of self).from
             → slice_index_or result.looks.items k None ≡ left_look (board_window self) (known seat) k }
@@ -69,8 +70,8 @@ impl Board {
     }
 }
 
-// What a board leaves: its book and the room of it, the places of its looks, by ticket, a room for as many looks, and
-// how many tickets were drawn.
+// What is left of a board: its book and the book's room, the places of its looks, by ticket, room for as many looks,
+// and how many tickets were drawn.
 #[derive(Drop)]
 pub(crate) struct Ended {
     pub(crate) book: Book,
@@ -93,7 +94,7 @@ fn looks_out_of(places: Vec<BoardSlot>, mut room: Vec<Option<Look>>) -> Vec<Opti
     room
 }
 
-// Takes what lies in a slot, where those before it are taken.
+// Takes what is in a slot, after the slots before it were taken.
 pub(crate) fn take_slot(closed: &mut atomic_table::Closed<BoardSlot, Global>, i: usize) -> BoardSlot
     requires inside { i < slots_len closed.old.slots }
     requires taken { AreTaken i (slots_len closed.old.slots) (slots_filled closed.old.slots) }

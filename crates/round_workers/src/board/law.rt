@@ -1,4 +1,4 @@
-// The rule of a board, and what its steps tell. These types are for proofs alone.
+// The rule of a board, and what its steps guarantee. These types are only for proofs.
 use crate::board::view::{Basis, BoardSlot, View};
 use atomic_table::{Join, Play, Split, TableRule};
 

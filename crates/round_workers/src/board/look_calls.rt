@@ -1,7 +1,7 @@
-// The looks of a board: they are put and taken.
+// The looks of a board: putting and taking them.
 //
-// Both are a step on the look's word, by which the seat gets the room of the look, and a second one, by which it gives
-// the room back.
+// Each of the two is a step on the look's word, by which the seat gets the room of the look, and a second one, by which
+// it gives the room back.
 ghost use Rattle.std.specs.Prelude.{◌≡◌, ◌+◌, ◌-◌, ◌<◌, ◌≤◌, ◌∷◌, true, false, Some, IfSome, IfNone, OnSome};
 ghost use Rattle.atomic_table.specs.Table.{rest};
 ghost use Rattle.round_book.specs.Book as books;
@@ -59,7 +59,7 @@ impl Board {
         self.end_put(&mut seat.hand, ticket, room);
     }
 
-    // Makes the look of a ticket in the room that it is put in, by a stream that stands at its guess.
+    // Makes the look of a ticket in its room, by a stream at its guess.
     #[inline]
     pub(crate) fn look_and_put(
         &self,
@@ -71,12 +71,12 @@ impl Board {
         requires board { IsSeatOf self.now seat.old }
         requires field { IsLentFor field.now (board_window self.now) }
 
-        // the seat drew the ticket, and put no look of it
+        // the seat drew the ticket, and didn't put its look
         requires ticket { ticket < turns_of (basis_of self.now) }
         requires drew { 1 ≤ times ticket (known seat.old).drawn }
         requires unput { times ticket (known seat.old).put ≡ 0 }
 
-        // the stream stands at the guess of its turn
+        // the stream is at the guess of its turn
         requires seed { stream.old.seed ≡ (board_window self.now).seed }
         requires guess { stream.old.place ≡ guess_for (board_window self.now) ((basis_of self.now).from + ticket) }
 
@@ -122,9 +122,9 @@ impl Board {
     }
 
     /// Tries once to take the look at a turn, without waiting. The seat holds the book, and the turn is one of the
-    /// window. A look that it gets is the one at that turn on the window's base at its guess. It gets none if the look
-    /// wasn't there at that moment, and not otherwise. Either way the seat's tries rise by one, and the outcome of the
-    /// try is recorded.
+    /// window. A look that it gets is the one at that turn on the window's base at its guess. It gets none exactly if
+    /// the look wasn't there at that moment. Either way the seat's tries rise by one, and the outcome of the try is
+    /// recorded.
     pub fn take_look(&self, seat: &mut Seat, turn: u32) -> Option<Look>
         requires board { IsSeatOf self.now seat.old }
         requires holds { (known seat.old).holds ≡ true }
@@ -156,8 +156,7 @@ impl Board {
         look
     }
 
-    // Tries to settle the book's next turn by its look, once, without waiting. The look lies where it was put
-    // meanwhile.
+    // Tries once to settle the book's next turn by its look, without waiting. The look stays in its place meanwhile.
     #[inline]
     pub(crate) fn settle_look(&self, hand: &mut Hand, field: &Field<'_>, book: &mut Book) -> bool
         requires can { CanSettle self.now field.now hand.old }
@@ -198,7 +197,7 @@ impl Board {
         Some(look_room(self.exchange(hand, ticket + FIRST_SLOT, BoardSlot::Nothing)))
     }
 
-    // Gives the room back, in which no look waits any more.
+    // Gives the room back; no look waits in it any more.
     #[inline]
     fn end_take(&self, hand: &mut Hand, ticket: usize, room: Room<Look>)
         requires hand { IsHandOf self.now hand.old }
@@ -213,7 +212,7 @@ impl Board {
     }
 }
 
-// Settles the next turn by the look in a room, which is the one at it.
+// Settles the next turn by the look in a room, which is the one at that turn.
 #[inline]
 fn settle_by(book: &mut Book, field: &Field<'_>, room: &Room<Look>)
     requires stands { StandsOn field.now book.old }

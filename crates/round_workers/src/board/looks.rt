@@ -8,7 +8,7 @@ use ant_random::Stream;
 use round_book::Field;
 use spec_record::{Look, look};
 
-// The look of a ticket of the window of these turns.
+// The look of a ticket in the window of these turns.
 #[inline]
 pub(crate) fn look_at(field: &Field<'_>, guesses: &[u64], turns: Turns, ticket: u32) -> Look
     requires ticket { ticket < turns.to - turns.from }
@@ -26,10 +26,10 @@ pub(crate) fn look_at(field: &Field<'_>, guesses: &[u64], turns: Turns, ticket: 
     )
 }
 
-// How far a stream is walked at most; a longer way is jumped.
+// The most places that a stream is moved by single steps; a longer way is a jump.
 const WALK: u64 = 64;
 
-// Brings a stream to a place.
+// Moves a stream to a place.
 #[inline]
 pub(crate) fn reach(stream: &mut Stream, place: u64)
     requires { place < 2 ^ 63 }

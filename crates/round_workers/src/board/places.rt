@@ -1,4 +1,4 @@
-// What lies in a place.
+// What is in a place.
 ghost use Rattle.std.specs.Prelude.{◌≡◌, ◌≢◌, ◌+◌, ◌≤◌, Some, None, MatchOption};
 ghost use Rattle.std.specs.Vec.{vec_capacity, vec_len};
 ghost use Rattle.round_workers.specs.Inner.BoardPlaces.{book_room, look_in, look_room};
@@ -8,7 +8,7 @@ use crate::board::view::BoardSlot;
 use round_book::Book;
 use spec_record::Look;
 
-// The room of a look that lies in a place.
+// The room of a look that is in a place.
 #[inline]
 pub(crate) fn look_room(place: BoardSlot) -> Room<Look>
     requires { look_room place ≢ None }
@@ -22,7 +22,7 @@ pub(crate) fn look_room(place: BoardSlot) -> Room<Look>
     }
 }
 
-// The room of the book that lies in a place.
+// The room of the book that is in a place.
 #[inline]
 pub(crate) fn book_room(place: BoardSlot) -> Room<Book>
     requires { book_room place ≢ None }
@@ -36,7 +36,7 @@ pub(crate) fn book_room(place: BoardSlot) -> Room<Book>
     }
 }
 
-// The room of a look that lies in a place, if there is one.
+// The room of a look that is in a place, if there is one.
 #[inline]
 fn room_of(place: BoardSlot) -> Option<Room<Look>> {
     match place {
@@ -47,7 +47,7 @@ fn room_of(place: BoardSlot) -> Option<Room<Look>> {
     }
 }
 
-// Takes the rooms of looks out of these places, and keeps them, in the room that their list has.
+// Takes the rooms of looks out of these places, and keeps them, in the memory that their list has.
 pub(crate) fn keep(rooms: &mut Vec<Room<Look>>, places: &mut Vec<BoardSlot>)
     requires { vec_len rooms.old + vec_len places.old ≤ vec_capacity rooms.old }
 {

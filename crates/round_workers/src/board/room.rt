@@ -1,4 +1,4 @@
-// Rooms on the heap, in which the book and the looks of a board lie.
+// Rooms on the heap for the book and the looks of a board.
 ghost use Rattle.std.specs.Prelude.{◌≡◌, ◌+◌, ◌<◌, ◌^◌, IfOk, Some, None};
 ghost use Rattle.cell_world.specs.Grid.{world_of};
 ghost use Rattle.spec_record.specs.Look.{look_of};
@@ -10,7 +10,7 @@ use spec_record::{Look, look_by};
 use std::alloc::Global;
 use std::marker::Model;
 
-/// A room for one value, with the value or without it. It is passed on without a move of the value.
+/// A room for one value, with the value or without it. Passing it on doesn't move the value.
 #[derive(Drop)]
 pub struct Room<T> {
     pub(crate) content: Box<Option<T>>,
@@ -35,7 +35,7 @@ impl<T: Drop> Room<T> {
         Ok(Room { content })
     }
 
-    // Puts a value into the room, in place of what was there.
+    // Puts a value into the room, and drops what was there.
     #[inline]
     pub(crate) fn put(&mut self, value: T)
         ensures { self.new ≡ Some value }
@@ -64,7 +64,8 @@ impl<T> Room<T> {
 }
 
 impl Room<Look> {
-    // Makes the look at a turn of the field's world in the room, its random number guessed at the place of a stream.
+    // Makes the look at a turn of the field's world in the room, with its random number guessed at the place of a
+    // stream.
     #[inline]
     pub(crate) fn look_at(&mut self, field: &Field<'_>, stream: &mut Stream, id: u32)
         requires id { id < field.now.world.ids }

@@ -1,6 +1,6 @@
 // A board and its seats.
 //
-// This module and its `steps` alone see the table of a board.
+// Only this module and its `steps` see the table of a board.
 ghost use Rattle.std.specs.Prelude.{◌≡◌, [], ◌+◌, ◌-◌, ◌<◌, ◌≤◌, ◌^◌};
 ghost use Rattle.std.specs.Vec.{vec_capacity};
 ghost use Rattle.round_workers.specs.BoardView.{IsAtRest};
@@ -17,10 +17,10 @@ pub(crate) use steps::{FULL, HOME};
 // The table of a board.
 type BoardTable = Table<BoardSlot, View, Basis, Law, Global>;
 
-// A seat of the table: what it knows, and the slots that are out with it.
+// A seat of the table: what it knows, and the slots that it has in hand.
 pub(crate) type Hand = atomic_table::Seat<BoardSlot, View>;
 
-/// What a thread steps with on a board, and what it knows.
+/// A thread's access to a board, and what it knows.
 #[derive(Drop)]
 pub struct Seat {
     pub(crate) hand: atomic_table::Seat<BoardSlot, View>,

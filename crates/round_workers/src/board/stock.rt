@@ -1,4 +1,4 @@
-// The memory that boards are made of.
+// The memory from which boards are built.
 ghost use Rattle.std.specs.Prelude.{◌≡◌, ◌+◌, ◌<◌, ◌≤◌, ◌^◌, [], replicate, OnOk};
 ghost use Rattle.std.specs.Vec.{vec_capacity, vec_len};
 ghost use Rattle.round_workers.specs.Inner.BoardPlaces.{IsStocked};
@@ -12,8 +12,8 @@ use spec_record::Look;
 use std::alloc::Global;
 use std::mem;
 
-// What boards are made of, kept from one to the next, so that a board takes memory for its table alone, and where it
-// has more turns than those before. Nothing is known of what lies in it between two boards.
+// What boards are built from, kept from one to the next. So a board takes memory only for its table, and if it has more
+// turns than those before. Nothing is known of its content between two boards.
 #[derive(Drop)]
 pub(crate) struct Stock {
     // The rooms of looks that no board has.
@@ -28,7 +28,7 @@ pub(crate) struct Stock {
 }
 
 impl Stock {
-    // A stock of nothing.
+    // An empty stock.
     pub(crate) fn new(alloc: Global) -> Stock {
         Stock {
             rooms: Vec::new(alloc),
@@ -39,7 +39,7 @@ impl Stock {
         }
     }
 
-    // Has room for a board of so many turns.
+    // Makes room for a board of this many turns.
     pub(crate) fn fill(&mut self, turns: usize) -> Result<(), OutOfMemory>
         requires { turns < 2 ^ 32 }
         ensures { OnOk result (IsStocked turns self.new) }
@@ -61,7 +61,7 @@ impl Stock {
         (places, looks)
     }
 
-    // Takes back what a board was made of, which is in these places.
+    // Takes back what a board was built from, which is in these places.
     pub(crate) fn take_back(
         &mut self,
         home: Room<Book>,
@@ -77,7 +77,7 @@ impl Stock {
     }
 }
 
-// Empties a list, and has room in it for so many.
+// Empties a list, and makes room in it for this many.
 fn bare<T: Drop>(list: &mut Vec<T>, count: usize) -> Result<(), OutOfMemory>
     ensures bare { OnOk result (list.new.items ≡ []) }
     ensures room { OnOk result (count ≤ vec_capacity list.new) }
@@ -87,7 +87,7 @@ fn bare<T: Drop>(list: &mut Vec<T>, count: usize) -> Result<(), OutOfMemory>
     Ok(())
 }
 
-// Fills a list with so many zeros.
+// Fills a list with this many zeros.
 fn zeros(list: &mut Vec<u64>, count: usize) -> Result<(), OutOfMemory>
     ensures { OnOk result (list.new.items ≡ replicate count 0) }
 {

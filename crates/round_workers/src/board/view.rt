@@ -1,4 +1,4 @@
-// What lies in a board's slots, and what a seat of a board knows.
+// What is in a board's slots, and what a seat of a board knows.
 use crate::board::room::Room;
 use ant_turn::Sheet;
 use brain_read::Brain;
@@ -8,10 +8,10 @@ use spec_record::Look;
 use std::collections::LinkedList;
 use std::snapshot::Snapshot;
 
-/// What lies in a slot of a board: the room of the book of the board's window, or the room of the look at one turn.
+/// What is in a slot of a board: the room of the book of the board's window, or the room of the look at one turn.
 #[derive(Drop)]
 pub enum BoardSlot {
-    /// Nothing: a seat has the room in hand.
+    /// Nothing, because a seat has the room in hand.
     Nothing,
     /// The room of the book, with the book or without it.
     TheBook(Room<Book>),
@@ -21,8 +21,8 @@ pub enum BoardSlot {
     OneLook(Room<Look>),
 }
 
-/// The window that a board is for: its brains and the numbers of its rules, its seed, the world and the place with
-/// which it begins, and its turns. Clauses alone see the brains and the world.
+/// The window of a board: its brains and the numbers of its rules, its seed, the world and the place at its start, and
+/// its turns. Only clauses see the brains and the world.
 #[derive(Drop)]
 pub struct Basis {
     /// The brain of the red ants.
@@ -33,9 +33,9 @@ pub struct Basis {
     pub sheet: Sheet,
     /// The seed of the game.
     pub seed: u32,
-    /// The world with which the window begins.
+    /// The world at the start of the window.
     pub world: Snapshot<World>,
-    /// The place in the stream with which the window begins.
+    /// The place in the stream at the start of the window.
     pub place: u64,
     /// The first turn.
     pub from: u32,
@@ -45,7 +45,7 @@ pub struct Basis {
 
 /// The last try of a seat for the book or for a look, and what it found in the word. No value of it is made.
 pub enum Try {
-    /// It tried for nothing yet.
+    /// It has tried nothing yet.
     Never,
     /// It tried for the book, and found this in the book's word.
     OfBook(u64),
@@ -53,7 +53,7 @@ pub enum Try {
     OfLook(u64, u64),
 }
 
-/// Where a seat is: between two calls, or between the two steps of one. No value of it is made.
+/// The state of a seat: between two calls, or between the two steps of one. No value of it is made.
 pub enum Phase {
     /// Between two calls.
     Resting,
@@ -65,15 +65,15 @@ pub enum Phase {
     Taking(u64),
 }
 
-/// What a seat of a board knows. No value of it is made: clauses alone speak of it.
+/// What a seat of a board knows. No value of it is made: only clauses use it.
 pub struct View {
-    /// The window of its board. A seat that went into another knows nothing more.
+    /// The window of its board. A seat that was joined into another knows nothing more.
     pub about: Option<Basis>,
     /// Its number. The first seat has number 0.
     pub number: u64,
     /// How many other seats it made.
     pub made: u64,
-    /// The numbers of the seats that went into it by joins, its own among them.
+    /// The numbers of the seats that were joined into it, and its own.
     pub parts: LinkedList<u64>,
     /// The tickets that it drew. Ticket k is for turn number k of the window, counted from 0.
     pub drawn: LinkedList<u64>,
@@ -89,6 +89,6 @@ pub struct View {
     pub tries: u64,
     /// Its last try.
     pub last: Try,
-    /// Where it is.
+    /// Its state.
     pub phase: Phase,
 }

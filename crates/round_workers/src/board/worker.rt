@@ -1,4 +1,4 @@
-// Workers: who makes the looks of a window.
+// Workers, which make the looks of a window.
 ghost use Rattle.std.specs.Prelude.{◌≡◌, ◌+◌, ◌-◌, ◌<◌, ◌≤◌, ℕ, true, false, length, IsSomeAnd};
 ghost use Rattle.std.specs.List.{AllByRecursion};
 ghost use Rattle.std.specs.Vec.{vec_capacity};
@@ -17,9 +17,9 @@ use ant_base::Gate;
 use ant_random::Stream;
 use round_book::{Book, Field};
 
-/// Who makes looks on a board: its number, its seat, and the turns whose looks it made, in order. Its seat isn't the
-/// first one, doesn't hold the book, and has its own number as its one part; it put the look of each turn of the window
-/// that it drew, and `made` lists these turns.
+/// A worker that makes looks on a board: its number, its seat, and the turns whose looks it made, in order. Its seat
+/// isn't the first one, doesn't hold the book, and has only its own number as a part. It put the look of each turn of
+/// the window that it drew, and `made` lists these turns.
 #[derive(Drop)]
 pub struct Worker {
     /// The number under which it announces its looks.
@@ -32,14 +32,14 @@ pub struct Worker {
 }
 
 impl Worker {
-    /// Draws tickets until one is beyond the window, makes the look of each turn and puts it, and after each tries once
-    /// for the book. With the book it settles the next turns as long as their looks are there.
+    /// Draws tickets until one is after the window, makes the look of each turn and puts it, and after each tries once
+    /// for the book. With the book it settles the next turns until a look isn't there.
     ///
-    /// The seat is one of this board, which was opened, and has drawn no ticket beyond the window yet. The field is
-    /// lent for the board's window, and the guesses are those for it; `made` has room for all of its turns. Afterwards
-    /// the worker's number and its seat's are unchanged, and the board is open to the seat. A ticket beyond the window
-    /// was drawn, each turn that the seat drew was put as often, and each put was followed by a try for the book.
-    /// `made` has the same room. It takes no memory.
+    /// The seat is one of this board, which was opened, and has drawn no ticket after the window yet. The field is lent
+    /// for the board's window, and the guesses are those for it; `made` has room for all of its turns. Afterwards the
+    /// worker's number and its seat's are unchanged, and the board is open to the seat. A ticket after the window was
+    /// drawn, each turn that the seat drew was put as often, and each put was followed by a try for the book. `made`
+    /// has the same room. It takes no memory.
     pub fn work<G: Gate>(&mut self, board: &Board, field: &Field<'_>, guesses: &[u64], gate: &G)
         requires board { IsSeatOf board.now self.old.seat }
         requires opened { (known self.old.seat).opened ≡ true }
@@ -50,7 +50,7 @@ impl Worker {
         requires guesses { guesses.now ≡ guesses_for (board_window board.now) }
         requires room { turns_in (board_window board.now) ≤ vec_capacity self.old.made }
 
-        // it stays the worker that it was
+        // it is still the same worker
         ensures number { self.new.number ≡ self.old.number }
         ensures board { IsSeatOf board.now self.new.seat }
         ensures seat_number { (known self.new.seat).number ≡ (known self.old.seat).number }
@@ -89,7 +89,8 @@ struct Task<'t, 'b, G: Gate> {
     number: u32,
 }
 
-// Draws a ticket and, where it is a turn's, makes the look, puts it and tries for the book. Whether it was a turn's.
+// Draws a ticket. If it is that of a turn, makes the look, puts it and tries for the book. Returns whether it was that
+// of a turn.
 #[inline]
 fn serve<G: Gate>(
     task: &Task<'_, '_, G>,
@@ -130,8 +131,7 @@ fn serve<G: Gate>(
 }
 
 impl Room<Book> {
-    // Settles the next turns of the book in the room for as long as their looks are there. The seat has the room in
-    // hand.
+    // Settles the next turns of the book in the room until a look isn't there. The seat has the room in hand.
     #[inline]
     pub(crate) fn settle(&mut self, board: &Board, hand: &mut Hand, field: &Field<'_>)
         requires can { CanSettle board.now field.now hand.old }
@@ -143,7 +143,7 @@ impl Room<Book> {
     }
 }
 
-// The same of the book, which is there.
+// The same for the book itself.
 #[inline]
 fn settle_in(content: &mut Option<Book>, board: &Board, hand: &mut Hand, field: &Field<'_>)
     requires can { CanSettle board.now field.now hand.old }
@@ -157,7 +157,7 @@ fn settle_in(content: &mut Option<Book>, board: &Board, hand: &mut Hand, field: 
     }
 }
 
-// Settles the next turns of the book for as long as their looks are there.
+// Settles the next turns of the book until a look isn't there.
 #[inline]
 fn settle_looks(board: &Board, hand: &mut Hand, field: &Field<'_>, book: &mut Book)
     requires can { CanSettle board.now field.now hand.old }

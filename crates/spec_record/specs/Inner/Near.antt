@@ -1,4 +1,4 @@
--- The cells near one, each with a mark whether it was noted.
+-- The cells near a cell, each with a mark that says whether it was noted.
 use Rattle.std.specs.Prelude.{◌≡◌, ℕ, ◌+◌, ◌-◌, ◌*◌, ◌≤◌, Bool, false, ◌||◌, List, [], ◌∷◌, length, slice_index_or}
 use Rattle.std.specs.List.{AllByRecursion}
 use Rattle.hex_geometry.specs.declared.position.Pos.{Pos}
@@ -25,12 +25,12 @@ abbrev pub is_seen : Pos → List Sighting → Bool
 is_seen p [] = false
 is_seen p (old ∷ sightings) = same_pos (seen_place old) p || is_seen p sightings
 
--- the marks of the cells near q are those of the positions that were seen, and of each of these it is seen who is there
+-- the marks of the cells near q are those of the positions in the list, and for each of these the ant there is read
 pub record AreSeen (q : Pos) (seen : List Bool) (list : List Sighting) : Type 0 where
   pub sized : length seen ≡ 25
   pub marks : (r : Pos) → IsWithin 2 q r → slice_index_or seen (number_near q r) false ≡ is_seen r list
   pub named : AllByRecursion (λ sighting. union (seen_parts sighting) (only part.Who) ≡ seen_parts sighting) list
 
--- no ant of a colour is on the cells that were seen
+-- no ant of a colour is on the cells in the list
 abbrev pub AreNoneOf : Colour → List Sighting → Type 0
 AreNoneOf colour list = AllByRecursion (λ sighting. is_ant_of colour (seen_cell sighting).ant ≡ false) list

@@ -21,7 +21,7 @@ use Rattle.spec_record.specs.Inner.Sightings.{sighted}
 abbrev pub blank_look : ℕ → ℕ → LookValue
 blank_look t guess = record { turn = t; guess = guess; drew = false; reads = []; writes = []; killed = [] }
 
--- which cell an ant that stays reads besides who it is and what it is about
+-- which cell an ant that stays reads besides its identity and its state, rest and direction
 abbrev pub read_at : Pos → Ant → Instr → Pos
 read_at p ant (Sense sight met unmet condition) = sensed_pos p ant.facing sight
 read_at p ant (Mark i next) = p
@@ -32,7 +32,7 @@ read_at p ant (Turn side next) = p
 read_at p ant (Move met unmet) = adjacent_pos p ant.facing
 read_at p ant (Flip bound met unmet) = p
 
--- and which parts of it
+-- which parts of that cell it reads
 abbrev pub read_parts : Colour → Instr → Parts
 read_parts colour (Sense sight met unmet condition) = asked condition colour
 read_parts colour (Mark i next) = only (marks_part colour)
@@ -43,7 +43,7 @@ read_parts colour (Turn side next) = no_parts
 read_parts colour (Move met unmet) = only part.Who
 read_parts colour (Flip bound met unmet) = no_parts
 
--- which parts of its cell it writes besides what it is about
+-- which parts of its cell it writes besides its state, rest and direction
 abbrev pub written_besides : Colour → Instr → Parts
 written_besides colour (Sense sight met unmet condition) = no_parts
 written_besides colour (Mark i next) = only (marks_part colour)
@@ -54,7 +54,7 @@ written_besides colour (Turn side next) = no_parts
 written_besides colour (Move met unmet) = no_parts
 written_besides colour (Flip bound met unmet) = no_parts
 
--- a look at an ant that rests, and is this one then
+-- a look at an ant that rests and becomes this one
 abbrev pub rested_look : ℕ → ℕ → Pos → Cell → Ant → LookValue
 rested_look t guess p cell ant = record {
   turn = t;
@@ -71,7 +71,7 @@ staying_reads cells p ant instruction =
     let at = read_at p ant instruction in
     sighted ((p, who_and_mind, cells p) ∷ []) (at, read_parts ant.colour instruction, cells at)
 
--- and its writes, where these are the cells then
+-- its writes, if these are the cells after the turn
 abbrev pub staying_writes : Cells → Pos → Ant → Instr → List Sighting
 staying_writes last p ant instruction =
     (p, union (only part.Mind) (written_besides ant.colour instruction), last p) ∷ []

@@ -1,4 +1,4 @@
-// How a look is worked out, in the room of another.
+// How a look is computed, in the room of another.
 ghost use Rattle.std.specs.Prelude.{◌≡◌, ◌+◌, ◌-◌, ◌<◌, ◌≤◌, ◌^◌, ℕ, [], Some, None, length};
 ghost use Rattle.hex_geometry.specs.Position.{HasNeighbours, IsInner, IsInside};
 ghost use Rattle.cell_world.specs.Cell.{one_if};
@@ -54,8 +54,8 @@ impl Look {
         }
     }
 
-    /// Turns this look into the one at the turn of the ant of this id in `base`, with its random number guessed at the
-    /// place of the stream, and forgets the old one. It takes no memory, and uses the room of the old look.
+    /// Replaces this look by the one at the turn of the ant with this id in `base`; its random number is guessed to be
+    /// at the place of the stream. It takes no memory, and uses the room of the old look.
     ///
     /// Each ant's state is below the length of its colour's brain, the id is below the number of ids, and the stream is
     /// below 2^63 - 1. The stream advances by one number if the turn draws one, so that looks at consecutive turns are
@@ -111,7 +111,7 @@ impl Look {
         self.killed.clear();
     }
 
-    // Records the ant of `p`, which rests.
+    // Records the resting ant at `p`.
     #[inline]
     fn record_rest(&mut self, turn: u32, guess: u64, p: Pos, cell: &Cell, ant: Ant)
         requires rests { 1 ≤ ant.resting }
@@ -133,7 +133,7 @@ impl Look {
         note_alone(&mut self.writes, p, mind(), cell_after);
     }
 
-    // Records the ant that acts, which executes its instruction.
+    // Records the acting ant, which executes its instruction.
     #[inline]
     fn act(
         &mut self,
@@ -148,13 +148,13 @@ impl Look {
         requires place { stream.old.place + 1 < 2 ^ 63 }
         requires valid { Valid (world_of base.now) }
 
-        // the actor is the ant of this id, where it stands, and acts
+        // the actor is the ant with this id, at its place, and acts
         requires found { place_in (world_of base.now) id ≡ Some actor.place }
         requires own { actor.cell.now ≡ (world_of base.now).cells actor.place }
         requires holds { ((world_of base.now).cells actor.place).ant ≡ Some actor.ant.now }
         requires ready { actor.ant.now.resting ≡ 0 }
 
-        // what was recorded before counts for nothing
+        // what was recorded before doesn't matter
         ensures look { self.new ≡ look_of (minds_of brains.entry) stream.old.seed (world_of base.now) stream.old.place id }
         ensures stream { stream.new ≡ record stream.old { place = stream.old.place + one_if self.new.drew } }
     {
@@ -168,7 +168,7 @@ impl Look {
         }
     }
 
-    // Records the ant that acts, which stays there, and executes its instruction on its own cell.
+    // Records the acting ant, which stays there and executes its instruction on its own cell.
     #[inline]
     fn stay(
         &mut self,
@@ -181,7 +181,7 @@ impl Look {
         requires place { stream.old.place + 1 < 2 ^ 63 }
         requires valid { Valid (world_of base.now) }
 
-        // its cell is none of the border, so there is a cell on each side to sense
+        // its cell isn't on the rim, so there is a cell on each side to sense
         requires inner { IsInner base.now.width base.now.height actor.place }
         requires near { HasNeighbours actor.place }
         requires own { actor.cell.now ≡ (world_of base.now).cells actor.place }
@@ -191,7 +191,7 @@ impl Look {
         requires stays { destination (world_of base.now).cells actor.place actor.ant.now instruction ≡ None }
         requires reads_once { EachOnce (seen_positions (staying_reads (world_of base.now).cells actor.place actor.ant.now instruction)) }
 
-        // it is the same by any sheet, since nothing dies where no ant moves
+        // it is the same for any sheet, since no ant dies if none moves
         ensures look { (sheet : Sheet) →
             let outcome = turn.execute sheet stream.old.seed (world_of base.now).cells stream.old.place actor.entry.place actor.entry.ant.now instruction in
             self.new ≡ look_with id stream.old.place outcome
@@ -221,8 +221,8 @@ impl Look {
         note_alone(&mut self.writes, actor.place, written, after.cell);
     }
 
-    // Records the ant that makes this step. Few turns go, so it is a call; it reads the cell again, so that the
-    // caller's stays where it is.
+    // Records the ant that makes this step. Few turns move, so this is a call. It reads the cell again, so that the
+    // caller needn't pass its own.
     #[inline(never)]
     fn go(&mut self, base: &World, brains: Brains<'_>, stream: &mut Stream, id: u32, step: Step)
         requires fit { Fits (world_of base.now) (minds_of brains) }
@@ -242,7 +242,7 @@ impl Look {
             self.fight(base, brains, stream, id, step);
             return;
         }
-        // nobody is near whom the ant that goes could help to kill, or who could kill one of its own
+        // no ant is near that the moving ant could help to kill, or that could kill an ant of its own colour
         let state = state_gone(instruction(brains, &ant));
         let resting = brains.sheet.rest();
         let there = base.cell(step.to);
@@ -262,8 +262,8 @@ impl Look {
         ));
     }
 
-    // The same where foes are near, who may be killed or kill, by a trail on which the ant takes its turn; what it
-    // reads but of the killed is recorded. A trail is large: so it is a call.
+    // The same if foes are near, which may be killed or kill: the ant takes its turn on a trail, and what it reads is
+    // recorded, except of the killed. A trail is large, so this is a call.
     #[inline(never)]
     fn fight(&mut self, base: &World, brains: Brains<'_>, stream: &mut Stream, id: u32, step: Step)
         requires fit { Fits (world_of base.now) (minds_of brains) }
@@ -279,7 +279,7 @@ impl Look {
         self.record_fight(base, &trail, step);
     }
 
-    // Executes the turn of this id on a trail, and records whether it draws and whom it kills.
+    // Executes the turn of this id on a trail, and records whether it draws and which ants it kills.
     #[inline]
     fn execute<'w>(
         &mut self,
@@ -308,8 +308,8 @@ impl Look {
         trail
     }
 
-    // Records what the ant that makes this step writes, and reads of the killed, by a trail on which its turn was
-    // executed.
+    // Records what the ant that makes this step writes, and what it reads of the killed, from a trail on which its turn
+    // was executed.
     #[inline]
     fn record_fight(&mut self, base: &World, trail: &Trail<'_>, step: Step)
         requires reads { self.old.reads ≡ calm_reads (world_of base.now).cells step.from step.to }
@@ -322,16 +322,16 @@ impl Look {
         requires wide { (trail_world trail.now).width ≡ base.now.width }
         requires high { (trail_world trail.now).height ≡ base.now.height }
 
-        // all that is noted has room, each position once
+        // there is room for all that is noted, each position once
         requires reads_room { length (going_reads (world_of base.now).cells (trail_world trail.now).cells step.from step.to) ≤ 19 }
         requires reads_once { EachOnce (seen_positions (going_reads (world_of base.now).cells (trail_world trail.now).cells step.from step.to)) }
         requires writes_once { EachOnce (seen_positions (going_writes (world_of base.now).cells (trail_world trail.now).cells step.from step.to)) }
         requires writes_room { length (going_writes (world_of base.now).cells (trail_world trail.now).cells step.from step.to) ≤ 7 }
 
-        // where none is killed, nobody is searched for
+        // if no ant is killed, none is searched for
         requires spared { self.old.killed ≡ [] → fallen (world_of base.now).cells (trail_world trail.now).cells step.from step.to ≡ [] }
 
-        // the turn, its draw and who was killed were recorded before
+        // the turn, its draw and the killed were recorded before
         ensures { self.new ≡ record self.old {
           reads = going_reads (world_of base.now).cells (trail_world trail.now).cells step.from step.to;
           writes = going_writes (world_of base.now).cells (trail_world trail.now).cells step.from step.to;
@@ -347,7 +347,7 @@ impl Look {
     }
 }
 
-// Who is there, and what it is about.
+// Which ant is there, and its state, rest and direction.
 #[inline]
 fn who_and_mind() -> Parts
     ensures { result ≡ who_and_mind }
@@ -355,7 +355,7 @@ fn who_and_mind() -> Parts
     Parts::none().with(Part::Who).with(Part::Mind)
 }
 
-// What an ant is about.
+// An ant's state, rest and direction.
 #[inline]
 fn mind() -> Parts
     ensures { result ≡ only Part.Mind }

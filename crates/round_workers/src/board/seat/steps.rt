@@ -1,7 +1,7 @@
-// The table of a board: it is laid, stepped on, and taken apart.
+// The table of a board: building it, stepping on it, and taking it apart.
 //
-// A step is one of the functions below, each of them one call of `atomic_table` on one word, with these numbers. What
-// is called elsewhere knows of the table what these functions tell.
+// A step is one of the functions below. Each is one call of `atomic_table` on one word, with these numbers. Callers
+// elsewhere know of the table only what the clauses of these functions say.
 ghost use Rattle.std.specs.Prelude.{◌≡◌, ◌≢◌, [], ◌∷◌, ◌+◌, ◌-◌, ◌<◌, ◌≤◌, ◌^◌, ℕ, true, false, length, slice_index_or, Some, None, Option, replicate, IfErr, IfOk, OnOk, IsSomeAnd};
 ghost use Rattle.std.specs.List.{AllByRecursion};
 ghost use Rattle.std.specs.Vec.{vec_capacity, vec_len};
@@ -62,8 +62,8 @@ pub(crate) const FULL: u64 = 2;
 const EMPTIED: u64 = 3;
 
 impl Board {
-    // What `new` does, of a stock, to which is added what is wanted besides. Where it is refused, the stock has the
-    // rooms of looks still; else their list has room for those of the window.
+    // What `new` does, from a stock, which is extended if it is too small. If it fails, the stock still has the rooms
+    // of looks; otherwise their list has room for those of the window.
     pub(crate) fn over(
         alloc: Global,
         field: &Field<'_>,
@@ -96,17 +96,17 @@ impl Board {
         Ok((board, Seat { hand }))
     }
 
-    // What `close` does, where the looks lie in their places still.
+    // What `close` does, with the looks still in their places.
     pub(crate) fn take_apart(self, seat: Seat) -> Ended
         requires board { IsSeatOf self seat }
         requires first { (known seat).number ≡ 0 }
 
-        // all went into it, so that it knows of each event
+        // all were joined into it, so that it knows each event
         requires whole { (k : ℕ) → k ≤ (known seat).made → 1 ≤ times k (known seat).parts }
         requires opened { (known seat).opened ≡ true }
         requires free { (known seat).holds ≡ false }
 
-        // what the workers did comes to a window, played
+        // the workers together played the window so far
         ensures book { StandsFor (board_window self) result.book }
         ensures drawn { (k : ℕ) → times k (known seat).drawn ≡ once_below k result.drawn }
         ensures reached { Way (board_window self) (IsWhereClosed (board_window self) result.drawn (known seat).put) }
@@ -185,7 +185,7 @@ impl Board {
         self.table.shared.join_seat::<Joins>(hand, other);
     }
 
-    // Sees that no ticket was drawn twice.
+    // Notes that no ticket was drawn twice.
     pub(crate) fn see_each_once_step(&self, hand: &mut Hand)
         requires table { hand.old.table_id ≡ self.now.table.shared.table_id }
         ensures table { hand.new.table_id ≡ hand.old.table_id }
@@ -221,7 +221,7 @@ impl Board {
         self.table.shared.swap::<Opened>(hand, BOOK, HOME);
     }
 
-    // Tries for the book, once; what the try found.
+    // Tries once for the book; returns what the try found.
     #[inline]
     pub(crate) fn take_book_step(&self, hand: &mut Hand) -> u64
         requires hand { IsHandOf self.now hand.old }
@@ -278,7 +278,7 @@ impl Board {
             .swap::<HasPut>(hand, ticket + FIRST_LOOK, FULL);
     }
 
-    // Tries for the look of a ticket, once; what the try found.
+    // Tries once for the look of a ticket; returns what the try found.
     #[inline]
     pub(crate) fn take_look_step(&self, hand: &mut Hand, ticket: usize) -> u64
         requires hand { IsHandOf self.now hand.old }
@@ -292,7 +292,7 @@ impl Board {
             .compare_exchange::<TakesLook>(hand, ticket + FIRST_LOOK, FULL, IN_HAND)
     }
 
-    // Ends the taking of a look: its slot goes back, with no look waiting in it.
+    // Ends the taking of a look: its slot goes back, and no look waits in it.
     #[inline]
     pub(crate) fn has_taken_step(&self, hand: &mut Hand, ticket: usize)
         requires hand { IsHandOf self.now hand.old }
@@ -307,7 +307,7 @@ impl Board {
             .swap::<HasTaken>(hand, ticket + FIRST_LOOK, EMPTIED);
     }
 
-    // Lays something into the slot that the seat got last, and gives what lay there. No word is stepped on.
+    // Puts something into the slot that the seat got last, and returns what was there. No word is stepped on.
     #[inline]
     pub(crate) fn exchange(&self, hand: &mut Hand, slot: usize, place: BoardSlot) -> BoardSlot
         requires table { hand.old.table_id ≡ self.now.table.shared.table_id }
@@ -320,8 +320,8 @@ impl Board {
     }
 }
 
-// The table of a board for these turns of a field, with words and rooms that were kept, and what is wanted besides, and
-// the hand of its first seat. When out of memory, the rooms of looks that are there by then are kept.
+// The table of a board for these turns of a field, with words and rooms that were kept and new ones if needed, and the
+// hand of its first seat. If memory runs out, the rooms of looks that exist by then are kept.
 fn lay(
     alloc: Global,
     field: &Field<'_>,
@@ -346,7 +346,7 @@ fn lay(
     }
 }
 
-// The table with these words and slots, and the hand of its first seat; or the slots, when out of memory.
+// The table with these words and slots, and the hand of its first seat; or the slots, if memory runs out.
 fn table_of(
     alloc: Global,
     field: &Field<'_>,
@@ -375,7 +375,7 @@ fn basis(field: &Field<'_>, from: u32, to: u32) -> Basis
 {
     let world = field.world();
     let brains = field.brains();
-    // Called for its clause: the world keeps what every world keeps.
+    // Called for its clause: what holds of every world.
     let _width = world.width();
     Basis {
         red: Snapshot::of(brains.red),
@@ -389,8 +389,8 @@ fn basis(field: &Field<'_>, from: u32, to: u32) -> Basis
     }
 }
 
-// The slots with which a board of so many turns begins, with the rooms that were kept, and such as are wanted besides.
-// When out of memory, those of looks that are there by then are kept.
+// The slots with which a board of this many turns begins, with the rooms that were kept and new ones if needed. If
+// memory runs out, those of looks that exist by then are kept.
 fn bare(
     alloc: Global,
     turns: usize,
