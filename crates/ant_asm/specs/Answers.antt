@@ -1,4 +1,4 @@
--- What the assembling of a text may answer (this project's own).
+-- The results of assembling a text (this project's own).
 use Rattle.std.specs.Prelude.{◌≡◌, ℕ, List, Result, Ok, Err}
 use Rattle.cell_world.specs.declared.ant.Colour.{Colour}
 use Rattle.cell_world.specs.declared.kind.Kind.{Kind}
@@ -24,14 +24,14 @@ pub record IsAssembledText (text : List ℕ) (brain : List Instr) (places : List
   pub is : IsAsmText text main
   pub assembled : IsAssembled main brain places
 
--- the answer is the program assembled, or out of memory
+-- the result is the assembled program, or out of memory
 abbrev pub AnswersProgram : Result code.Assembled AsmFault → Items → Type 0
 AnswersProgram (Ok made) main = IsAssembled main made.brain made.places
 AnswersProgram (Err fault) main = fault ≡ OutOfMemory
 
--- whatever the opening world, the other brain, the numbers of the rules, the seed, the side and the number of rounds:
--- the game with the brain that is answered on that side is the labelled game of the text's program with each address
--- replaced by its number, at an equal place of the stream
+-- for any opening world, other brain, numbers of the rules, seed, side and number of rounds: the game with the returned
+-- brain on that side is the labelled game of the text's program with each address replaced by its number, at the same
+-- place of the stream
 abbrev pub PlaysText : List ℕ → Result code.Assembled AsmFault → Type 0
 PlaysText text (Ok made) =
     (main : Items) → IsAsmText text main

@@ -5,7 +5,7 @@ use Rattle.ant_asm.specs.Program.{Items}
 use Rattle.ant_asm.specs.Places.{Address, placed, places}
 use Rattle.ant_asm.specs.LabelGame.{instruction_by}
 
--- the number of an address in a list: how many others stand before it
+-- the number of an address in a list: how many others precede it
 abbrev pub number_in : List Address → Address → ℕ
 number_in [] address = 0
 number_in (place ∷ others) address = if bytes_eq place address then 0 else suc (number_in others address)
@@ -14,9 +14,9 @@ number_in (place ∷ others) address = if bytes_eq place address then 0 else suc
 pub record IsAssembled (main : Items) (brain : List Instr) (list : List Address) : Type 0 where
   -- the places are the addresses of all its instructions, in order
   pub places : list ≡ places main
-  -- each stands there once
+  -- each occurs once
   pub once : (i j : ℕ) (address : Address) → slice_get list i ≡ Some address → slice_get list j ≡ Some address → i ≡ j
-  -- there are some, and one instruction for each
+  -- there is at least one, and one instruction for each
   pub some : 1 ≤ length list
   pub as_many : length brain ≡ length list
   -- instruction i is the one at place i, with each label replaced by the number of the place to which it leads

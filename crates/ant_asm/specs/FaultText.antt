@@ -1,4 +1,4 @@
--- What the faults of a labelled program say (this project's own).
+-- The texts of the faults of a labelled program (this project's own).
 use Rattle.std.specs.Prelude.{ℕ, List, codes}
 use Rattle.ant_base.specs.FaultText.{line_says, memory_text}
 use Rattle.line_tokens.specs.FaultText.{bad_byte_text, line_fault_text}
@@ -8,7 +8,7 @@ use Rattle.brain_read.specs.declared.fault.BrainFault.TheVariants as brain
 use Rattle.ant_asm.specs.declared.fault.AsmFault.{AsmFault}
 use Rattle.ant_asm.specs.declared.fault.AsmFault.TheVariants.{BadByte, UnknownWord, MissingToken, BadNumber, ExtraToken, BadName, Misplaced, Twice, NoBlock, WrongCount, TooMany, EmptyBlock, Empty, NoLabel, OutOfMemory}
 
--- what a labelled program's fault says
+-- the text of a labelled program's fault
 abbrev pub asm_fault_text : AsmFault → List ℕ
 asm_fault_text (BadByte line) = line_says line bad_byte_text
 asm_fault_text (UnknownWord line) = line_says line (line_fault_text line_fault.UnknownWord)

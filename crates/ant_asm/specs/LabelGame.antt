@@ -1,4 +1,4 @@
--- Games in which the ants of one side have addresses of a labelled program in the place of states (the task's kinetics;
+-- Games in which the ants of one side have addresses of a labelled program instead of states (the task's kinetics;
 -- labels are this project's own).
 use Rattle.std.specs.Prelude.{ℕ, zero, suc, ◌+◌, if◌then◌else◌, ◌||◌, ◌==◌, [], ◌∷◌, Option, Some, None}
 use Rattle.hex_geometry.specs.declared.position.Pos.{Pos}
@@ -32,11 +32,11 @@ instruction_by state (Turn side on) = instr.Turn side (state on)
 instruction_by state (Move met unmet) = instr.Move (state met) (state unmet)
 instruction_by state (Flip bound met unmet) = instr.Flip bound (state met) (state unmet)
 
--- the instruction alone, whose labels are all one state
+-- the bare instruction, whose labels are all one state
 abbrev pub bare_instruction : Action Label → Instr
 bare_instruction action = instruction_by (λ label. 0) action
 
--- the label by which an instruction of the ant of p goes on, on these cells and at this place of a seed's stream
+-- the label to which an instruction of the ant at p leads, on these cells and at this place of a seed's stream
 abbrev pub label_taken : ℕ → Cells → ℕ → Pos → Ant → Action Label → Label
 label_taken seed cells place p ant (Sense sight met unmet condition) =
     if meets (cells (sensed_pos p ant.facing sight)) condition ant.colour then met else unmet
@@ -49,15 +49,15 @@ label_taken seed cells place p ant (Move met unmet) =
     if is_blocked (cells (adjacent_pos p ant.facing)) then unmet else met
 label_taken seed cells place p ant (Flip bound met unmet) = if drawn seed place bound == 0 then met else unmet
 
--- A moment of such a game: a world in which the ants of the side have no states (theirs are 0 throughout), the address
--- of each ant by its id, and how many random numbers were used so far.
+-- A moment of such a game: a world in which the ants of the side have no states (theirs are always 0), the address of
+-- each ant by its id, and how many random numbers were used so far.
 pub record LabelMoment : Type 0 where
   pub world : World
   pub address : ℕ → Address
   pub place : ℕ
 
--- where the ant of p stands in the program after its turn: where it rests, where it stood, and else where the label
--- leads that its instruction takes
+-- the address of the ant at p in the program after its turn: unchanged if it rests, and otherwise the one to which the
+-- label leads that its instruction takes
 abbrev pub address_acted : ℕ → ℕ → Cells → ℕ → Pos → Ant → Placed → Address → Address
 address_acted zero seed cells place p ant at address = at.target (label_taken seed cells place p ant at.action)
 address_acted (suc left) seed cells place p ant at address = address
@@ -68,16 +68,16 @@ address_at side seed cells place p None at address = address
 address_at side seed cells place p (Some ant) at address =
     if same_colour side ant.colour then address_acted ant.resting seed cells place p ant at address else address
 
--- the same of an ant that has a place, or is dead
+-- the same for an ant that has a place, or is dead
 abbrev pub address_from : Colour → ℕ → Cells → ℕ → Option Pos → Placed → Address → Address
 address_from side seed cells place None at address = address
 address_from side seed cells place (Some p) at address = address_at side seed cells place p (cells p).ant at address
 
--- the addresses, with this one of id t
+-- the addresses, with this one for id t
 abbrev pub with_address : (ℕ → Address) → ℕ → Address → ℕ → Address
 with_address addresses t address u = if t == u then address else addresses u
 
--- the turn of an id: that of an ant whose brain is the one instruction at its address
+-- the turn of an id: the turn of an ant whose brain is the one instruction at its address
 unfoldable pub label_outcome : Items → Colour → Minds → ℕ → LabelMoment → ℕ → Outcome
 label_outcome main side minds seed m t =
     turn (with_mind minds side (bare_instruction (placed main (m.address t)).action ∷ [])) seed m.world m.place t

@@ -1,4 +1,4 @@
--- Which label became which state (this project's own).
+-- The state of each label (this project's own).
 use Rattle.std.specs.Prelude.{◌≡◌, ℕ, suc, Bool, true, false, List, [], ◌∷◌, ◌++◌, Option, Some, None, codes, decimal}
 use Rattle.ant_base.specs.Layout.{◌+++◌}
 use Rattle.line_tokens.specs.TokenLines.{TokenLine, lines_with_tokens}
@@ -23,7 +23,7 @@ AreSaid [] (said ∷ others) = ⊥
 AreSaid (line ∷ lines) [] = ⊥
 AreSaid (line ∷ lines) (At number said ∷ others) = (number ≡ line.number) × Says line.tokens said × AreSaid lines others
 
--- The lines of a body by their names, in order: a label; an instruction, with its line; or a use, with its line, the
+-- The lines of a body with their names, in order: a label; an instruction, with its line; or a use, with its line, the
 -- name of its block, and the block's own lines.
 pub data Outline : Type 0 where
   Closed : Outline
@@ -31,12 +31,12 @@ pub data Outline : Type 0 where
   Instructed : (line : ℕ) → (others : Outline) → Outline
   Used : (line : ℕ) → (name : List ℕ) → (block : Outline) → (others : Outline) → Outline
 
--- a use of a block before other lines; never without the block, since a program uses blocks that have ended above
+-- a use of a block before other lines; it never lacks its block, since a program only uses blocks that have ended above
 abbrev pub with_use : ℕ → List ℕ → Option Outline → Outline → Outline
 with_use line name None others = others
 with_use line name (Some block) others = Used line name block others
 
--- the lines of a block up to its end, where these follow the one that begins it, and blocks of these names have ended
+-- the lines of a block up to its end, if these follow the one that begins it, and blocks with these names have ended
 -- above
 abbrev pub block_outline : List NumberedLine → (List ℕ → Option Outline) → Outline
 block_outline [] blocks = Closed
@@ -47,7 +47,7 @@ block_outline (At number (Uses name handed) ∷ lines) blocks =
     with_use number name (blocks name) (block_outline lines blocks)
 block_outline (At number (Instructs action) ∷ lines) blocks = Instructed number (block_outline lines blocks)
 
--- the lines of main, which are those outside blocks; whether the first of these is inside one is told
+-- the lines of main, which are those outside blocks; the argument says whether the first of these is inside one
 abbrev pub main_outline : List NumberedLine → Bool → (List ℕ → Option Outline) → Outline
 main_outline [] inside blocks = Closed
 main_outline (At number (Begins name parameters) ∷ lines) false blocks =
@@ -67,7 +67,7 @@ main_outline (At number (Instructs action) ∷ lines) true blocks = main_outline
 abbrev pub outline_of : List NumberedLine → Outline
 outline_of lines = main_outline lines false (λ name. None)
 
--- the block that the first of some items puts in place, and the labels that are handed to it
+-- the block that the first of some items uses, and the labels given to it
 abbrev pub block_at : Items → Items
 block_at End = End
 block_at (Do action others) = End
@@ -83,20 +83,20 @@ pub record WayStep : Type 0 where
   pub name : List ℕ
   pub line : ℕ
 
--- a label of a body that is put in place: the uses on the way there, its name, and the state to which it leads
+-- a label of a body in use: the uses on the way there, its name, and the state to which it leads
 pub record LabelState : Type 0 where
   pub way : List WayStep
   pub name : List ℕ
   pub state : ℕ
 
--- a body that is put in place, by the states of addresses: its items, its frame, and the uses on the way
+-- a body in use, by the states of addresses: its items, its frame, and the uses on the way
 pub record PutBody : Type 0 where
   pub state : Address → ℕ
   pub items : Items
   pub frame : Frame
   pub way : List WayStep
 
--- the block that its k-th item puts in place, by the use of this name and line
+-- the block that its k-th item uses, if the use has this name and line
 abbrev pub put_inside : PutBody → ℕ → List ℕ → ℕ → PutBody
 put_inside body k name line = record {
   state = body.state;
@@ -105,7 +105,7 @@ put_inside body k name line = record {
   way = body.way ++ (record { name = name; line = line }) ∷ [];
 }
 
--- the labels of a body itself, in the order of its lines, of which these are left; the item that follows is its k-th
+-- the own labels of a body, in the order of its lines, of which these are left; the next item is its k-th
 abbrev pub own_labels : Outline → PutBody → ℕ → List LabelState
 own_labels Closed body k = []
 own_labels (Labelled name others) body k =
@@ -114,8 +114,7 @@ own_labels (Labelled name others) body k =
 own_labels (Instructed line others) body k = own_labels others body (suc k)
 own_labels (Used line name block others) body k = own_labels others body (suc k)
 
--- the labels of the blocks that it puts in place, use by use: of each its own, and then those of the blocks that it
--- puts in place
+-- the labels of the blocks that it uses, use by use: first the block's own, and then those of the blocks that it uses
 abbrev pub inner_labels : Outline → PutBody → ℕ → List LabelState
 inner_labels Closed body k = []
 inner_labels (Labelled name others) body k = inner_labels others body k
@@ -141,7 +140,7 @@ pub record AreLabelsOf (text : List ℕ) (labels : List LabelState) : Type 0 whe
   pub said : AreSaid (lines_with_tokens text) lines
   pub are : labels ≡ labels_of main lines
 
--- how the uses on the way are told
+-- the text of the uses on the way
 abbrev pub way_text : List WayStep → List ℕ
 way_text [] = []
 way_text (step ∷ steps) = (step.name +++ codes "@" +++ decimal step.line +++ codes "/") ++ way_text steps

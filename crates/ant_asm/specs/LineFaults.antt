@@ -13,13 +13,13 @@ use Rattle.ant_asm.specs.Lines.{Keyword, keywords, most_parameters, word_of_keyw
 use Rattle.ant_asm.specs.Lines.Keyword.{BlockWord, EndWord, UseWord}
 use Rattle.ant_asm.specs.Names.{before_colon, label_of, name_if, name_of}
 
--- what is wanted at a place of a line: what an instruction has there, a label, a name, or one of the last two where a
--- token is left
+-- what a position of a line needs: what an instruction has there, a label, a name, or one of the last two if a token is
+-- left
 pub data Position : Type 0 where
   Of : brain.Position → Position
   LabelToken NameToken MayLabel MayName : Position
 
--- a label where an instruction has a state
+-- a label instead of an instruction's state
 abbrev pub labelled_position : brain.Position → Position
 labelled_position StateToken = LabelToken
 labelled_position position = Of position
@@ -30,23 +30,23 @@ positions_of_keyword BlockWord = NameToken ∷ replicate most_parameters MayName
 positions_of_keyword EndWord = []
 positions_of_keyword UseWord = NameToken ∷ replicate most_parameters MayLabel
 
--- the first that there is
+-- the first of the two that exists
 abbrev pub or_else : {A : Type 0} → Option A → Option A → Option A
 or_else (Some x) other = Some x
 or_else None other = other
 
--- no positions follow a name before `:` that is alone in its line
+-- no positions follow a name before `:` that is the only token of its line
 abbrev pub positions_of_mark : List ℕ → List (List ℕ) → Option (List Position)
 positions_of_mark token [] = option_map (λ name. []) (name_if (before_colon token))
 positions_of_mark token (other ∷ tokens) = None
 
--- the positions after the first token of a line, which others follow
+-- the positions after the first token of a line, given the tokens that follow it
 abbrev pub positions_after : List ℕ → List (List ℕ) → Option (List Position)
 positions_after token others =
     or_else (option_map (λ form. map labelled_position (positions_of form)) (named word_of_form forms token))
     (or_else (option_map positions_of_keyword (named word_of_keyword keywords token)) (positions_of_mark token others))
 
--- the positions that the token brings, where its position accepts it
+-- the positions that the token adds, if its position accepts it
 abbrev pub accepted : Position → List ℕ → Option (List Position)
 accepted (Of position) token = option_map (map Of) (brain.accepted position token)
 accepted LabelToken token = option_map nothing_more (label_of token)

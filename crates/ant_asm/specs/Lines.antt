@@ -12,7 +12,7 @@ use Rattle.ant_asm.specs.LabelGame.{instruction_by}
 use Rattle.ant_asm.specs.Names.{Named, is_name}
 use Rattle.ant_asm.specs.Names.Named.{NextWord, Name}
 
--- the first words of the lines that are no instructions
+-- the first words of the lines that aren't instructions
 pub data Keyword : Type 0 where
   BlockWord EndWord UseWord : Keyword
 
@@ -30,8 +30,8 @@ keywords = BlockWord ∷ EndWord ∷ UseWord ∷ []
 abbrev pub most_parameters : ℕ
 most_parameters = 8
 
--- what a line says: it names the item that follows, begins a block with these parameters, ends it, puts a block in
--- place with these labels, or is an instruction
+-- what a line says: it names the next item, begins a block with these parameters, ends it, uses a block with these
+-- labels, or is an instruction
 pub data Line : Type 0 where
   Marks : List ℕ → Line
   Begins : (name : List ℕ) → (parameters : List (List ℕ)) → Line

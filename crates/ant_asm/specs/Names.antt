@@ -12,11 +12,11 @@ pub data Named : Type 0 where
 abbrev pub is_letter : ℕ → Bool
 is_letter byte = (nat_le 65 byte && nat_le byte 90) || (nat_le 97 byte && nat_le byte 122)
 
--- whether a byte may stand in a name: a letter, a digit or `_`
+-- whether a byte may be in a name: a letter, a digit or `_`
 abbrev pub is_name_byte : ℕ → Bool
 is_name_byte byte = (is_letter byte || (nat_le 48 byte && nat_le byte 57)) || (byte == 95)
 
--- whether all bytes may stand in a name
+-- whether all bytes may be in a name
 abbrev pub are_name_bytes : List ℕ → Bool
 are_name_bytes bytes = list_all is_name_byte bytes
 
@@ -29,30 +29,30 @@ begins_with_letter (byte ∷ bytes) = is_letter byte
 unfoldable pub is_next : List ℕ → Bool
 is_next token = str_eq_ignore_ascii_case (codes "next") token
 
--- whether a token is a name: 1 to 32 letters, digits and `_`, of which the first is a letter, and not the word `next`
+-- whether a token is a name: 1 to 32 letters, digits and `_`, the first of which is a letter, and not the word `next`
 unfoldable pub is_name : List ℕ → Bool
 is_name token = (begins_with_letter token && nat_le (length token) 32) && (are_name_bytes token && not (is_next token))
 
--- the name that a token is, if it is one
+-- the name of a token, if it is one
 abbrev pub name_of : List ℕ → Option (List ℕ)
 name_of token = if is_name token then Some token else None
 
--- the label that a token is, if it is one
+-- the label of a token, if it is one
 abbrev pub label_of : List ℕ → Option Named
 label_of token = if is_next token then Some NextWord else (if is_name token then Some (Name token) else None)
 
--- one byte more in front
+-- one more byte in front
 abbrev pub with_first : ℕ → Option (List ℕ) → Option (List ℕ)
 with_first byte None = None
 with_first byte (Some front) = Some (byte ∷ front)
 
--- what stands before the `:` at the end of a token, if one stands there
+-- what precedes the `:` at the end of a token, if there is one
 abbrev pub before_colon : List ℕ → Option (List ℕ)
 before_colon [] = None
 before_colon (byte ∷ []) = if byte == 58 then Some [] else None
 before_colon (byte ∷ other ∷ bytes) = with_first byte (before_colon (other ∷ bytes))
 
--- the name before a `:` that a token ends in, if it is one
+-- the name before a `:` at the end of a token, if it is one
 abbrev pub name_if : Option (List ℕ) → Option (List ℕ)
 name_if None = None
 name_if (Some front) = name_of front

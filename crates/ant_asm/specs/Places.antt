@@ -1,4 +1,4 @@
--- Where the instructions of a labelled program stand, and where their labels lead (this project's own).
+-- The addresses of a labelled program's instructions, and those to which their labels lead (this project's own).
 use Rattle.std.specs.Prelude.{ℕ, suc, List, [], ◌∷◌, ◌++◌, map, Option, Some, None, slice_index_or}
 use Rattle.ant_asm.specs.declared.action.Action.{Action}
 use Rattle.ant_asm.specs.declared.action.Action.TheVariants.{Drop}
@@ -7,44 +7,44 @@ use Rattle.ant_asm.specs.declared.action.Label.TheVariants.{Next, Place, Paramet
 use Rattle.ant_asm.specs.Program.{Items, from_place}
 use Rattle.ant_asm.specs.Program.Items.{End, Do, Use}
 
--- an address: a place in main, then a place in the block of the use there, and so on, to an instruction
+-- an address: a place in main, then a place in the block of the use there, and so on, down to an instruction
 abbrev pub Address : Type 0
 Address = List ℕ
 
--- the addresses of the instructions of some items, in order, where the first item is the k-th of the body that this
--- path leads to
+-- the addresses of the instructions of some items, in order, if the first item is the k-th of the body to which this
+-- path leads
 abbrev pub places_of : Items → Address → ℕ → List Address
 places_of End path k = []
 places_of (Do action others) path k = (path ++ k ∷ []) ∷ places_of others path (suc k)
 places_of (Use handed block others) path k = places_of block (path ++ k ∷ []) 0 ++ places_of others path (suc k)
 
--- the address of the first instruction of some items, the first of which is the k-th of its body; where they have none,
--- the address `after`, of what follows the body
+-- the address of the first instruction of some items, the first of which is the k-th of its body; if they have none,
+-- the address `after` of what follows the body
 abbrev pub first_of : Items → Address → ℕ → Address → Address
 first_of End path k after = after
 first_of (Do action others) path k after = path ++ k ∷ []
 first_of (Use handed block others) path k after = first_of block (path ++ k ∷ []) 0 (first_of others path (suc k) after)
 
--- where a body is put in place: the path of its use, what follows it there, and where the labels lead that are handed
--- for its parameters
+-- where a body is used: the path of its use, what follows the use, and where the labels lead that are given for its
+-- parameters
 pub record Frame : Type 0 where
   pub path : Address
   pub after : Address
   pub given : List Address
 
--- the first instruction from the k-th item of a body on: the item's own, or that of the block which it puts in place;
--- at the body's end that of what follows the body's use
+-- the first instruction from the k-th item of a body on: the item's own, or that of the block which it uses; at the
+-- body's end, what follows the body's use
 abbrev pub first_at : Items → Frame → ℕ → Address
 first_at items frame k = first_of (from_place k items) frame.path k frame.after
 
--- where a label of the k-th item of a body leads: to the next item, to a place of the body, or, as a parameter, where
--- the label leads that is handed for it
+-- where a label of the k-th item of a body leads: to the next item, to a place of the body, or, for a parameter, to
+-- where the label given for it leads
 abbrev pub target : Items → Frame → ℕ → Label → Address
 target items frame k Next = first_at items frame (suc k)
 target items frame k (Place j) = first_at items frame j
 target items frame k (Parameter i) = slice_index_or frame.given i frame.after
 
--- the frame of a block that the k-th item of a body puts in place
+-- the frame of a block that the k-th item of a body uses
 abbrev pub inner : Items → Frame → ℕ → List Label → Frame
 inner items frame k handed = record {
   path = frame.path ++ k ∷ [];
@@ -57,7 +57,8 @@ pub record Placed : Type 0 where
   pub action : Action Label
   pub target : Label → Address
 
--- the instruction to which the rest of an address leads from the k-th item of a body on; the items from it are these
+-- the instruction to which the rest of an address leads from the k-th item of a body on; the items from there on are
+-- these
 abbrev pub placed_from : Address → Items → Frame → ℕ → Items → Option Placed
 placed_from [] items frame k End = None
 placed_from [] items frame k (Do action others) = Some (record { action = action; target = target items frame k })
@@ -84,7 +85,7 @@ placed_at main (k ∷ address) = placed_from address main (main_frame main) k (f
 abbrev pub places : Items → List Address
 places main = places_of main [] 0
 
--- an instruction at an address; where an address leads to none, one that drops food and goes on at main's beginning
+-- an instruction at an address; for an address that leads to none, one that drops food and goes to main's beginning
 abbrev pub placed_or_first : Items → Option Placed → Placed
 placed_or_first main (Some placed) = placed
 placed_or_first main None = record { action = Drop Next; target = λ label. beginning main }

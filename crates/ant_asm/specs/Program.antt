@@ -1,10 +1,10 @@
--- Labelled programs: bodies of items, labels, and the blocks that uses put in place (this project's own).
+-- Labelled programs: bodies of items, labels, and the blocks that are used (this project's own).
 use Rattle.std.specs.Prelude.{ℕ, zero, suc, ◌+◌, List}
 use Rattle.ant_asm.specs.declared.action.Action.{Action}
 use Rattle.ant_asm.specs.declared.action.Label.{Label}
 
--- The items of a body, in order: main's, or a block's. A use holds the labels that are handed for the block's
--- parameters, and the items of the block that it puts in place.
+-- The items of a body, in order: main's, or a block's. A use has the labels that are given for the block's parameters,
+-- and the items of the block.
 pub data Items : Type 0 where
   End : Items
   Do : Action Label → Items → Items

@@ -1,4 +1,4 @@
--- What stands above a line of a labelled program, and what the line adds (this project's own).
+-- The state above a line of a labelled program, and what the line adds (this project's own).
 use Rattle.std.specs.Prelude.{ℕ, suc, ◌+◌, Bool, false, not, ◌||◌, nat_lt, nat_le, ◌==◌, List, [], ◌∷◌, ◌++◌, length, map, min, Option, Some, None, is_none, is_some, unwrap_or, if◌then◌else◌, bytes_eq}
 use Rattle.std.specs.List.{list_any}
 use Rattle.ant_base.specs.Names.{has_name}
@@ -20,7 +20,7 @@ use Rattle.ant_asm.specs.Lines.Line.{Marks, Begins, Ends, Uses, Instructs}
 abbrev pub most_blocks : ℕ
 most_blocks = 256
 
--- an item as it was read, by names: an instruction, or a use with the items of its block
+-- an item as it was read, with names: an instruction, or a use with the items of its block
 pub data Item : Type 0 where
   Instruction : Action Named → Item
   Call : (handed : List Named) → (block : Items) → Item
@@ -30,8 +30,8 @@ pub record ItemLine : Type 0 where
   pub line : ℕ
   pub item : Item
 
--- A body of which more lines may follow: how many parameters it has, what each name stands for in it, its items, and
--- how many instructions they expand to.
+-- A body that may get more lines: how many parameters it has, the meaning of each of its names, its items, and how many
+-- instructions they expand to.
 pub record Draft : Type 0 where
   pub parameters : ℕ
   pub meaning : List ℕ → Option Label
@@ -43,15 +43,14 @@ pub record Block : Type 0 where
   pub parameters : ℕ
   pub items : Items
 
--- a block that was begun on this line and has not ended
+-- a block that begins on this line and has not ended
 pub record Begun : Type 0 where
   pub name : List ℕ
   pub line : ℕ
   pub draft : Draft
 
--- What stands above a line: main as far as it goes, how many blocks have ended, which block each name is that of, the
--- block that has begun and not ended, and the first line of an ended block that names a label which its body doesn't
--- have.
+-- The state above a line: main so far, how many blocks have ended, the block of each name, the block that has begun and
+-- not ended, and the first line of an ended block that names a label which its body doesn't have.
 pub record Standing : Type 0 where
   pub main : Draft
   pub count : ℕ
@@ -59,11 +58,11 @@ pub record Standing : Type 0 where
   pub begun : Option Begun
   pub unknown : Option ℕ
 
--- what each name stands for, with one name more
+-- the meaning of each name, with one name more
 abbrev pub with_name : {A : Type 0} → List ℕ → A → (List ℕ → Option A) → List ℕ → Option A
 with_name name thing meaning other = if bytes_eq name other then Some thing else meaning other
 
--- what each name stands for among parameters, of which the first has this number
+-- the meaning of each name among parameters, if the first has this number
 abbrev pub parameter_names : ℕ → List (List ℕ) → List ℕ → Option Label
 parameter_names i [] = λ name. None
 parameter_names i (parameter ∷ parameters) = with_name parameter (Parameter i) (parameter_names (suc i) parameters)
@@ -81,12 +80,12 @@ new_draft parameters = record {
 abbrev pub nothing_yet : Standing
 nothing_yet = record { main = new_draft []; count = 0; blocks = λ name. None; begun = None; unknown = None }
 
--- what a label stands for, if its body has it
+-- the meaning of a label, if its body has it
 abbrev pub way_of : (List ℕ → Option Label) → Named → Option Label
 way_of meaning NextWord = Some Next
 way_of meaning (Name name) = meaning name
 
--- what a label stands for, where its body has it
+-- the meaning of a label; the next item if its body doesn't have it
 abbrev pub way_or_next : (List ℕ → Option Label) → Named → Label
 way_or_next meaning label = unwrap_or (way_of meaning label) Next
 
@@ -117,16 +116,16 @@ abbrev pub labels_in : Item → List Named
 labels_in (Instruction action) = labels_of action
 labels_in (Call handed block) = handed
 
--- whether one of the labels stands for nothing
+-- whether one of the labels has no meaning
 abbrev pub has_unknown : (List ℕ → Option Label) → List Named → Bool
 has_unknown meaning labels = list_any (λ label. is_none (way_of meaning label)) labels
 
--- an item before others, with what its labels stand for
+-- an item before others, with the meanings of its labels
 abbrev pub with_item : (Named → Label) → Item → Items → Items
 with_item way (Instruction action) others = Do (mapped way action) others
 with_item way (Call handed block) others = Use (map way handed) block others
 
--- the items of a body, with what their labels stand for
+-- the items of a body, with the meanings of their labels
 abbrev pub items_by : (Named → Label) → List ItemLine → Items
 items_by way [] = End
 items_by way (read ∷ others) = with_item way read.item (items_by way others)
@@ -143,7 +142,7 @@ unknown_in meaning (read ∷ others) =
 abbrev pub unknown_of : Draft → Option ℕ
 unknown_of draft = unknown_in draft.meaning draft.items
 
--- the earlier of two lines that there may be
+-- the earlier of two lines, each of which may be missing
 abbrev pub earlier : Option ℕ → Option ℕ → Option ℕ
 earlier None other = other
 earlier (Some line) None = Some line
@@ -159,7 +158,7 @@ abbrev pub has_twice : List (List ℕ) → Bool
 has_twice [] = false
 has_twice (name ∷ names) = has_name names name || has_twice names
 
--- the body to which a line adds: the block that has begun, or main
+-- the body to which a line is added: the block that has begun, or main
 abbrev pub current_of : Option Begun → Draft → Draft
 current_of None main = main
 current_of (Some begun) main = begun.draft
@@ -167,7 +166,7 @@ current_of (Some begun) main = begun.draft
 abbrev pub current : Standing → Draft
 current standing = current_of standing.begun standing.main
 
--- the standing with another such body
+-- the state with this body instead
 abbrev pub with_current_of : Option Begun → Standing → Draft → Standing
 with_current_of None standing draft = record standing { main = draft }
 with_current_of (Some begun) standing draft = record standing { begun = Some (record begun { draft = draft }) }
@@ -175,16 +174,16 @@ with_current_of (Some begun) standing draft = record standing { begun = Some (re
 abbrev pub with_current : Standing → Draft → Standing
 with_current standing draft = with_current_of standing.begun standing draft
 
--- an item more is too many
+-- the fault if one more item is too many
 abbrev pub size_fault : ℕ → ℕ → ℕ → Option AsmFault
 size_fault size more line = if nat_lt most_states (size + more) then Some (TooMany line) else None
 
--- the fault of a name that stands for something, or nothing
+-- the fault of a name that has a meaning already, or none
 abbrev pub mark_fault : Option Label → ℕ → Option AsmFault
 mark_fault None line = None
 mark_fault (Some label) line = Some (Twice line)
 
--- the fault of a use of a block that has ended, or hasn't
+-- the fault of a use of a block that has ended or hasn't
 abbrev pub use_fault : ℕ → Option Block → List Named → ℕ → Option AsmFault
 use_fault size None handed line = Some (NoBlock line)
 use_fault size (Some block) handed line =
@@ -192,7 +191,7 @@ use_fault size (Some block) handed line =
     then Some (WrongCount line)
     else size_fault size (size_of block.items) line
 
--- the fault of a line that begins a block, where the name is free or taken
+-- the fault of a line that begins a block whose name is free or taken
 abbrev pub begin_fault : Option Begun → Option Block → ℕ → List (List ℕ) → ℕ → Option AsmFault
 begin_fault (Some begun) taken count parameters line = Some (Misplaced line)
 begin_fault None taken count parameters line =
@@ -200,12 +199,12 @@ begin_fault None taken count parameters line =
     then Some (Twice line)
     else (if nat_le most_blocks count then Some (TooMany line) else None)
 
--- the fault of a line that ends one
+-- the fault of a line that ends a block
 abbrev pub end_fault : Option Begun → ℕ → Option AsmFault
 end_fault None line = Some (Misplaced line)
 end_fault (Some begun) line = if length begun.draft.items == 0 then Some (EmptyBlock line) else None
 
--- the fault of a line that is spelled well, below what stands above it
+-- the fault of a line that is spelled correctly, in the state above it
 abbrev pub place_fault : Standing → ℕ → Line → Option AsmFault
 place_fault standing line (Marks name) = mark_fault ((current standing).meaning name) line
 place_fault standing line (Begins name parameters) =
@@ -214,7 +213,7 @@ place_fault standing line Ends = end_fault standing.begun line
 place_fault standing line (Uses name handed) = use_fault (current standing).size (standing.blocks name) handed line
 place_fault standing line (Instructs action) = size_fault (current standing).size 1 line
 
--- a body with one name more, of the item that follows
+-- a body with one more name, for the next item
 abbrev pub with_mark : Draft → List ℕ → Draft
 with_mark draft name = record draft { meaning = with_name name (Place (length draft.items)) draft.meaning }
 
@@ -225,7 +224,7 @@ with_line draft line item = record draft {
   size = draft.size + item_size item;
 }
 
--- the block that a body is
+-- the block of a body
 abbrev pub block_of : Draft → Block
 block_of draft = record { parameters = draft.parameters; items = items_of draft }
 
@@ -239,13 +238,13 @@ ended (Some begun) standing = record standing {
   unknown = earlier standing.unknown (unknown_of begun.draft);
 }
 
--- a block is put in place
+-- a block is used
 abbrev pub used : Option Block → Standing → ℕ → List Named → Standing
 used None standing line handed = standing
 used (Some block) standing line handed =
     with_current standing (with_line (current standing) line (Call handed block.items))
 
--- what stands below a line without a fault
+-- the state below a line without a fault
 abbrev pub below : Standing → ℕ → Line → Standing
 below standing line (Marks name) = with_current standing (with_mark (current standing) name)
 below standing line (Begins name parameters) =

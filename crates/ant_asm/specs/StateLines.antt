@@ -1,4 +1,4 @@
--- In which line of its text the instruction of each state stands (this project's own).
+-- The line of the text that has the instruction of each state (this project's own).
 use Rattle.std.specs.Prelude.{◌≡◌, ℕ, zero, suc, List, [], ◌∷◌, ◌++◌, length, slice_get, Option, Some, codes, decimal}
 use Rattle.std.specs.List.{AllByRecursion}
 use Rattle.ant_base.specs.Layout.{◌+++◌}
@@ -19,7 +19,7 @@ use Rattle.ant_asm.specs.Labels.Outline.{Closed, Labelled, Instructed, Used}
 use Rattle.ant_asm.specs.Text.{IsAsmText}
 use Rattle.ant_asm.specs.Answers.{IsAssembledText}
 
--- where the instruction of a state stands: its line, and the uses on the way to its body
+-- the line of a state's instruction, and the uses on the way to its body
 pub record StateLine : Type 0 where
   pub state : ℕ
   pub line : ℕ
@@ -34,31 +34,31 @@ from_item zero (Used line name block others) = Used line name block others
 from_item (suc k) (Instructed line others) = from_item k others
 from_item (suc k) (Used line name block others) = from_item k others
 
--- Where the instruction stands to which the rest of an address leads, by the lines of a body from the item on to which
--- the address has led, and the uses on the way. An item's next place is one in the block that it puts in place. No
--- instruction is on line 0, since lines are counted from 1.
+-- The line of the instruction to which the rest of an address leads, and the uses on the way, given the lines of a body
+-- from the item on to which the address has led. An item's next place is one in the block that it uses. No instruction
+-- is on line 0, since lines are counted from 1.
 abbrev pub line_from : ℕ → Address → Outline → List WayStep → StateLine
 line_from state [] (Instructed line others) way = record { state = state; line = line; way = way }
 line_from state (k ∷ address) (Used line name block others) way =
     line_from state address (from_item k block) (way ++ (record { name = name; line = line }) ∷ [])
 line_from state address others way = record { state = state; line = 0; way = way }
 
--- where the instruction of a state stands, by its address and main's lines
+-- the line of a state's instruction, by its address and main's lines
 abbrev pub line_at : Outline → ℕ → Address → StateLine
 line_at main state [] = record { state = state; line = 0; way = [] }
 line_at main state (k ∷ address) = line_from state address (from_item k main) []
 
--- where those of these addresses stand, the first of which is that of this state
+-- the lines of the instructions at these addresses, the first of which is that of this state
 abbrev pub lines_at : Outline → ℕ → List Address → List StateLine
 lines_at main state [] = []
 lines_at main state (address ∷ addresses) = line_at main state address ∷ lines_at main (suc state) addresses
 
--- where the instructions of a program stand whose lines say this: a brain's state is the number of its instruction's
+-- the lines of the instructions of a program whose lines say this: a brain's state is the number of its instruction's
 -- address among all, in order
 abbrev pub state_lines_of : Items → List NumberedLine → List StateLine
 state_lines_of main lines = lines_at (outline_of lines) 0 (places main)
 
--- so stand those of the text's program
+-- these are the lines of the text's program
 pub record AreStateLinesOf (text : List ℕ) (list : List StateLine) : Type 0 where
   pub main : Items
   pub is : IsAsmText text main
@@ -66,7 +66,7 @@ pub record AreStateLinesOf (text : List ℕ) (list : List StateLine) : Type 0 wh
   pub said : AreSaid (lines_with_tokens text) lines
   pub are : list ≡ state_lines_of main lines
 
--- the uses on the way: this stands before the first, and `/` before every other
+-- the uses on the way: this precedes the first, and `/` every other
 abbrev pub uses_text : List ℕ → List WayStep → List ℕ
 uses_text before [] = []
 uses_text before (step ∷ steps) =
@@ -81,8 +81,8 @@ abbrev pub state_lines_text : List StateLine → List ℕ
 state_lines_text [] = []
 state_lines_text (it ∷ others) = state_line_text it ++ state_lines_text others
 
--- The line of this number in the text says the instruction of the i-th of these addresses. Each label of the line
--- stands for a label of its body, and the instruction has the number of the place to which that one leads.
+-- The line with this number in the text has the instruction of the i-th of these addresses. Each label of the line
+-- means a label of its body, and the instruction has the number of the place to which that one leads.
 pub record SaysInstruction (text : List ℕ) (list : List Address) (i number : ℕ) (instruction : Instr) : Type 0 where
   pub place : ℕ
   pub line : TokenLine
@@ -98,7 +98,7 @@ pub record SaysInstruction (text : List ℕ) (list : List Address) (i number : �
   pub is : instruction
       ≡ instruction_by (λ label. number_in list ((placed main address).target (way_or_next meaning label))) action
 
--- the line of this number in the text is a use of the block of this name
+-- the line with this number in the text is a use of the block with this name
 pub record SaysUse (text : List ℕ) (step : WayStep) : Type 0 where
   pub place : ℕ
   pub line : TokenLine
@@ -107,8 +107,8 @@ pub record SaysUse (text : List ℕ) (step : WayStep) : Type 0 where
   pub handed : List Named
   pub says : Says line.tokens (Uses step.name handed)
 
--- There is a line for each state of the brain to which the text is assembled, in order from 0. It says the state's
--- instruction, and has a use for each place of the state's address but the last.
+-- There is a line for each state of the brain to which the text is assembled, in order from 0. It has the state's
+-- instruction, and a use for each place of the state's address except the last.
 pub record LineForEachState : Type 0 where
   pub as_many : (text : List ℕ) (brain : List Instr) (list : List Address) (lines : List StateLine)
       → IsAssembledText text brain list → AreStateLinesOf text lines → length lines ≡ length brain

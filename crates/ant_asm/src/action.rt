@@ -2,8 +2,8 @@
 use brain_read::{Cond, Side, Sight};
 use std::alloc::AllocError;
 
-/// A label of an item in its body: what follows the item, a place of the body, from 0 to its length, or the parameter
-/// of this number.
+/// A label of an item in its body: the place after the item, a place of the body, from 0 to its length, or the
+/// parameter with this number.
 #[derive(Clone, Copy)]
 pub enum Label {
     Next,
@@ -11,7 +11,7 @@ pub enum Label {
     Parameter(u32),
 }
 
-/// An instruction with an `L` for each state (the task's neurology; labels are this project's own).
+/// An instruction with a label `L` for each state (the task's neurology; labels are this project's own).
 #[derive(Copy)]
 pub enum Action<L> {
     Sense {
@@ -50,7 +50,7 @@ pub enum Action<L> {
     },
 }
 
-// By hand, since a copy has no ways out: a derived one clones part by part, and may find no memory at each.
+// By hand, since a copy can't fail: a derived clone copies part by part, and might run out of memory at each.
 impl<L: Copy> Clone for Action<L> {
     fn clone(&self) -> Result<Self, AllocError> {
         Ok(*self)

@@ -1,4 +1,4 @@
-// A text assembled: its brain, and where the brain's instructions stand.
+// A text assembled: its brain, and the places of the brain's instructions.
 ghost use Rattle.std.specs.Prelude.{◌≡◌, ◌≤◌, ℕ, List, length, IfOk, IfErr, ◌<◌};
 ghost use Rattle.brain_read.specs.Soundness.{IsBrain};
 ghost use Rattle.ant_base.specs.Answers.{AnswersFault, IsFaultOr};
@@ -31,12 +31,13 @@ pub struct Assembled {
 }
 
 /// The brain of a labelled program of at most 4,194,304 bytes, with the address of each of its instructions, or the
-/// text's fault. `OutOfMemory` may be answered at any text; every other answer follows from the text alone, since every
-/// text has one program or one fault. The places are the addresses of all instructions of main's expansion, in order,
-/// and the brain's instruction `i` is the one at place `i`, with the number of its target's place for each label.
+/// text's fault. `OutOfMemory` may be returned for any text; every other result follows from the text alone, since
+/// every text has one program or one fault. The places are the addresses of all instructions of main's expansion, in
+/// order. The brain's instruction `i` is the one at place `i`; for each label it has the number of the place to which
+/// the label leads.
 ///
-/// Given `go:\nMove go next\nTurn Left go\n` it answers the brain `Move 0 1`, `Turn Left 0`. Given `Move go go\n` it
-/// answers `NoLabel { line: 1 }`, and given `go:\n` `Empty`.
+/// For `go:\nMove go next\nTurn Left go\n` it returns the brain `Move 0 1`, `Turn Left 0`. For `Move go go\n` it
+/// returns `NoLabel { line: 1 }`, and for `go:\n` `Empty`.
 pub fn assemble(alloc: Global, text: &[u8]) -> Result<Assembled, AsmFault>
     requires { length text.now ≤ longest }
     ensures program { IfOk result (λ made. IsAssembledText text.now made.brain made.places) }
@@ -64,7 +65,7 @@ fn expand_main(alloc: Global, bodies: &[Body]) -> Result<Expansion, OutOfMemory>
     Ok(out)
 }
 
-// The brain of what was expanded.
+// The brain of the expanded program.
 fn with_brain(made: Expansion) -> Assembled
     requires { IsBrain made.list.items }
     ensures brain { result.brain ≡ made.list.items }

@@ -23,8 +23,8 @@ pub struct Expansion {
     pub places: Vec<Address>,
 }
 
-/// Where a body is put in place: the number of its first instruction, of what follows it, and of what is handed for its
-/// parameters.
+/// The place where a body is used: the number of its first instruction, the number of what follows it, and the numbers
+/// given for its parameters.
 #[derive(Clone, Copy)]
 pub struct Frame<'f> {
     pub base: u16,
@@ -32,8 +32,8 @@ pub struct Frame<'f> {
     pub given: &'f [u16],
 }
 
-/// A body that is put in place, by its number and its frame, and the place of the item that comes next, or of the use
-/// at which another body is put in place.
+/// A body in use: its number and its frame, and the place of the next item or of the use at which another body is
+/// expanded.
 #[derive(Drop)]
 pub struct Put {
     pub number: usize,
@@ -43,8 +43,8 @@ pub struct Put {
     pub given: Vec<u16>,
 }
 
-/// What is being expanded: the body that is put in place, those round it, from main on, and the places of the uses on
-/// the way.
+/// What is being expanded: the current body, the bodies around it, from main on, and the places of the uses that led
+/// there.
 #[derive(Drop)]
 pub struct Work {
     pub path: Vec<u32>,
@@ -52,7 +52,7 @@ pub struct Work {
     pub top: Put,
 }
 
-// An item of a body that is put in place: the body's number, its frame, and the item's place in it.
+// An item of a body in use: the body's number, its frame, and the item's place in it.
 #[derive(Clone, Copy)]
 struct Spot<'s> {
     bodies: &'s [Body],
@@ -90,7 +90,7 @@ fn number_target(spot: Spot, label: Label) -> u16
     }
 }
 
-// The numbers to which the labels lead that an item hands to a block.
+// The numbers to which the labels lead that an item gives to a block.
 fn handed_numbers(alloc: Global, spot: Spot, handed: &[Label]) -> Result<Vec<u16>, OutOfMemory>
     requires spot { IsSpot spot }
     requires labels { AreLabelsOf spot.bodies.now spot.number handed.now }
@@ -103,7 +103,7 @@ fn handed_numbers(alloc: Global, spot: Spot, handed: &[Label]) -> Result<Vec<u16
     Ok(numbers)
 }
 
-// A path and one place more.
+// A path with one more place.
 fn with_place(alloc: Global, path: &[u32], place: usize) -> Result<Address, OutOfMemory>
     requires small { place < most }
     ensures { IfOk result (λ address. address ≡ path.now ++ place ∷ []) }
@@ -114,14 +114,14 @@ fn with_place(alloc: Global, path: &[u32], place: usize) -> Result<Address, OutO
     Ok(Address::of(steps))
 }
 
-// The last place of a path is left.
+// Removes the last place of a path.
 fn leave(path: &mut Vec<u32>)
     ensures { (front : List ℕ) (place : ℕ) → path.old.items ≡ front ++ place ∷ [] → path.new.items ≡ front }
 {
     path.pop();
 }
 
-// The instructions of the body of this number, which has no parameters, and their addresses.
+// The instructions of the body with this number, which has no parameters, and their addresses.
 pub(crate) fn expand(
     alloc: Global,
     bodies: &[Body],
@@ -156,7 +156,7 @@ pub(crate) fn expand(
 }
 
 impl Put {
-    // Its item that comes next.
+    // The next item.
     fn spot<'s>(&'s self, bodies: &'s [Body]) -> Spot<'s>
         ensures bodies { result.bodies.now ≡ bodies.now }
         ensures number { result.number ≡ self.now.number }
@@ -179,7 +179,7 @@ impl Put {
 }
 
 impl Work {
-    // An item more, or the end of a body; false at the end of all.
+    // Expands one more item, or ends a body; returns false at the end of all.
     fn step(
         &mut self,
         alloc: Global,
@@ -229,7 +229,7 @@ impl Work {
     }
 }
 
-// One instruction of a body.
+// Expands one instruction of a body.
 fn emit(
     alloc: Global,
     spot: Spot,

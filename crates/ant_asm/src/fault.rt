@@ -7,39 +7,40 @@ use std::alloc::{AllocError, AllocFailed};
 use std::error::Error;
 use std::fmt;
 
-/// The fault of a text that is no labelled program's: the first line at fault; where no line is, a block without an
-/// end, no item, or a label that its body doesn't have. Lines are counted from 1, lines without a token included.
+/// The fault of a text that is not a labelled program: that of the first line at fault. If no line is at fault, it is a
+/// block without an end, no item, or a label that its body doesn't have. Lines are counted from 1, including those
+/// without a token.
 #[derive(Clone, Copy, Debug, PartialEq, Eq)]
 pub enum AsmFault {
-    /// A token has a byte that is none of tab, LF, CR and 32 to 126.
+    /// A token has a bad byte: any byte except tab, LF, CR and 32 to 126.
     BadByte { line: u32 },
-    /// A token that should be a word is none of its position.
+    /// The position needs a word, and its token is none of its words.
     UnknownWord { line: u32 },
-    /// A position that the line needs has no token.
+    /// The line needs this position, and it has no token.
     MissingToken { line: u32 },
-    /// A token that should be a number is none that its position accepts.
+    /// The position needs a number, and its token is none that it accepts.
     BadNumber { line: u32 },
-    /// A token stands beyond the end of the line's form.
+    /// There is a token after the end of the line's form.
     ExtraToken { line: u32 },
-    /// A token that should be a name or a label is none.
+    /// The position needs a name or a label, and its token is neither.
     BadName { line: u32 },
-    /// `block` stands inside a block, or `end` outside one, or a block has no end.
+    /// `block` is inside a block, or `end` is outside one, or a block has no end.
     Misplaced { line: u32 },
-    /// A name is taken: a label that its body has as a label or a parameter, a repeated parameter, or a block's.
+    /// A name is taken: its body already has it as a label or a parameter, a parameter is repeated, or a block has it.
     Twice { line: u32 },
-    /// No block of this name has ended above.
+    /// No block with this name has ended above.
     NoBlock { line: u32 },
-    /// A block is put in place with another number of labels than it has parameters.
+    /// A block is used with a different number of labels than it has parameters.
     WrongCount { line: u32 },
-    /// After the item its body expands to more than 10,000 instructions, or the line begins block 257.
+    /// With this item its body expands to more than 10,000 instructions, or the line begins block 257.
     TooMany { line: u32 },
-    /// A block ends that has no item.
+    /// A block without an item ends.
     EmptyBlock { line: u32 },
     /// Main has no item.
     Empty,
-    /// A label is named that its body doesn't have: the first such line.
+    /// A line names a label that its body doesn't have: the first such line.
     NoLabel { line: u32 },
-    /// Memory could not be had; it says nothing of the text.
+    /// Memory ran out. This says nothing of the text.
     OutOfMemory,
 }
 

@@ -18,9 +18,9 @@ use ant_base::{Failed, Layout, Sink, layout};
 #[derive(Clone, Copy)]
 pub struct Labels<'s>(pub &'s Source);
 
-/// A line for each label, in order: the state, the uses on the way to its body, each with the name of its block, `@`,
-/// its line and `/`, and the label's name, as `40 carry` or `13 step@90/turn@14/again`. Lines are pushed one by one,
-/// and it takes no memory.
+/// A line for each label, in order: the state, the uses on the way to its body, and the label's name, such as `40
+/// carry` or `13 step@90/turn@14/again`. Each use is the name of its block, `@`, its line and `/`. Lines are pushed one
+/// by one, and it takes no memory.
 impl Layout for Labels<'_> {
     ghost use Rattle.ant_asm.specs.Labels.{labels_text};
 
@@ -32,7 +32,7 @@ impl Layout for Labels<'_> {
     }
 }
 
-// The labels of main, which is the last of these bodies, and of all that it puts in place.
+// The labels of main, which is the last of these bodies, and of all bodies that it uses.
 fn push_labels<K: Sink>(bodies: &[NamedBody], sink: &mut K) -> Result<(), Failed>
     requires { AreListed bodies.now }
     ensures { Pushed (K.state sink.old) (K.state sink.new) (labels_text (all_states (outline_at bodies.now (main_of bodies.now)) 0 0 [])) result }
@@ -45,7 +45,7 @@ fn push_labels<K: Sink>(bodies: &[NamedBody], sink: &mut K) -> Result<(), Failed
     Ok(())
 }
 
-// The labels of the body of this number itself, by the number of its first instruction and that of what follows it.
+// The own labels of the body with this number, given the number of its first instruction and that of what follows it.
 fn push_own<K: Sink>(
     bodies: &[NamedBody],
     number: usize,
@@ -69,7 +69,7 @@ fn push_own<K: Sink>(
     Ok(())
 }
 
-// The label of a line, if it is one.
+// Pushes the label of a line, if it is one.
 fn push_label<K: Sink>(
     line: &NamedLine,
     state: u16,
@@ -85,7 +85,7 @@ fn push_label<K: Sink>(
     }
 }
 
-// The labels of a body that begins.
+// Pushes the labels of a body that begins.
 fn push_met<K: Sink>(
     bodies: &[NamedBody],
     met: Met,

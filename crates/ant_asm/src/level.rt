@@ -1,7 +1,7 @@
-// The bodies on the way to one that is put in place.
+// The bodies on the way to one in use.
 
-/// A place in a body that is put in place: the body's number, how many of its items have been passed, the number of the
-/// next instruction, that of the first instruction behind the body, and the number to which a label at the body's end
+/// A place in a body in use: the body's number, how many of its items have been passed, the number of the next
+/// instruction, the number of the first instruction after the body, and the number to which a label at the body's end
 /// leads.
 #[derive(Clone, Copy, Default)]
 pub struct Spot {
@@ -19,7 +19,7 @@ pub struct Step<'s> {
     pub line: u32,
 }
 
-/// A body that was left at a use, and the spot behind that use.
+/// A body that was left at a use, and the spot after that use.
 #[derive(Clone, Copy, Default)]
 pub struct Level<'s> {
     pub spot: Spot,

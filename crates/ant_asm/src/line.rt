@@ -19,7 +19,7 @@ use line_tokens::{Tokens, has_bad_byte};
 use std::alloc::Global;
 use word_table::{WordTable, word_arms};
 
-/// The first word of a line that is no instruction.
+/// The first word of a line that isn't an instruction.
 #[derive(Clone, Copy)]
 pub enum Keyword {
     Block,
@@ -57,7 +57,7 @@ pub(crate) fn read_line<'t>(
     }
 }
 
-// What a line says that begins with this token.
+// What a line that begins with this token says.
 fn line_from<'t>(
     alloc: Global,
     token: &'t [u8],
@@ -74,7 +74,7 @@ fn line_from<'t>(
     }
 }
 
-// What a line says that begins with the word of a form.
+// What a line that begins with the word of a form says.
 fn instruction_line<'t>(form: Form, tokens: &mut Tokens<'t>) -> Result<Line<'t>, SpellingFault>
     ensures { Reads (read_form form tokens.old) result }
 {
@@ -82,7 +82,7 @@ fn instruction_line<'t>(form: Form, tokens: &mut Tokens<'t>) -> Result<Line<'t>,
     Ok(Line::Instruct(action))
 }
 
-// What a line says that begins with no word of a form.
+// What a line that doesn't begin with the word of a form says.
 fn other_line<'t>(
     alloc: Global,
     token: &'t [u8],
@@ -96,7 +96,7 @@ fn other_line<'t>(
     }
 }
 
-// The words that begin the lines that are no instructions.
+// The first words of the lines that aren't instructions.
 #[tactic(auto, unfolding(crate::specs::Inner::Reading::keyword_words))]
 fn keyword_table() -> WordTable<3>
     ensures { result ≡ keyword_words }
@@ -126,7 +126,7 @@ fn instruction<'t>(form: Form, tokens: &mut Tokens<'t>) -> Result<Action<Source<
     }
 }
 
-// An instruction, where no token is left.
+// An instruction, if no token is left.
 fn ended<'t>(
     tokens: &mut Tokens<'t>,
     action: Action<Source<'t>>,
@@ -269,7 +269,7 @@ fn names_to_end<'t>(alloc: Global, tokens: &mut Tokens<'t>) -> Result<Vec<&'t [u
     Ok(names)
 }
 
-// The next name of a line, where there is a token left.
+// The next name of a line, if a token is left.
 fn add_name<'t>(tokens: &mut Tokens<'t>, names: &mut Vec<&'t [u8]>) -> Result<(), SpellingFault>
     ensures on { (n : ℕ) → OnOk result (all_before (names_seen names.new.items) (take_all read_name n tokens.new) ≡ all_before (names_seen names.old.items) (take_all read_name (suc n) tokens.old)) }
     ensures fault { (n : ℕ) → IfErr result (λ fault. StopsAs (all_before (names_seen names.old.items) (take_all read_name (suc n) tokens.old)) fault) }
@@ -297,7 +297,7 @@ fn labels_to_end<'t>(
     Ok(labels)
 }
 
-// The next label of a line, where there is a token left.
+// The next label of a line, if a token is left.
 fn add_label<'t>(tokens: &mut Tokens<'t>, labels: &mut Vec<Source<'t>>) -> Result<(), SpellingFault>
     ensures on { (n : ℕ) → OnOk result (all_before (labels_seen labels.new.items) (take_all read_label n tokens.new) ≡ all_before (labels_seen labels.old.items) (take_all read_label (suc n) tokens.old)) }
     ensures fault { (n : ℕ) → IfErr result (λ fault. StopsAs (all_before (labels_seen labels.old.items) (take_all read_label (suc n) tokens.old)) fault) }
@@ -310,7 +310,7 @@ fn add_label<'t>(tokens: &mut Tokens<'t>, labels: &mut Vec<Source<'t>>) -> Resul
     Ok(())
 }
 
-// The line whose first token is no first word of a form.
+// The line whose first token isn't the first word of a form.
 fn mark_line<'t>(token: &'t [u8], tokens: &mut Tokens<'t>) -> Result<Line<'t>, SpellingFault>
     ensures { Reads (read_mark token.now tokens.old) result }
 {

@@ -5,7 +5,7 @@ ghost use Rattle.ant_asm.specs.Inner.Outlines.{IsUseBelow, counted_from, line_si
 use hex_geometry::OutOfMemory;
 use std::alloc::Global;
 
-/// A line of a body: a label, the instruction on this line, or the use on this line of the block of this name and
+/// A line of a body: a label, the instruction on this line, or the use on this line of the block with this name and
 /// number.
 #[derive(Drop)]
 pub enum NamedLine {
@@ -19,7 +19,7 @@ pub enum NamedLine {
 }
 
 /// The lines of a body, the places of those that aren't labels, and how many instructions they expand to: at most
-/// 10,000 in a program, and so never more than is counted.
+/// 10,000 in a program, so the count never overflows.
 #[derive(Drop)]
 pub struct NamedBody {
     pub lines: Vec<NamedLine>,
@@ -41,7 +41,7 @@ impl NamedBody {
         }
     }
 
-    // A line more, which expands to so many instructions.
+    // Adds a line, which expands to this many instructions.
     pub(crate) fn add(&mut self, line: NamedLine, size: u16) -> Result<(), OutOfMemory>
         ensures lines { OnOk result (self.new.lines.items ≡ self.old.lines.items ++ line ∷ []) }
         ensures counted { OnOk result (self.new.counted.items ≡ self.old.counted.items ++ counted_from (length self.old.lines.items) (line ∷ [])) }

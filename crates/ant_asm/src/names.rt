@@ -16,7 +16,7 @@ pub(crate) fn label<'t>(tokens: &mut Tokens<'t>) -> Result<Source<'t>, SpellingF
     }
 }
 
-// The label that a token is.
+// The label of a token.
 #[tactic(auto, unfolding(crate::specs::Inner::Reading::read_label))]
 pub(crate) fn label_at<'t>(token: &'t [u8]) -> Result<Source<'t>, SpellingFault>
     ensures { read_label token.now ≡ label_read result }
@@ -43,7 +43,7 @@ pub(crate) fn name<'t>(tokens: &mut Tokens<'t>) -> Result<&'t [u8], SpellingFaul
     }
 }
 
-// The name that a token is.
+// The name of a token.
 #[tactic(auto, unfolding(crate::specs::Inner::Reading::read_name))]
 pub(crate) fn name_at<'t>(token: &'t [u8]) -> Result<&'t [u8], SpellingFault>
     ensures { read_name token.now ≡ name_read result }

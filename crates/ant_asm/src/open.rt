@@ -1,4 +1,4 @@
-// Bodies that are being read: their items by names.
+// Bodies that are being read: their items, with names.
 ghost use Rattle.std.specs.Prelude.{◌≡◌, ◌≤◌, is_none, List, length, map, OnOk, IfOk, IfErr, None, ◌++◌, ◌∷◌, []};
 ghost use Rattle.std.specs.List.{list_any};
 ghost use Rattle.ant_asm.specs.Program.{Items};
@@ -20,7 +20,7 @@ use hex_geometry::OutOfMemory;
 use indexmap::IndexMap;
 use std::alloc::Global;
 
-/// An item by names: an instruction, or the block of this number put in place.
+/// An item with names: an instruction, or a use of the block with this number.
 #[derive(Drop)]
 pub enum OpenKind<'t> {
     Do(Action<Source<'t>>),
@@ -38,7 +38,7 @@ pub struct OpenItem<'t> {
     pub kind: OpenKind<'t>,
 }
 
-/// A body of which more lines may follow: how many parameters it has, what its names stand for, its items, and how many
+/// A body that may get more lines: how many parameters it has, the meaning of its names, its items, and how many
 /// instructions they expand to.
 #[derive(Drop)]
 pub struct OpenBody<'t> {
@@ -49,7 +49,7 @@ pub struct OpenBody<'t> {
 }
 
 impl<'t> OpenBody<'t> {
-    // A body with so many parameters, which have no names yet, and nothing else.
+    // A body with this many parameters, which have no names yet, and nothing else.
     pub(crate) fn new(alloc: Global, parameters: usize) -> Self
         ensures count { result.parameters ≡ parameters }
         ensures unnamed { result.names.entries ≡ [] }
@@ -64,7 +64,7 @@ impl<'t> OpenBody<'t> {
         }
     }
 
-    // The names of its parameters, where it has nothing else.
+    // Names its parameters; it has nothing else yet.
     pub(crate) fn name_parameters(&mut self, parameters: &[&'t [u8]]) -> Result<(), OutOfMemory>
         requires few { length parameters.now ≤ 8 }
         requires count { self.old.parameters ≡ length parameters.now }
@@ -76,7 +76,7 @@ impl<'t> OpenBody<'t> {
         add_parameters(&mut self.names, parameters)
     }
 
-    // The item that follows is named so.
+    // Gives this name to the next item.
     pub(crate) fn mark(&mut self, name: &'t [u8], line: u32) -> Result<(), AsmFault>
         requires few { length self.old.items.items ≤ most }
         ensures free { OnOk result (mark_fault (known_as self.old.names.entries name.now) line ≡ None) }
@@ -92,7 +92,7 @@ impl<'t> OpenBody<'t> {
         Ok(())
     }
 
-    // An item more, which expands to so many instructions.
+    // Adds an item, which expands to this many instructions.
     pub(crate) fn add(&mut self, kind: OpenKind<'t>, size: usize, line: u32) -> Result<(), AsmFault>
         requires small { self.old.size ≤ most }
         requires few { size ≤ most }
@@ -177,7 +177,7 @@ fn any_unknown(names: &Names, labels: &[Source]) -> bool
     labels.iter().any(|label| is_unknown(names, *label))
 }
 
-// The items with what their labels stand for.
+// The items with the meanings of their labels.
 pub(crate) fn resolved_items(
     alloc: Global,
     names: &Names,
@@ -222,7 +222,7 @@ fn resolved_labels(
     Ok(made)
 }
 
-// How many instructions the items before each expand to, and all.
+// How many instructions the items before each item expand to, and all of them.
 pub(crate) fn starts_of(
     alloc: Global,
     items: &[OpenItem],
@@ -239,7 +239,7 @@ pub(crate) fn starts_of(
     Ok(starts)
 }
 
-// The body, with what its labels stand for.
+// The body, with the meanings of its labels.
 pub(crate) fn close_body(alloc: Global, draft: &OpenBody) -> Result<Body, OutOfMemory>
     requires small { draft.now.size ≤ most }
     ensures { IfOk result (IsClosedAs draft.now) }

@@ -20,15 +20,15 @@ use line_tokens::Tokens;
 use std::alloc::Global;
 use std::mem;
 
-/// What stands round a block that has begun and not ended: main as far as it goes, and the block's name.
+/// What surrounds a block that has begun and not ended: main so far, and the block's name.
 #[derive(Drop)]
 pub struct Around<'t> {
     pub main: NamedBody,
     pub name: &'t [u8],
 }
 
-/// What was read so far: the body to which lines add, what stands round it where it is a block, the blocks that have
-/// ended, and which of them each name is that of.
+/// What was read so far: the body to which lines are added, what surrounds it if it is a block, the blocks that have
+/// ended, and the block of each name.
 #[derive(Drop)]
 pub struct Outlines<'t> {
     pub current: NamedBody,
@@ -51,8 +51,8 @@ impl<'t> Outlines<'t> {
         }
     }
 
-    // A line more, of this number. A program's lines are spelled well, so one that isn't read is one for which memory
-    // was refused.
+    // Reads one more line, with this number. A program's lines have no fault, so a line can't be read only if memory
+    // ran out.
     pub(crate) fn read(
         &mut self,
         alloc: Global,
@@ -73,7 +73,7 @@ impl<'t> Outlines<'t> {
         }
     }
 
-    // What a line says more.
+    // Adds what a line says.
     fn add(&mut self, alloc: Global, line: Line<'t>, number: u32) -> Result<(), OutOfMemory>
         requires good { IsGoodOutlines self.old }
         ensures good { OnOk result (IsGoodOutlines self.new) }
@@ -94,7 +94,7 @@ impl<'t> Outlines<'t> {
         }
     }
 
-    // A label of the item that follows.
+    // Adds a label of the next item.
     fn mark(&mut self, alloc: Global, name: &[u8]) -> Result<(), OutOfMemory>
         requires good { IsGoodOutlines self.old }
         ensures good { OnOk result (IsGoodOutlines self.new) }
@@ -104,7 +104,7 @@ impl<'t> Outlines<'t> {
         self.current.add(NamedLine::Label(name), 0)
     }
 
-    // An instruction.
+    // Adds an instruction.
     fn instruct(&mut self, line: u32) -> Result<(), OutOfMemory>
         requires good { IsGoodOutlines self.old }
         ensures good { OnOk result (IsGoodOutlines self.new) }
@@ -113,7 +113,7 @@ impl<'t> Outlines<'t> {
         self.current.add(NamedLine::Instruction(line), 1)
     }
 
-    // A block put in place; in a program it has ended above.
+    // Adds a use of a block; in a program the block has ended above.
     fn put(&mut self, alloc: Global, name: &[u8], line: u32) -> Result<(), OutOfMemory>
         requires good { IsGoodOutlines self.old }
         ensures good { OnOk result (IsGoodOutlines self.new) }
@@ -127,7 +127,7 @@ impl<'t> Outlines<'t> {
         self.current.add(NamedLine::Use { line, name, block }, size)
     }
 
-    // A block begins; in a program none is begun in a block.
+    // Begins a block; in a program no block begins inside a block.
     fn begin(&mut self, alloc: Global, name: &'t [u8])
         requires good { IsGoodOutlines self.old }
         ensures good { IsGoodOutlines self.new }
@@ -140,7 +140,7 @@ impl<'t> Outlines<'t> {
         self.around = Some(Around { main, name });
     }
 
-    // A block ends; in a program one has begun, and there are at most 256.
+    // Ends a block; in a program one has begun, and there are at most 256.
     fn end(&mut self) -> Result<(), OutOfMemory>
         requires good { IsGoodOutlines self.old }
         ensures good { OnOk result (IsGoodOutlines self.new) }
@@ -169,7 +169,7 @@ pub(crate) fn read_outlines(alloc: Global, text: &[u8]) -> Result<Vec<NamedBody>
     outlines_into(alloc, text, &mut outlines)
 }
 
-// The lines of a text, which are read into what has nothing yet.
+// Reads the lines of a text into empty outlines.
 #[tactic(auto, using(crate::proofs::OutlineReading::rest_from_end, crate::proofs::OutlineReading::rest_from_start))]
 fn outlines_into<'t>(
     alloc: Global,

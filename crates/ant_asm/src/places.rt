@@ -1,10 +1,10 @@
-// Where the instructions of a program stand.
+// The places of a program's instructions.
 ghost use Rattle.std.specs.Prelude.{◌≡◌, ◌<◌, length, slice_get, Some};
 
 use std::marker::Model;
 
-/// Where an instruction stands in a program: a place in main, then a place in the block that is put in place there, and
-/// so on; all counted from 0. Contracts see the list of these numbers.
+/// The address of an instruction in a program: a place in main, then a place in the block that is used there, and so
+/// on; all counted from 0. Contracts see the list of these numbers.
 #[derive(Drop)]
 pub struct Address {
     steps: Vec<u32>,
@@ -42,8 +42,8 @@ impl Address {
     }
 }
 
-/// Where the instructions of an assembled brain stand in its program: an address for each state. Contracts see the list
-/// of the addresses.
+/// The places of an assembled brain's instructions in its program: an address for each state. Contracts see the list of
+/// the addresses.
 #[derive(Drop)]
 pub struct Places {
     list: Vec<Address>,

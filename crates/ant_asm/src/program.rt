@@ -33,8 +33,7 @@ use std::mem;
 /// The largest number of blocks.
 pub(crate) const MOST_BLOCKS: usize = 256;
 
-/// What stands round a block that has begun and not ended: main as far as it goes, the block's name, and the line that
-/// began it.
+/// What surrounds a block that has begun and not ended: main so far, the block's name, and the line on which it begins.
 #[derive(Drop)]
 pub struct Outer<'t> {
     pub main: OpenBody<'t>,
@@ -42,9 +41,8 @@ pub struct Outer<'t> {
     pub line: u32,
 }
 
-/// What was read so far: the body to which lines add, what stands round it where it is a block, the blocks that have
-/// ended, which of them each name is that of, and the first line of an ended block that names a label which its body
-/// doesn't have.
+/// What was read so far: the body to which lines are added, what surrounds it if it is a block, the blocks that have
+/// ended, the block of each name, and the first line of an ended block that names a label which its body doesn't have.
 #[derive(Drop)]
 pub struct Program<'t> {
     pub current: OpenBody<'t>,
@@ -69,7 +67,7 @@ impl<'t> Program<'t> {
         }
     }
 
-    // A line more, of this number.
+    // Reads one more line, with this number.
     pub(crate) fn read(
         &mut self,
         alloc: Global,
@@ -91,7 +89,7 @@ impl<'t> Program<'t> {
         }
     }
 
-    // What a line says more.
+    // Adds what a line says.
     fn add(&mut self, alloc: Global, line: Line<'t>, number: u32) -> Result<(), AsmFault>
         requires good { IsGoodProgram self.old }
         requires few { IsLineInRange (line_seen line) }
@@ -113,7 +111,7 @@ impl<'t> Program<'t> {
         }
     }
 
-    // The item that follows is named so.
+    // Gives this name to the next item.
     fn mark(&mut self, name: &'t [u8], number: u32) -> Result<(), AsmFault>
         requires good { IsGoodProgram self.old }
         ensures good { OnOk result (IsGoodProgram self.new) }
@@ -123,7 +121,7 @@ impl<'t> Program<'t> {
         self.current.mark(name, number)
     }
 
-    // An instruction more.
+    // Adds an instruction.
     fn instruct(&mut self, action: Action<Source<'t>>, number: u32) -> Result<(), AsmFault>
         requires good { IsGoodProgram self.old }
         requires range { IsInRange (instruction_by (λ label. 0) (mapped seen action)) }
@@ -134,7 +132,7 @@ impl<'t> Program<'t> {
         self.current.add(OpenKind::Do(action), 1, number)
     }
 
-    // A block put in place.
+    // Adds a use of a block.
     fn put(&mut self, name: &'t [u8], handed: Vec<Source<'t>>, number: u32) -> Result<(), AsmFault>
         requires good { IsGoodProgram self.old }
         ensures good { OnOk result (IsGoodProgram self.new) }
@@ -152,7 +150,7 @@ impl<'t> Program<'t> {
             .add(OpenKind::Use { block, handed }, size, number)
     }
 
-    // A block begins.
+    // Begins a block.
     fn begin(
         &mut self,
         alloc: Global,
@@ -189,7 +187,7 @@ impl<'t> Program<'t> {
         Ok(())
     }
 
-    // A block ends.
+    // Ends a block.
     fn end(&mut self, alloc: Global, number: u32) -> Result<(), AsmFault>
         requires good { IsGoodProgram self.old }
         ensures good { OnOk result (IsGoodProgram self.new) }
@@ -213,7 +211,7 @@ impl<'t> Program<'t> {
         Ok(())
     }
 
-    // Lines add to main again, where they added to a block.
+    // Lines are added to main again, after they were added to a block.
     fn leave_block(&mut self)
         ensures { (outer : Outer) → self.old.outer ≡ Some outer → self.new ≡ record self.old { current = outer.main; outer = None } }
     {
@@ -222,7 +220,7 @@ impl<'t> Program<'t> {
         }
     }
 
-    // The number of the block of this name that has ended.
+    // The number of the block with this name that has ended.
     fn block_number(&self, name: &[u8]) -> Option<usize>
         ensures { result ≡ known_as self.now.blocks.entries name.now }
     {
@@ -251,7 +249,7 @@ fn has_twice(names: &[&[u8]]) -> bool
     }
 }
 
-// Whether a name is one of some.
+// Whether a name is in a list.
 fn is_one_of(names: &[&[u8]], name: &[u8]) -> bool
     ensures { result ≡ has_name (names_seen names.now) name.now }
 {
@@ -267,7 +265,7 @@ fn is_same(name: &[u8], other: &[u8]) -> bool
     name == other
 }
 
-// The earlier of two lines that there may be.
+// The earlier of two lines, each of which may be missing.
 fn earlier(line: Option<u32>, other: Option<u32>) -> Option<u32>
     ensures { result ≡ earlier line other }
 {
@@ -288,7 +286,7 @@ pub(crate) fn read_bodies(alloc: Global, text: &[u8]) -> Result<Vec<Body>, AsmFa
     bodies_into(alloc, text, &mut program)
 }
 
-// The bodies of a text, which is read into a program that has nothing yet.
+// The bodies of a text, which is read into an empty program.
 fn bodies_into<'t>(
     alloc: Global,
     text: &'t [u8],
@@ -304,7 +302,7 @@ fn bodies_into<'t>(
     take_bodies(alloc, program)
 }
 
-// The lines of a text, which are read into a program that has nothing yet.
+// Reads the lines of a text into an empty program.
 fn read_lines<'t>(alloc: Global, text: &'t [u8], program: &mut Program<'t>) -> Result<(), AsmFault>
     requires short { length text.now ≤ longest }
     requires nothing { program_seen program.old ≡ nothing_yet }
@@ -332,7 +330,7 @@ fn take_bodies(alloc: Global, program: &mut Program) -> Result<Vec<Body>, AsmFau
     Ok(mem::replace(&mut program.bodies, Vec::new(alloc)))
 }
 
-// Main, where no line is at fault and the text as a whole isn't.
+// Main, if neither a line nor the text as a whole is at fault.
 fn main_of(alloc: Global, program: &Program) -> Result<Body, AsmFault>
     requires good { IsGoodProgram program.now }
     ensures free { OnOk result (last_fault (program_seen program.now).begun (program_seen program.now) ≡ None) }

@@ -1,4 +1,4 @@
-// What the names of a body stand for.
+// The meanings of a body's names.
 ghost use Rattle.std.specs.Prelude.{◌≡◌, ◌≤◌, [], length, is_none, OnOk};
 ghost use Rattle.ant_asm.specs.Inner.Reading.{seen};
 ghost use Rattle.ant_asm.specs.Inner.ReadLine.{names_seen};
@@ -10,24 +10,24 @@ use crate::spelling::Source;
 use hex_geometry::OutOfMemory;
 use indexmap::IndexMap;
 
-/// What each name of a body stands for.
+/// The meaning of each name of a body.
 pub type Names<'t> = IndexMap<&'t [u8], Label>;
 
-// What a name stands for, if the body has it.
+// The meaning of a name, if the body has it.
 pub fn meaning_of(names: &Names, name: &[u8]) -> Option<Label>
     ensures { result ≡ known_as names.now.entries name.now }
 {
     names.get(name).copied()
 }
 
-// The number of the block of a name, if it has ended.
+// The number of the block with a name, if it has ended.
 pub(crate) fn block_named(blocks: &IndexMap<&[u8], usize>, name: &[u8]) -> Option<usize>
     ensures { result ≡ known_as blocks.now.entries name.now }
 {
     blocks.get(name).copied()
 }
 
-// One name more.
+// Adds one name.
 pub fn add_name<'t>(names: &mut Names<'t>, name: &'t [u8], label: Label) -> Result<(), OutOfMemory>
     ensures { OnOk result (known_as names.new.entries ≡ with_name name.now label (known_as names.old.entries)) }
 {
@@ -35,7 +35,7 @@ pub fn add_name<'t>(names: &mut Names<'t>, name: &'t [u8], label: Label) -> Resu
     Ok(())
 }
 
-// Whether a label stands for nothing.
+// Whether a label has no meaning.
 pub(crate) fn is_unknown(names: &Names, label: Source) -> bool
     ensures { result ≡ is_none (way_of (known_as names.now.entries) (seen label.entry)) }
 {
@@ -45,7 +45,7 @@ pub(crate) fn is_unknown(names: &Names, label: Source) -> bool
     }
 }
 
-// What a label stands for; the item after, where the body doesn't have it.
+// The meaning of a label; the next item if the body doesn't have it.
 pub(crate) fn way_or_next(names: &Names, label: Source) -> Label
     ensures { result ≡ way_or_next (known_as names.now.entries) (seen label.entry) }
 {
@@ -55,7 +55,7 @@ pub(crate) fn way_or_next(names: &Names, label: Source) -> Label
     }
 }
 
-// An instruction with what its labels stand for.
+// An instruction with the meanings of its labels.
 pub(crate) fn resolve(names: &Names, action: Action<Source>) -> Action<Label>
     ensures { result ≡ mapped (λ label. way_or_next (known_as names.now.entries) (seen label)) action.entry }
 {
@@ -102,7 +102,7 @@ pub(crate) fn resolve(names: &Names, action: Action<Source>) -> Action<Label>
     }
 }
 
-// The names of parameters, where there is no other.
+// Adds the names of parameters; there are no others yet.
 pub(crate) fn add_parameters<'t>(
     names: &mut Names<'t>,
     parameters: &[&'t [u8]],

@@ -1,4 +1,4 @@
-// What a program's text tells of where its labels and states stand.
+// The labels and states of a program's text.
 ghost use Rattle.std.specs.Prelude.{◌≤◌, length, IfOk, IfErr};
 ghost use Rattle.ant_base.specs.Answers.{AnswersFault, AnswersValue, IsFaultOr};
 ghost use Rattle.ant_base.specs.Shelf.{longest};
@@ -13,10 +13,9 @@ use crate::program::read_bodies;
 use std::alloc::Global;
 use std::marker::Model;
 
-/// Where the labels and the states of a labelled program stand, each with the uses on the way to its body: the state to
-/// which each label leads, and the line of each state's instruction (this project's own). Contracts see the two lists,
-/// in the order in which they are told; only the names in the text's lines are kept, however many labels, states and
-/// uses that makes.
+/// The labels and the states of a labelled program, each with the uses on the way to its body: the state to which each
+/// label leads, and the line of each state's instruction (this project's own). Contracts see the two lists in order.
+/// Only the names in the text's lines are kept, however many labels, states and uses there are.
 #[derive(Drop)]
 pub struct Source {
     pub(crate) bodies: Vec<NamedBody>,
@@ -33,9 +32,8 @@ impl Model for Source {
     ghost invariant = { λ source. AreListed source.bodies.items };
 }
 
-/// Where the labels and the states of a labelled program of at most 4,194,304 bytes stand, or the text's fault, which
-/// is the one that `assemble` answers. `OutOfMemory` may be answered at any text; every other answer follows from the
-/// text alone.
+/// The labels and the states of a labelled program of at most 4,194,304 bytes, or the text's fault, which is the one
+/// that `assemble` returns. `OutOfMemory` may be returned for any text; every other result follows from the text alone.
 pub fn read_source(alloc: Global, text: &[u8]) -> Result<Source, AsmFault>
     requires { length text.now ≤ longest }
     ensures source { IfOk result (IsSourceOf text.now) }

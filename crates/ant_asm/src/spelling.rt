@@ -1,4 +1,4 @@
-// What is wrong with a line as it is spelled, and labels as they are spelled.
+// Faults in the spelling of a line, and labels as they are spelled.
 use crate::fault::AsmFault;
 use line_tokens::{LineFault, Refusal};
 use std::alloc::AllocFailed;
@@ -26,7 +26,7 @@ impl SpellingFault {
     ghost use Rattle.std.specs.Prelude.{◌≡◌};
     ghost use Rattle.ant_asm.specs.Inner.Reading.{fault_at};
 
-    // The fault of the line of this number.
+    // The fault of the line with this number.
     pub(crate) fn at(self, line: u32) -> AsmFault
         ensures { result ≡ fault_at line self }
     {

@@ -1,4 +1,4 @@
-// The states of a program, and the lines in which their instructions stand.
+// The states of a program, and the lines of their instructions.
 ghost use Rattle.std.specs.Prelude.{[]};
 ghost use Rattle.ant_base.specs.Sink.{Pushed};
 ghost use Rattle.ant_asm.specs.StateLines.{state_lines_text};
@@ -13,13 +13,14 @@ use crate::walk::{Met, Walk};
 use crate::way::Uses;
 use ant_base::{Failed, Layout, Sink, layout};
 
-/// Where the instruction of each state of a source stands.
+/// The line of the instruction of each state of a source.
 #[derive(Clone, Copy)]
 pub struct StateLines<'s>(pub &'s Source);
 
-/// A line for each state, in order: the state, from 0, and the line of its instruction, from 1; in a block that is used
-/// a space and the uses on the way, from main on, each with the name of its block, `@` and its line, and `/` between,
-/// as `3 12` or `10 5 out_to_1@77/step@23`. Lines are pushed one by one, and it takes no memory.
+/// A line for each state, in order: the state, from 0, and the line of its instruction, from 1, such as `3 12`. In a
+/// block that is used, a space and the uses on the way follow, from main on, with `/` between them: each is the name of
+/// its block, `@` and its line, such as `10 5 out_to_1@77/step@23`. Lines are pushed one by one, and it takes no
+/// memory.
 impl Layout for StateLines<'_> {
     ghost use Rattle.ant_asm.specs.StateLines.{state_lines_text};
 
@@ -31,7 +32,7 @@ impl Layout for StateLines<'_> {
     }
 }
 
-// The lines of the states of main, which is the last of these bodies, and of all that it puts in place.
+// The lines of the states of main, which is the last of these bodies, and of all bodies that it uses.
 fn push_lines<K: Sink>(bodies: &[NamedBody], sink: &mut K) -> Result<(), Failed>
     requires { AreListed bodies.now }
     ensures { Pushed (K.state sink.old) (K.state sink.new) (state_lines_text (told_lines (outline_at bodies.now (main_of bodies.now)) 0 [])) result }
@@ -43,7 +44,7 @@ fn push_lines<K: Sink>(bodies: &[NamedBody], sink: &mut K) -> Result<(), Failed>
     Ok(())
 }
 
-// The line of the state of an instruction that was met.
+// Pushes the line of the state of an instruction that was met.
 fn push_met<K: Sink>(met: Met, way: &[Level], sink: &mut K) -> Result<(), Failed>
     ensures { Pushed (K.state sink.old) (K.state sink.new) (state_lines_text (met_lines met (steps_of way.now))) result }
 {

@@ -1,4 +1,4 @@
-// A walk over the bodies of a program, each as often as it is put in place.
+// A walk over the bodies of a program, each as often as it is used.
 ghost use Rattle.std.specs.Prelude.{◌≡◌, ◌==◌, ◌++◌, [], if◌then◌else◌};
 ghost use Rattle.ant_asm.specs.declared.walk.Met.TheVariants.{Body};
 ghost use Rattle.ant_asm.specs.Labels.Outline.{Closed};
@@ -10,7 +10,7 @@ use crate::named::{NamedBody, NamedLine, size_of};
 use crate::program::MOST_BLOCKS;
 use arrayvec::ArrayVec;
 
-/// Where a walk is, and the bodies that it has left at uses, from main on.
+/// The spot of a walk, and the bodies that it has left at uses, from main on.
 #[derive(Drop)]
 pub struct Walk<'s> {
     pub bodies: &'s [NamedBody],
@@ -18,7 +18,7 @@ pub struct Walk<'s> {
     pub spot: Spot,
 }
 
-/// What a step of a walk meets: nothing that is told, an instruction with its number and line, or a body that begins.
+/// What a step of a walk meets: nothing to report, an instruction with its number and line, or a body that begins.
 #[derive(Clone, Copy)]
 pub enum Met {
     Nothing,
@@ -51,7 +51,7 @@ impl<'s> Walk<'s> {
         }
     }
 
-    // A step; none at the end of main.
+    // Makes a step; returns `None` at the end of main.
     pub(crate) fn step(&mut self) -> Option<Met>
         requires good { IsWalk self.old }
         ensures good { IsWalk self.new }
@@ -75,7 +75,7 @@ impl<'s> Walk<'s> {
         Some(self.pass(line, behind))
     }
 
-    // The body ends, and the one round it goes on.
+    // Ends the body; the body around it continues.
     fn leave(&mut self) -> Option<Met>
         requires good { IsWalk self.old }
         requires end { rest_at self.old.bodies.now self.old.spot ≡ Closed }
@@ -90,7 +90,7 @@ impl<'s> Walk<'s> {
         Some(Met::Nothing)
     }
 
-    // A line is passed, or its block begins; a spot follows the line.
+    // Passes a line, or begins its block; `behind` is the spot after the line.
     fn pass(&mut self, line: &'s NamedLine, behind: Spot) -> Met
         requires good { IsWalk self.old }
         requires next { IsNext self.old.bodies.now self.old.spot line.now behind }
@@ -123,7 +123,7 @@ impl<'s> Walk<'s> {
     }
 }
 
-// The number to which a label leads that stands at this number, in a body that ends at that one.
+// The number to which a label at this number leads, in a body that ends at `end`.
 pub(crate) fn state_from(at: u16, end: u16, after: u16) -> u16
     ensures { result ≡ (if at == end then after else at) }
 {

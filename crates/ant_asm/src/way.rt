@@ -2,11 +2,11 @@
 use crate::level::Level;
 use ant_base::{Failed, Layout, Sink, layout};
 
-/// The uses on the way to a body that is put in place, by the bodies that were left at them, from main on.
+/// The uses on the way to a body, given by the bodies that were left at them, from main on.
 #[derive(Clone, Copy)]
 pub struct Way<'w>(pub &'w [Level<'w>]);
 
-/// How the uses are told: each with the name of its block and its line, and `/`.
+/// The text of the uses: each is the name of its block, `@`, its line and `/`.
 impl<'w> Layout for Way<'w> {
     ghost use Rattle.ant_asm.specs.Labels.{way_text};
     ghost use Rattle.ant_asm.specs.Inner.Ways.{steps_of};
@@ -21,11 +21,11 @@ impl<'w> Layout for Way<'w> {
     }
 }
 
-/// The uses on the way behind the line of a state: a space, and the uses with `/` between; none in main.
+/// The uses on the way after the line of a state: a space, and the uses with `/` between them; nothing in main.
 #[derive(Clone, Copy)]
 pub struct Uses<'w>(pub &'w [Level<'w>]);
 
-/// How they are told.
+/// Their text.
 impl<'w> Layout for Uses<'w> {
     ghost use Rattle.std.specs.Prelude.{codes};
     ghost use Rattle.ant_asm.specs.StateLines.{uses_text};
@@ -43,7 +43,7 @@ impl<'w> Layout for Uses<'w> {
     }
 }
 
-/// A name that is told.
+/// A name in a text.
 #[derive(Clone, Copy)]
 pub struct Name<'n>(pub &'n [u8]);
 

@@ -1,4 +1,4 @@
--- Equivalent states of a brain, and what relates the states of two brains (the task's neurology).
+-- Equivalent states of a brain, and relations between the states of two brains (the task's neurology).
 use Rattle.std.specs.Prelude.{◌≡◌, ℕ, ◌<◌, Bool, true, List, [], ◌∷◌, length}
 use Rattle.brain_read.specs.declared.instr.Instr.{Instr}
 use Rattle.brain_read.specs.Grammar.{states_of}
@@ -9,7 +9,8 @@ use Rattle.ant_turn.specs.Turn.{instruction_at}
 abbrev pub Relation : Type 0
 Relation = ℕ → ℕ → Bool
 
--- the kind of an instruction, with its sight, condition, marker, side or bound: all but the states that it names
+-- the kind of an instruction, with its sight, condition, marker, side or bound: everything except the states that it
+-- names
 abbrev pub shape_of : Instr → Instr
 shape_of instruction = redirected (λ _. 0) instruction
 

@@ -1,4 +1,4 @@
--- A law beside the one that a brain has at most one minimised brain: it has one.
+-- A law beside the one that a brain has at most one minimised brain: it has at least one.
 use Rattle.std.specs.Prelude.{ℕ, List, Option}
 use Rattle.brain_read.specs.Soundness.{IsBrain}
 use Rattle.brain_read.specs.declared.instr.Instr.{Instr}

@@ -1,4 +1,4 @@
--- What minimising comes to, in its own words.
+-- Laws of minimising, in its own words.
 use Rattle.std.specs.Prelude.{◌≡◌, ℕ, zero, suc, ◌<◌, ◌≤◌, List, [], ◌∷◌, length, map, Option, Some, None}
 use Rattle.brain_read.specs.declared.instr.Instr.{Instr}
 use Rattle.ant_turn.specs.Renumber.{state_number, redirected}
@@ -13,14 +13,14 @@ OneMinimised =
     → IsMinimised old other others
     → (new ≡ other) × (numbers ≡ others)
 
--- minimising a minimised brain changes nothing: the same brain comes out, and each state keeps its number
+-- minimising a minimised brain changes nothing: the result is the same brain, and each state keeps its number
 abbrev pub TwiceIsOnce : Type 0
 TwiceIsOnce =
     (old new again : List Instr) (numbers others : List (Option ℕ)) → IsMinimised old new numbers
     → IsMinimised new again others →
     (again ≡ new) × ((state : ℕ) → state < length new → new_number others state ≡ Some state)
 
--- a brain follows another by merging equivalent reachable states alone: each reachable state has become one of its
+-- a brain is made from another by only merging equivalent reachable states: each reachable state has become one of its
 -- states, and states that became one are equivalent
 pub record Merges (old other : List Instr) (numbers : List (Option ℕ)) : Type 0 where
   pub kept : (state : ℕ) → IsReachable old state
@@ -28,7 +28,7 @@ pub record Merges (old other : List Instr) (numbers : List (Option ℕ)) : Type 
   pub merged : (a b number : ℕ) → new_number numbers a ≡ Some number → new_number numbers b ≡ Some number
       → AreEquivalent old a b
 
--- no brain that follows so has fewer states than the minimised one
+-- no brain that is made in this way has fewer states than the minimised one
 abbrev pub FewestStates : Type 0
 FewestStates =
     (old new other : List Instr) (numbers others : List (Option ℕ)) → IsMinimised old new numbers
@@ -52,9 +52,8 @@ left_of (o ∷ numbers) [] = []
 left_of (None ∷ numbers) (instruction ∷ brain) = left_of numbers brain
 left_of (Some number ∷ numbers) (instruction ∷ brain) = instruction ∷ left_of numbers brain
 
--- a brain of which no two reachable states are equivalent keeps its instructions, in their order, but for the
--- unreachable states: the number of each state is how many reachable ones stand before it, and where all can be reached
--- nothing changes
+-- a brain without two equivalent reachable states keeps its instructions, in their order, except the unreachable
+-- states: the number of each state is how many reachable ones precede it, and if all can be reached nothing changes
 pub record KeepsText (old new : List Instr) (numbers : List (Option ℕ)) : Type 0 where
   pub order : (state number : ℕ) → new_number numbers state ≡ Some number → number ≡ kept_before numbers state
   pub text : new ≡ map (redirected (state_number (new_number numbers))) (left_of numbers old)

@@ -6,7 +6,7 @@ use Rattle.ant_turn.specs.Turn.{instruction_at}
 use Rattle.brain_minimise.specs.Equivalence.{AreEquivalent}
 use Rattle.brain_minimise.specs.Reach.{IsReachable}
 
--- the new number of an old state by a map; beyond the map there is none
+-- the new number of an old state by a map; none after the end of the map
 abbrev pub new_number : List (Option ℕ) → ℕ → Option ℕ
 new_number numbers state = slice_index_or numbers state None
 
@@ -19,13 +19,13 @@ pub record IsLeast (numbers : List (Option ℕ)) (number state : ℕ) : Type 0 w
 pub record IsMinimised (old new : List Instr) (numbers : List (Option ℕ)) : Type 0 where
   -- the map has one entry for each old state
   pub each : length numbers ≡ length old
-  -- the old states that can be reached are those that have a number, and no others
+  -- the old states that have a number are exactly those that can be reached
   pub kept : (state : ℕ) → IsReachable old state → IsSome (new_number numbers state)
   pub dropped : (state number : ℕ) → new_number numbers state ≡ Some number → IsReachable old state
-  -- states of which one can't be told from the other have one number
+  -- equivalent states have one number
   pub alike : (a b : ℕ) → IsReachable old a → IsReachable old b
       → AreEquivalent old a b → new_number numbers a ≡ new_number numbers b
-  -- and no others do
+  -- only equivalent states have one number
   pub merged : (a b number : ℕ) → new_number numbers a ≡ Some number → new_number numbers b ≡ Some number
       → AreEquivalent old a b
   -- the instruction at a number is that of each of its states, with its successors renumbered
@@ -33,7 +33,7 @@ pub record IsMinimised (old new : List Instr) (numbers : List (Option ℕ)) : Ty
       → slice_get new number ≡ Some (redirected (state_number (new_number numbers)) (instruction_at old state))
   -- each new state is the number of an old one
   pub onto : (number : ℕ) → number < length new → (state : ℕ) × (new_number numbers state ≡ Some number)
-  -- and can be reached
+  -- each new state can be reached
   pub reached : (number : ℕ) → number < length new → IsReachable new number
   -- no two new states are equivalent
   pub apart : (a b : ℕ) → AreEquivalent new a b → a ≡ b

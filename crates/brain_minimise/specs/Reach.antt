@@ -5,7 +5,7 @@ use Rattle.brain_read.specs.declared.instr.Instr.{Instr}
 use Rattle.brain_read.specs.Grammar.{states_of}
 use Rattle.ant_turn.specs.Turn.{instruction_at}
 
--- state 0 can be reached, and from a state that can be each state that its instruction names
+-- state 0 can be reached, and from a reachable state each state that its instruction names
 pub data IsReachable (brain : List Instr) : ℕ → Type 0 where
   Start : IsReachable brain 0
   Next : (state next : ℕ) → IsReachable brain state → Contains (states_of (instruction_at brain state)) next

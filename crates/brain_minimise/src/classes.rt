@@ -1,4 +1,4 @@
-// Classes of states, refined until each state does as its class's least member.
+// Classes of states, refined until each state behaves as its class's least member.
 ghost use Rattle.std.specs.Prelude.{◌≡◌, ◌<◌, ◌↔◌, IsTrue, Some, None, length, slice_index_or, slice_set, unwrap_or, IfOk, IfSome, IfNone};
 ghost use Rattle.brain_minimise.specs.Inner.Classes.{AreClasses, AreStable, DoAlike, slack};
 
@@ -7,7 +7,7 @@ use brain_read::{Brain, are_same};
 use hex_geometry::OutOfMemory;
 use std::alloc::Global;
 
-// The class of each state, named by its least member: two states are of one class exactly where they are equivalent.
+// The class of each state, named by its least member: two states are in one class exactly if they are equivalent.
 pub(crate) fn equivalence_classes(alloc: Global, brain: &Brain) -> Result<Vec<u16>, OutOfMemory>
     ensures classes { IfOk result (λ classes. AreClasses brain.now classes.items) }
     ensures stable { IfOk result (λ classes. AreStable brain.now classes.items) }
@@ -19,7 +19,7 @@ pub(crate) fn equivalence_classes(alloc: Global, brain: &Brain) -> Result<Vec<u1
     Ok(classes)
 }
 
-// Each class, parted into the states that do as its least member and the others; nothing where there are no others.
+// Each class, divided into the states that behave as its least member and the others; `None` if there are no others.
 fn refine(alloc: Global, brain: &Brain, classes: &[u16]) -> Result<Option<Vec<u16>>, OutOfMemory>
     requires { AreClasses brain.now classes.now }
     ensures classes { IfOk result (λ finer. IfSome finer (λ new. AreClasses brain.now new.items)) }
@@ -42,7 +42,7 @@ fn refine(alloc: Global, brain: &Brain, classes: &[u16]) -> Result<Option<Vec<u1
     if parted { Ok(Some(finer)) } else { Ok(None) }
 }
 
-// Whether two states do alike: they have one shape, and their successors are of the same classes.
+// Whether two states behave alike: they have one shape, and their successors are in the same classes.
 #[inline]
 fn do_alike(brain: &Brain, classes: &[u16], state: u16, other: u16) -> bool
     requires each { length classes.now ≡ length brain.now }
@@ -57,7 +57,7 @@ fn do_alike(brain: &Brain, classes: &[u16], state: u16, other: u16) -> bool
         )
 }
 
-// The first state of a class that doesn't do as its least member: this one, where there was none before.
+// The first state of a class that doesn't behave as its least member: this one, if there was none before.
 #[inline]
 fn heir(heirs: &mut Vec<Option<u16>>, least: u16, state: u16) -> u16
     requires { least < length heirs.old.items }

@@ -1,4 +1,4 @@
-// That each brain has a minimised one, as a law of its definition.
+// A law: each brain has a minimised one.
 ghost use Rattle.brain_minimise.specs.Existence.{HasMinimised};
 
 /// A law: each brain has a minimised one.

@@ -12,8 +12,8 @@ pub fn twice_is_once()
     ensures { TwiceIsOnce }
 {}
 
-/// A law: no brain of fewer states than the minimised one follows from a brain by merging equivalent reachable states
-/// alone.
+/// A law: no brain with fewer states than the minimised one can be made from a brain by only merging equivalent
+/// reachable states.
 #[tactic(auto, using(crate::proofs::Ranks::fewest))]
 pub fn fewest_states()
     ensures { FewestStates }
@@ -26,7 +26,7 @@ pub fn different_stay()
 {}
 
 /// A law: for any opening world, other brain, numbers of the rules, seed, side and number of rounds, the game with the
-/// minimised brain is the game with the brain, except for the numbers of that side's states, and it is at an equal
+/// minimised brain is the game with the brain, except for the numbers of that side's states, and it is at the same
 /// place of the stream (the task's kinetics and number generation).
 #[tactic(auto, using(crate::proofs::MinimisedGames::game_minimised))]
 pub fn plays_alike()
@@ -39,9 +39,9 @@ pub fn scores_alike()
     ensures { ScoresAlike }
 {}
 
-/// A law: so dumps of the two games differ in that side's state numbers alone. Each cell has the same ground, hill,
-/// food and markers, and an ant with the same id, colour, direction, load and rest. An ant of the other side has the
-/// same state too (the task's game play).
+/// A law: so dumps of the two games differ only in that side's state numbers. Each cell has the same ground, hill, food
+/// and markers, and an ant with the same id, colour, direction, load and rest. An ant of the other side has the same
+/// state too (the task's game play).
 #[tactic(auto, using(crate::proofs::MinimisedGames::dump_minimised))]
 pub fn dumps_alike()
     ensures { DumpsAlike }

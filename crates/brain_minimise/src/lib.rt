@@ -2,11 +2,11 @@
 //!
 //! Two states of a brain are equivalent if no ant can distinguish them: they have the same kind of instruction, the
 //! same sight, condition, marker, side or bound, and their successors are equivalent again. [`minimise`] merges
-//! equivalent states among those that state 0 leads to, drops all others, and reports which state became which. Merging
-//! drops no instruction that does something: a Flip whose branches are equal still draws, and a Sense still takes its
-//! turn. So the minimised brain plays every game as the brain does, except for the numbers of its states; that is a law
-//! of this crate. What names no section of the contest's task is this project's own. It depends on `brain_read` and on
-//! the definitions of `ant_turn`, and numbers the classes by the kit's `indexmap`.
+//! equivalent states among those that state 0 leads to, drops all others, and reports the new number of each state.
+//! Merging drops no instruction that does something: a Flip whose branches are equal still draws, and a Sense still
+//! takes its turn. So the minimised brain plays every game as the brain does, except for the numbers of its states;
+//! that is a law of this crate. Whatever names no section of the contest's task is this project's own. It depends on
+//! `brain_read` and on the definitions of `ant_turn`, and numbers the classes by the kit's `indexmap`.
 #![tactic(auto)]
 
 mod classes;

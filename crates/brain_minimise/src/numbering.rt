@@ -1,4 +1,4 @@
-// New numbers of the states, and the instructions at them.
+// New numbers of the states, and the instructions with these numbers.
 ghost use Rattle.std.specs.Prelude.{◌≡◌, ◌<◌, ◌≤◌, ◌↔◌, IsTrue, Some, length, IfOk};
 ghost use Rattle.brain_read.specs.Soundness.{most_states};
 ghost use Rattle.brain_minimise.specs.Inner.Kept.{AreKept};
@@ -11,7 +11,7 @@ use hex_geometry::OutOfMemory;
 use indexmap::IndexSet;
 use std::alloc::Global;
 
-// The number of each seen state's class, in the order in which the states show the classes.
+// The number of each seen state's class, in the order in which the classes first occur.
 pub(crate) fn number_states(
     alloc: Global,
     classes: &[u16],
@@ -35,7 +35,7 @@ pub(crate) fn number_states(
     Ok(numbers)
 }
 
-// The number of each state that has one, and the state itself elsewhere.
+// The number of each state that has one; otherwise the state itself.
 pub(crate) fn table_of(alloc: Global, numbers: &[Option<u16>]) -> Result<Vec<u16>, OutOfMemory>
     requires { length numbers.now ≤ most_states }
     ensures { IfOk result (λ table. IsTable numbers.now table.items) }
@@ -47,7 +47,7 @@ pub(crate) fn table_of(alloc: Global, numbers: &[Option<u16>]) -> Result<Vec<u16
     Ok(table)
 }
 
-// The instruction at each number: that of the first state that has it, with its successors renumbered.
+// The instruction with each number: that of the first state with this number, with its successors renumbered.
 pub(crate) fn kept_instructions(
     alloc: Global,
     brain: &Brain,

@@ -24,7 +24,7 @@ pub(crate) fn reachable(alloc: Global, brain: &Brain) -> Result<Vec<bool>, OutOf
     Ok(seen)
 }
 
-// Notes that a state can be reached, and that its successors are to be looked at where it is new.
+// Notes that a state can be reached; if it is new, its successors are visited later.
 fn visit(seen: &mut Vec<bool>, waiting: &mut Vec<u16>, state: u16) -> Result<(), OutOfMemory>
     requires { state < length seen.old.items }
     ensures seen { seen.new.items ≡ slice_set seen.old.items state true }

@@ -6,7 +6,8 @@ ghost use Rattle.brain_minimise.specs.Inner.Successors.{first_next, last_next};
 
 use brain_read::Instr;
 
-// The instruction with each state that it names replaced by the table's entry for it. Its kind and its parameters stay.
+// The instruction with each state that it names replaced by the table's entry for it. Its kind and its parameters are
+// unchanged.
 #[inline]
 pub(crate) fn redirect(instruction: Instr, table: &[u16]) -> Instr
     requires { IsSound (length table.now) instruction }
@@ -55,7 +56,7 @@ pub(crate) fn redirect(instruction: Instr, table: &[u16]) -> Instr
     }
 }
 
-// The first and the last state that it names: one state twice where it names one.
+// The first and the last state that it names; the same state twice if it names only one.
 #[inline]
 pub(crate) fn successors(instruction: Instr) -> (u16, u16)
     ensures { result ≡ (first_next instruction, last_next instruction) }

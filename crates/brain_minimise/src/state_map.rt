@@ -3,8 +3,8 @@ ghost use Rattle.std.specs.Prelude.{◌≡◌, ◌<◌, length, slice_get, Some}
 
 use std::marker::Model;
 
-/// What became of each state of a minimised brain, by its old number from 0: the new number, or `None` where state 0
-/// doesn't lead to it. Contracts see the list of the entries.
+/// The new number of each state of a minimised brain, by its old number from 0; `None` if state 0 doesn't lead to it.
+/// Contracts see the list of the entries.
 #[derive(Drop)]
 pub struct StateMap {
     entries: Vec<Option<u16>>,

@@ -1,4 +1,4 @@
-// The texts that tell of a minimised brain and of what became of its states, pushed to a sink.
+// The texts about a minimised brain and the new numbers of its states, pushed to a sink.
 ghost use Rattle.std.specs.Prelude.{length};
 ghost use Rattle.ant_base.specs.Sink.{Pushed};
 ghost use Rattle.brain_minimise.specs.Text.{became_text, minimised_text, state_line, states_text};
@@ -8,7 +8,7 @@ use crate::state_map::StateMap;
 use ant_base::{Each, Failed, Layout, NumberedTexts, Sink, layout};
 use brain_read::{Brain, write_brain};
 
-/// Pushes how many states there were and how many were kept, in a line of comment, and then the canonical text of the
+/// Pushes how many states there were and how many were kept, in a comment line, and then the canonical text of the
 /// minimised brain. At `Failed` a prefix of it was appended, and the sink's count of faults rose. It takes no memory.
 pub fn push_minimised<K: Sink>(
     brain: &Brain,
@@ -23,9 +23,9 @@ pub fn push_minimised<K: Sink>(
     write_brain(&minimised.brain, sink)
 }
 
-/// A line for each old state, in order: its number and the new one, as `7 3`, or `9 dropped` if state 0 doesn't lead to
-/// it (this project's own). New state `3` is in line 5 of the text that [`push_minimised`] pushes. If it returns
-/// `Failed`, a prefix of the lines was appended, and the sink's count of faults rose. It takes no memory.
+/// A line for each old state, in order: its number and the new one, such as `7 3`, or `9 dropped` if state 0 doesn't
+/// lead to it (this project's own). New state `3` is in line 5 of the text that [`push_minimised`] pushes. At `Failed`
+/// a prefix of the lines was appended, and the sink's count of faults rose. It takes no memory.
 impl Layout for StateMap {
     ghost text = { states_text };
 
@@ -53,7 +53,7 @@ impl NumberedTexts for StateLines<'_> {
     }
 }
 
-// What became of a state.
+// The new number of a state, or `dropped`.
 #[derive(Clone, Copy)]
 struct Became(Option<u16>);
 

@@ -1,4 +1,4 @@
--- Games that are just played, turn after turn and without looks (the task's game play).
+-- Games played alone, turn after turn and without looks (the task's game play).
 use Rattle.std.specs.Prelude.{◌≡◌, ℕ, ◌+◌, ◌*◌, ◌≤◌}
 use Rattle.ant_turn.specs.Minds.{Fits, Minds}
 use Rattle.ant_turn.specs.Rounds.{Moment, after_rounds}
@@ -15,18 +15,18 @@ pub record GameAloneValue : Type 0 where
   pub place : ℕ
   pub done : ℕ
 
--- where it stands
+-- its world and its place in the stream
 abbrev pub standing : GameAloneValue → Moment
 standing game = record { world = world_of game.world; place = game.place }
 
--- what every such game keeps: its ants fit its brains, few rounds are done, and each turn drew one random number at
--- most
+-- what holds of every such game: its ants fit its brains, few rounds are done, and each turn drew at most one random
+-- number
 pub record IsGameAlone (game : GameAloneValue) : Type 0 where
   pub fit : Fits (world_of game.world) game.minds
   pub few : game.done ≤ most_rounds
   pub place : game.place ≤ game.done * most_ants
 
--- it was played for so many rounds: it stands where the rules' rounds lead from where it stood
+-- it was played for this number of rounds: its moment is that after these rounds of the rules
 pub record IsPlayedOn (old new : GameAloneValue) (rounds : ℕ) : Type 0 where
   pub now : standing new ≡ after_rounds old.minds old.seed (standing old) rounds
   pub done : new.done ≡ old.done + rounds

@@ -18,15 +18,15 @@ pub record TotalsAddUp : Type 0 where
       → (totals_of minds seed size m r).taken + (totals_of minds seed size m r).redone
       ≡ (totals_of minds seed size m r).turns
 
--- rounds go on: some rounds and those after them lead where all lead, and have the turns of all
+-- some rounds and those after them lead to the same moment as all, and have the turns of all
 pub record RoundsGoOn : Type 0 where
   pub moment : (minds : Minds) (seed : ℕ) (m : Moment) (r q : ℕ)
       → after_rounds minds seed (after_rounds minds seed m r) q ≡ after_rounds minds seed m (r + q)
   pub totals : (minds : Minds) (seed size : ℕ) (m : Moment) (r q : ℕ) → both (totals_of minds seed size m r)
       (totals_of minds seed size (after_rounds minds seed m r) q) ≡ totals_of minds seed size m (r + q)
 
--- where a window has one turn, every turn is taken, at whatever moment the rounds begin where brains fit and the stream
--- lasts
+-- if a window has one turn, every turn is taken, from any moment that the brains fit and for whose rounds the stream is
+-- long enough
 abbrev pub SingleTurnWindowsAreTaken : Type 0
 SingleTurnWindowsAreTaken =
     (minds : Minds) (seed : ℕ) (m : Moment) (r : ℕ) → AreSound minds → Valid m.world → Fits m.world minds
@@ -48,7 +48,7 @@ pub record WholeRounds : Type 0 where
   pub totals : (old new : GameValue) → old.next ≡ 0 → IsRoundPlayed old new
       → new.totals ≡ both old.totals (round_totals old.field.minds old.field.seed old.window (now_of old))
 
--- a round that was broken off and then played to its end is the round that is played at once
+-- a round that was interrupted and then played to its end is the same as one without an interruption
 abbrev pub BrokenRoundsGoOn : Type 0
 BrokenRoundsGoOn =
     (old mid new : GameValue) → 1 ≤ old.window → IsRoundRefused old mid → IsRoundPlayed mid new → IsRoundPlayed old new

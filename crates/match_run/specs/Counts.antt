@@ -1,6 +1,5 @@
--- What comes of the turns of a game, window by window (this project's own). No worker, ticket or order of events stands
--- in it: the counts are those of the worlds and places that the turns lead to one after another, and of how many turns
--- a window has.
+-- The counts of the turns of a game, window by window (this project's own). They depend on no worker, ticket or order
+-- of events, but only on the worlds and places after the turns one after another, and on how many turns a window has.
 use Rattle.std.specs.Prelude.{ℕ, zero, suc, ◌+◌, ◌-◌, ◌*◌, ◌/◌, min, Bool, true, false, List, []}
 use Rattle.ant_base.specs.Layout.{◌+++◌}
 use Rattle.ant_turn.specs.Minds.{Minds}
@@ -32,8 +31,8 @@ window_totals window = record {
   redone = (counts_of window).redone;
 }
 
--- the turns of a round from `from` on are cut into windows of so many turns, of which the last may have fewer; m is the
--- moment before the first of them. This is window j, counted from 0: it begins where the windows before it lead
+-- the turns of a round from `from` on are cut into windows of this many turns; the last may have fewer. m is the moment
+-- before the first of them. This is window j, counted from 0: it begins at the moment after the windows before it
 unfoldable pub window_at : Minds → ℕ → ℕ → Moment → ℕ → ℕ → Window
 window_at minds seed size m from j = record {
   minds = minds;
@@ -44,7 +43,7 @@ window_at minds seed size m from j = record {
   to = min (from + j * size + size) m.world.ids;
 }
 
--- into how many windows so many turns are cut
+-- into how many windows this many turns are cut
 abbrev pub windows_of : ℕ → ℕ → ℕ
 windows_of size turns = (turns + size - 1) / size
 
@@ -64,12 +63,12 @@ totals_of minds seed size m zero = no_turns
 totals_of minds seed size m (suc r) =
     both (totals_of minds seed size m r) (round_totals minds seed size (after_rounds minds seed m r))
 
--- the line of the counts, where they are asked for
+-- the line of the counts, if they are requested
 abbrev pub counts_text : Bool → Totals → List ℕ
 counts_text false totals = []
 counts_text true totals = stats_text totals
 
--- the text of a run, and the line of its counts where they are asked for
+-- the text of a run, and the line of its counts if they are requested
 unfoldable pub whole_text : Minds → ℕ → ℕ → (ℕ → Bool) → ℕ → Bool → World → List ℕ
 whole_text minds seed rounds chosen size stats w =
     run_text minds seed rounds chosen w +++ counts_text stats (totals_of minds seed size (start_of w) rounds)

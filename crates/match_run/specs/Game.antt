@@ -6,8 +6,8 @@ use Rattle.round_book.specs.Book.{FieldValue, field_moment}
 use Rattle.match_run.specs.Counts.{both, no_turns, sum_windows, totals_of, windows_of}
 use Rattle.match_run.specs.Run.{most_rounds}
 
--- what a contract sees of a game: its field, how many turns a window has, the place in the stream with which it began,
--- how many rounds are done, the next turn of the round that isn't, and what came of the turns so far
+-- what a contract sees of a game: its field, how many turns a window has, the place in the stream at which it began,
+-- how many rounds are done, the next turn of the current round, and the counts of the turns so far
 pub record GameValue : Type 0 where
   pub field : FieldValue
   pub window : ℕ
@@ -27,7 +27,7 @@ beginning field window = record {
   totals = no_turns;
 }
 
--- a game that began at place 0, of which so many rounds are done with these turns, and that goes on from a field
+-- a game that began at place 0, of which this many rounds are done with these turns, and that continues from a field
 abbrev pub game_at_round : FieldValue → ℕ → ℕ → Totals → GameValue
 game_at_round field window done totals = record {
   field = field;
@@ -38,8 +38,8 @@ game_at_round field window done totals = record {
   totals = totals;
 }
 
--- such a game can go on: its field is whole; a window has a turn; few rounds are done; its turns are those of these
--- rounds, each taken or redone; and each drew one random number at most
+-- such a game can continue: its field is whole; a window has a turn; few rounds are done; its turns are those of these
+-- rounds, each taken or redone; and each drew at most one random number
 pub record CanGoOn (field : FieldValue) (window done : ℕ) (totals : Totals) : Type 0 where
   pub whole : field.whole ≡ true
   pub sized : 1 ≤ window
@@ -48,9 +48,9 @@ pub record CanGoOn (field : FieldValue) (window done : ℕ) (totals : Totals) : 
   pub add_up : totals.taken + totals.redone ≡ totals.turns
   pub place : field.place ≤ totals.turns
 
--- what every game keeps: its field is whole; few rounds are done; the next turn is 0 or the first of a window; its
--- turns are those of the rounds that are done and of the windows since, each taken or redone; and each drew one random
--- number at most
+-- what holds of every game: its field is whole; few rounds are done; the next turn is 0 or the first of a window; its
+-- turns are those of the rounds that are done and of the windows since, each taken or redone; and each drew at most one
+-- random number
 pub record IsGame (game : GameValue) : Type 0 where
   pub whole : game.field.whole ≡ true
   pub few : game.done ≤ most_rounds
@@ -63,7 +63,7 @@ pub record IsGame (game : GameValue) : Type 0 where
   pub place_to : game.field.place ≤ game.first_place + game.totals.turns
   pub early : game.first_place < 2 ^ 62
 
--- where a game stands
+-- the moment of a game: its world and its place
 abbrev pub now_of : GameValue → Moment
 now_of game = field_moment game.field
 
@@ -71,11 +71,11 @@ now_of game = field_moment game.field
 abbrev pub turns_left : GameValue → ℕ
 turns_left game = game.field.world.ids - game.next
 
--- the moment after so many more turns of the round
+-- the moment after this many more turns of the round
 abbrev pub moment_ahead : GameValue → ℕ → Moment
 moment_ahead game turns = after_turns game.field.minds game.field.seed (now_of game) game.next turns
 
--- what comes of the turns of so many more windows of the round
+-- the counts of the turns of this many more windows of the round
 abbrev pub totals_ahead : GameValue → ℕ → Totals
 totals_ahead game windows = sum_windows game.field.minds game.field.seed game.window (now_of game) game.next windows
 
@@ -95,8 +95,8 @@ pub record IsRoundPlayed (old new : GameValue) : Type 0 where
   pub next : new.next ≡ 0
   pub same : IsSameGame old new
 
--- a window of the round was refused: so many windows were played, and the next turn is the first one of the window that
--- was refused
+-- a window of the round was refused: this many windows were played, and the next turn is the first one of the refused
+-- window
 pub record IsRoundRefused (old new : GameValue) : Type 0 where
   pub windows : ℕ
   pub now : now_of new ≡ moment_ahead old (windows * old.window)
@@ -106,8 +106,8 @@ pub record IsRoundRefused (old new : GameValue) : Type 0 where
   pub is_left : new.next < old.field.world.ids
   pub same : IsSameGame old new
 
--- a game that stood at the end of a round was played for so many rounds: it stands where the rules' rounds lead from
--- there, and has counted their turns beside the earlier ones
+-- a game at the end of a round was played for this many rounds: its moment is that after these rounds of the rules, and
+-- it has added the counts of their turns to the earlier ones
 pub record GoesOnFor (old new : GameValue) (rounds : ℕ) : Type 0 where
   pub now : now_of new ≡ after_rounds old.field.minds old.field.seed (now_of old) rounds
   pub totals : new.totals ≡ both old.totals (totals_of old.field.minds old.field.seed old.window (now_of old) rounds)
@@ -115,10 +115,10 @@ pub record GoesOnFor (old new : GameValue) (rounds : ℕ) : Type 0 where
   pub next : new.next ≡ 0
   pub same : IsSameGame old new
 
--- a count of turns after some more, which stays at the last value of a u64
+-- a count of turns after some more, which stays at the largest u64
 abbrev pub counted_on : ℕ → ℕ → ℕ
 counted_on turns more = min (turns + more) (2 ^ 64 - 1)
 
--- a count of turns has risen by so many at most
+-- a count of turns has risen by at most this many
 abbrev pub RisesUpTo : ℕ → ℕ → ℕ → Type 0
 RisesUpTo old new turns = (old ≤ new) × (new ≤ old + turns)

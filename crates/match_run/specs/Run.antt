@@ -17,16 +17,16 @@ most_rounds = 1000000
 unfoldable pub world_after : Minds → ℕ → World → ℕ → World
 world_after minds seed w round = (after_rounds minds seed (record { world = w; place = 0 }) round).world
 
--- the dump after a round, where it is chosen
+-- the dump after a round, if it is chosen
 abbrev pub chosen_dump : (ℕ → Bool) → World → ℕ → List ℕ
 chosen_dump chosen w round = if chosen round then dump_text w round else []
 
--- the dumps after the rounds below n that are chosen, from 0 on in order
+-- the dumps after the chosen rounds below n, from 0 on in order
 unfoldable pub dumps_text : Minds → ℕ → (ℕ → Bool) → World → ℕ → List ℕ
 dumps_text minds seed chosen w n = numbered (λ round. chosen_dump chosen (world_after minds seed w round) round) n
 
--- the text of a run without its counts: the line of the seed, the dump after each round that is chosen, from 0 to the
--- number of rounds in order, and the score
+-- the text of a run without its counts: the line of the seed, the dump after each chosen round, from 0 to the number of
+-- rounds in order, and the score
 unfoldable pub run_text : Minds → ℕ → ℕ → (ℕ → Bool) → World → List ℕ
 run_text minds seed rounds chosen w =
     seed_text seed

@@ -30,7 +30,7 @@ SameRounds = (minds : Minds) (seed rounds : ℕ) (w : World) (list other : List 
     → ((round : ℕ) → round ≤ rounds → Contains other round → Contains list round)
     → run_text minds seed rounds (has_round list) w ≡ run_text minds seed rounds (has_round other) w
 
--- a round that stands in the list already adds nothing
+-- a round that is in the list already adds nothing
 abbrev pub RepeatAddsNothing : Type 0
 RepeatAddsNothing = (minds : Minds) (seed rounds : ℕ) (w : World) (list : List ℕ) (round : ℕ) → Contains list round
     → run_text minds seed rounds (has_round (list ++ round ∷ [])) w ≡ run_text minds seed rounds (has_round list) w
@@ -40,7 +40,7 @@ abbrev pub LaterAddsNothing : Type 0
 LaterAddsNothing = (minds : Minds) (seed rounds : ℕ) (w : World) (list : List ℕ) (round : ℕ) → rounds < round
     → run_text minds seed rounds (has_round (list ++ round ∷ [])) w ≡ run_text minds seed rounds (has_round list) w
 
--- the score after r and then q rounds is that after q rounds from the moment after r: its world, and the place of its
+-- the score after r and then q rounds is that after q rounds from the moment after r: its world, and its place of the
 -- random numbers
 abbrev pub GamesGoOn : Type 0
 GamesGoOn = (minds : Minds) (seed : ℕ) (w : World) (r q : ℕ)

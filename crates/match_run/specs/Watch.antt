@@ -1,4 +1,4 @@
--- Who watches a game (this project's own).
+-- The watch of a game (this project's own).
 use Rattle.std.specs.Prelude.{◌≡◌, ℕ, ◌+◌, ◌≤◌, List, [], ◌++◌, Some, None, Result, Ok, Err, OnOk}
 use Rattle.hex_geometry.specs.declared.position.Pos.{Pos}
 use Rattle.ant_random.specs.Stream.{SeedAndPlace}
@@ -9,7 +9,7 @@ use Rattle.cell_world.specs.Resting.{with_rests}
 use Rattle.cell_world.specs.World.{World, place_in}
 use Rattle.match_run.specs.Told.{Telling}
 
--- nothing is told of a turn that is idle, and what is told of another asks for no other ant's rest
+-- an idle turn has no report, and the report of another turn doesn't depend on how long other ants rest
 pub record IgnoresRest {A : Type 0} (telling : Telling A) : Type 0 where
   pub dead : (m : Moment) (t : ℕ) → place_in m.world t ≡ None → telling m t ≡ []
   pub resting : (m : Moment) (t : ℕ) (p : Pos) (ant : Ant) (left : ℕ) → place_in m.world t ≡ Some p
@@ -17,8 +17,8 @@ pub record IgnoresRest {A : Type 0} (telling : Telling A) : Type 0 where
   pub others : (f : ℕ → ℕ → ℕ) (t : ℕ) → ((n : ℕ) → f t n ≡ n) → (m : Moment)
       → telling (record m { world = with_rests f m.world }) t ≡ telling m t
 
--- what is told doesn't ask for the rest of others; and a log goes on with what is told piece by piece, until the game
--- is ended within a piece, whatever comes behind it
+-- reports don't depend on how long others rest; and a log grows by the reports piece by piece, until the game is ended
+-- within a piece, whatever follows it
 pub record IsFair {A Log Stop : Type 0} (telling : ℕ → Telling A)
     (logs : Log → Log → List A → Result (Unit {0}) Stop → Type 0) (ready : Log → ℕ → Type 0) : Type 0 where
   pub ignores : (round : ℕ) → IgnoresRest (telling round)
@@ -33,15 +33,15 @@ pub record IsFair {A Log Stop : Type 0} (telling : ℕ → Telling A)
 abbrev pub moment_of : World → SeedAndPlace → Moment
 moment_of w stream = record { world = w; place = stream.place }
 
--- a world and a stream stand at a moment of a game, with the seed as before
+-- a world and a stream match a moment of a game, with the seed unchanged
 pub record IsAtMoment (minds : Minds) (m : Moment) (before : SeedAndPlace) (w : World)
     (stream : SeedAndPlace) : Type 0 where
   pub moment : moment_of w stream ≡ m
   pub seed : stream.seed ≡ before.seed
   pub fit : Fits w minds
 
--- some turns were watched: the log is that of what is told of them, or the game was ended within it. Where it wasn't,
--- it stands where the turns lead, and each of them took one random number at most
+-- some turns were watched: the log has their reports, or the game was ended within them. If it wasn't, its moment is
+-- that after the turns, and each of them used at most one random number
 pub record IsWatched {A Log Stop : Type 0} (logs : Log → Log → List A → Result (Unit {0}) Stop → Type 0)
     (ready : Log → ℕ → Type 0) (minds : Minds) (start : SeedAndPlace) (old new : Log) (told : List A) (turns : ℕ)
     (m : Moment) (w : World) (stream : SeedAndPlace)

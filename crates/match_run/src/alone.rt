@@ -1,4 +1,4 @@
-// Games that are just played, and the text of their runs.
+// Games played alone, and the text of their runs.
 ghost use Rattle.std.specs.Prelude.{◌≡◌, ◌-◌, ◌≤◌, IfOk, OnErr, OnOk};
 ghost use Rattle.ant_base.specs.Sink.{Pushed};
 ghost use Rattle.ant_turn.specs.Minds.{Fits, minds_of};
@@ -46,12 +46,13 @@ pub fn play_alone<K: Sink>(
     play_on_alone(&mut game, plan.rounds, &plan.dumps, sink)
 }
 
-/// Plays a game on until this number of rounds is done in all, and pushes the rest of its text, without counts: the
+/// Continues a game until this number of rounds is done in total, and pushes the rest of its text, without counts: the
 /// dump after each later round that is selected, in order, and the score (the task's game play).
 ///
-/// The rounds are at most 1,000,000, and at least those that are done. It returns the score at the end. It fails only
-/// if the sink failed and its count of faults rose; then a prefix of the text was pushed. The game is at the end of the
-/// round at whose dump the sink failed, otherwise at the end of the last one. It takes no memory.
+/// The number of rounds is at most 1,000,000, and at least the number of those that are done. It returns the score at
+/// the end. It fails only if the sink failed and its count of faults rose; then a prefix of the text was pushed. The
+/// game is at the end of the round at whose dump the sink failed, otherwise at the end of the last one. It takes no
+/// memory.
 pub fn play_on_alone<K: Sink>(
     game: &mut GameAlone<'_>,
     rounds: u32,
@@ -94,12 +95,12 @@ fn play_rounds<K: Sink>(
     Ok(())
 }
 
-/// The score after the last round of a game, as `play_alone` gives it, without a text: the food on each colour's hill
-/// (the task's game play). Each ant's state is below the length of its colour's brain, as in every opening world; the
-/// seed is any, and the rounds are at most 1,000,000. It takes no memory and refuses nothing.
+/// The score after the last round of a game, as `play_alone` returns it, without a text: the food on each colour's hill
+/// (the task's game play). Each ant's state is below the length of its colour's brain, as in every opening world. Any
+/// seed is allowed, and there are at most 1,000,000 rounds. It takes no memory and never fails.
 ///
-/// Given the world of `examples/ambush.world`, `Flip 2 0 0` for red and `Move 0 0` for black, and one round it answers
-/// red 3 and black 0, whatever the seed: black ant 1 steps beside red ant 2, is its fifth foe, and the killed ant
+/// For the world of `examples/ambush.world`, `Flip 2 0 0` for red and `Move 0 0` for black, and one round it returns
+/// red 3 and black 0, whatever the seed: black ant 1 steps beside red ant 2 and is its fifth foe, and the killed ant
 /// leaves 3 particles on its hill.
 pub fn play_score(world: World, brains: Brains<'_>, seed: u32, rounds: u32) -> Score
     requires fit { Fits (world_of world) (minds_of brains) }

@@ -6,9 +6,9 @@ ghost use Rattle.cell_world.specs.Valid.{Valid};
 
 use cell_world::{Ground, World};
 
-/// What a game is played on: a world, and whatever is kept beside it.
+/// What a game is played on: a world, perhaps with more data.
 pub trait Board: Ground {
-    /// How many ids were ever made (the task's biology).
+    /// How many ids were ever assigned (the task's biology).
     fn ids(&self) -> u32
         ensures ids { result ≡ (Self.world self.now).ids }
         ensures valid { Valid (Self.world self.now) };

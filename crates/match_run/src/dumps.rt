@@ -13,9 +13,9 @@ use hex_geometry::OutOfMemory;
 use std::alloc::Global;
 use std::marker::Model;
 
-/// A list of rounds, each counted from 0 for the start of the game; contracts see their numbers, and how many more it
-/// takes before it is full. Order and repeats make no difference to a run. Whether a round is in a list that never
-/// falls is found by halving, in any other by a look at each of its numbers: `sort` makes it such a list.
+/// A list of rounds, each counted from 0 for the start of the game. Contracts see their numbers, and how many more can
+/// be added before the list is full. Order and repeats make no difference to a run. A round is looked up by binary
+/// search if the list is in rising order, and otherwise number by number: `sort` puts the list into rising order.
 #[derive(Drop)]
 pub struct Rounds {
     list: Vec<u32>,
@@ -35,7 +35,7 @@ impl Model for Rounds {
 }
 
 impl Rounds {
-    /// The empty list, which takes no memory.
+    /// The empty list. It takes no memory.
     pub fn new(alloc: Global) -> Rounds
         ensures { result ≡ record { numbers = []; spare = 0 } }
     {
@@ -46,7 +46,7 @@ impl Rounds {
     }
 
     /// Adds a round at the end, even if it is in the list already. It fails only if the list is full and there is no
-    /// memory for more; the list is then unchanged. An add uses at most one spare place.
+    /// memory for more; the list is then unchanged. An add uses at most one free place.
     pub fn add(&mut self, round: u32) -> Result<(), OutOfMemory>
         ensures added { OnOk result (self.new.numbers ≡ self.old.numbers ++ round ∷ []) }
         ensures unchanged { OnErr result (self.new ≡ self.old) }
@@ -60,8 +60,9 @@ impl Rounds {
         Ok(())
     }
 
-    /// Puts the rounds into rising order, so that each of them is found by halving from then on. The list has the same
-    /// numbers as before, each as often, and so chooses the same rounds; as many places are spare. It takes no memory.
+    /// Puts the rounds into rising order, so that each of them is found by binary search from then on. The list has the
+    /// same numbers as before, each as often, and so selects the same rounds; it has as many free places. It takes no
+    /// memory.
     pub fn sort(&mut self)
         ensures permutation { IsPermutation self.old.numbers self.new.numbers }
         ensures rising { IsNonDecreasing self.new.numbers }
@@ -84,7 +85,7 @@ impl Rounds {
     }
 }
 
-// Whether the last of some numbers is at most this one, or there is none.
+// Whether the last of these numbers is at most this round, or there is none.
 fn no_later(list: &[u32], round: u32) -> bool
     ensures { IsTrue result → 0 < length list.now → slice_index list.now (length list.now - 1) ≤ round }
 {
@@ -101,7 +102,7 @@ pub enum Dumps {
     Nothing,
     /// Every round, from 0, which is the start, to the last.
     All,
-    /// The rounds of the list; a round that is repeated, or above the last one of the run, adds nothing.
+    /// The rounds of the list. A round that is repeated, or above the last one of the run, adds nothing.
     Chosen(Rounds),
 }
 

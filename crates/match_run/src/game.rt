@@ -11,9 +11,9 @@ use round_book::{Crew, Field};
 use std::alloc::Global;
 use std::marker::Model;
 
-/// A game that is played round by round, each round window by window, by whatever crew is at hand (the task's game
-/// play; windows are this project's own). It knows its field, which is whole, how many turns a window has, how many
-/// rounds are done, the next turn of the round that isn't, and what came of the turns so far.
+/// A game that is played round by round, each round window by window, by any crew (the task's game play; windows are
+/// this project's own). It has its field, which is whole, the number of turns in a window, the number of rounds done,
+/// the next turn of the current round, and the counts of the turns so far.
 #[derive(Drop)]
 pub struct Game<'b> {
     field: Field<'b>,
@@ -73,10 +73,10 @@ impl<'b> Game<'b> {
         }
     }
 
-    /// A game that began at place 0 and is at the end of a round. It goes on from this field, and this number of rounds
-    /// is done, with these turns. The field is whole; at most 1,000,000 rounds are done; they have one turn for each id
-    /// and round, each taken or redone; and there were at least as many turns as random numbers drawn. It takes no
-    /// memory.
+    /// A game that began at place 0 and is at the end of a round. It continues from this field, and this number of
+    /// rounds is done, with these turns. The field is whole; at most 1,000,000 rounds are done; they have one turn for
+    /// each id and round, each taken or redone; and there were at least as many turns as random numbers drawn. It takes
+    /// no memory.
     pub fn at_round(field: Field<'b>, window: u32, done: u32, totals: Totals) -> Game<'b>
         requires { CanGoOn field window done totals }
         ensures { result ≡ game_at_round field.entry window done totals }
@@ -96,10 +96,11 @@ impl<'b> Game<'b> {
     /// turn is that of id 0.
     ///
     /// It fails only if memory runs out and the crew refuses a window. Then the turns before that window are played and
-    /// counted, and no further round is done. The window's first turn is the next one, with which the next call goes
-    /// on. In both cases the crew's count of turns has risen as much as that of the totals, or is the largest value.
+    /// counted, and no further round is done. The window's first turn is the next one, with which the next call
+    /// continues. In both cases the crew's count of turns has risen as much as that of the totals, or is the largest
+    /// `u64`.
     ///
-    /// Given a game of `Turn Left 0` that begins on the world of `3\n3\n###\n#+#\n###\n`, whose one ant faces direction
+    /// For a game of `Turn Left 0` that begins on the world of `3\n3\n###\n#+#\n###\n`, whose one ant faces direction
     /// 0, that ant faces direction 5 after a call that returns Ok, and direction 4 after the next one.
     pub fn round<C: Crew>(&mut self, alloc: Global, crew: &mut C) -> Result<(), OutOfMemory>
         requires ready { C.ready crew.old }
@@ -159,8 +160,8 @@ impl<'b> Game<'b> {
         self.window
     }
 
-    /// What came of the turns so far: they are those of the rounds that are done and of the windows since, each taken
-    /// or redone (this project's own).
+    /// The counts of the turns so far: those of the rounds that are done and of the windows since, each taken or redone
+    /// (this project's own).
     pub fn totals(&self) -> Totals
         ensures totals { result ≡ self.now.totals }
         ensures game { IsGame self.now }
@@ -168,14 +169,14 @@ impl<'b> Game<'b> {
         self.totals
     }
 
-    /// How many random numbers were drawn from the start of the stream on (the task's random numbers).
+    /// How many random numbers were drawn since the start of the stream (the task's random numbers).
     pub fn place(&self) -> u64
         ensures { result ≡ self.now.field.place }
     {
         self.field.place()
     }
 
-    /// Whether no turn of the round that isn't done was played.
+    /// Whether no turn of the current round was played.
     pub fn at_round_end(&self) -> bool
         ensures { IsTrue result ↔ (self.now.next ≡ 0) }
     {

@@ -1,4 +1,4 @@
-// A game that is just played.
+// A game played alone.
 ghost use Rattle.std.specs.Prelude.{◌≡◌, ◌+◌, ◌*◌, ◌<◌, ◌≤◌};
 ghost use Rattle.ant_turn.specs.Minds.{Fits, minds_of};
 ghost use Rattle.cell_world.specs.Grid.{world_of};
@@ -14,9 +14,9 @@ use cell_world::World;
 use std::marker::Model;
 use std::mem;
 
-/// A game that is just played, round after round and each turn after turn (the task's game play): no look is made
-/// ahead, nothing is counted, and it takes no memory. It knows its world, its brains, its stream of random numbers, and
-/// how many rounds are done.
+/// A game played alone, round after round and turn after turn (the task's game play): no look is made ahead, nothing is
+/// counted, and it takes no memory. It has its world, its brains, its stream of random numbers, and the number of
+/// rounds done.
 #[derive(Drop)]
 pub struct GameAlone<'b> {
     world: World,
@@ -58,9 +58,9 @@ impl<'b> GameAlone<'b> {
         GameAlone::at_round(world, brains, seed, 0, 0)
     }
 
-    /// A game at the end of a round, with this world, this number of random numbers drawn of its seed, and this number
-    /// of rounds done. Each ant's state is below the length of its colour's brain; at most 1,000,000 rounds are done,
-    /// in each of which each of 16,384 ids drew at most one number.
+    /// A game at the end of a round, with this world, this number of random numbers drawn from its seed, and this
+    /// number of rounds done. Each ant's state is below the length of its colour's brain. At most 1,000,000 rounds are
+    /// done, and in each of them each of 16,384 ids drew at most one number.
     pub fn at_round(
         world: World,
         brains: Brains<'b>,
@@ -88,7 +88,7 @@ impl<'b> GameAlone<'b> {
         requires few { self.old.done < most_rounds }
         ensures { IsPlayedOn self.old self.new 1 }
     {
-        // the stream stands in a place of its own meanwhile, which no write to the world can reach: so a turn keeps it
+        // meanwhile the stream is in a place of its own, which no write to the world can reach, so that a turn keeps it
         // in registers
         let mut stream = mem::replace(&mut self.stream, Stream::from_seed(0));
         let _watched = watch_round(
@@ -103,8 +103,8 @@ impl<'b> GameAlone<'b> {
         self.done += 1;
     }
 
-    /// Plays this number of rounds more (the task's kinetics); with those that are done they are at most 1,000,000. It
-    /// takes no memory.
+    /// Plays this number of further rounds (the task's kinetics); with those that are done there are at most 1,000,000.
+    /// It takes no memory.
     pub fn play_on(&mut self, rounds: u32)
         requires few { self.old.done + rounds ≤ most_rounds }
         ensures { IsPlayedOn self.old self.new rounds }

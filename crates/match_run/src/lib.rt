@@ -3,15 +3,15 @@
 //! The task's game play: rounds are played one after another. Each is one turn of each id in rising order, with one
 //! stream of random numbers from place 0.
 //!
-//! - A `Game` is played round by round by any crew, in windows of turns. It is always where its turns lead one after
-//!   another. It counts how many turns were taken from looks, which depends on the turns and on the size of a window
-//!   alone. `play` pushes the text of a run with its counts, by any crew.
+//! - A `Game` is played round by round by any crew, in windows of turns. Its state is always that after its turns one
+//!   after another. It counts how many turns were taken from looks, which depends only on the turns and on the size of
+//!   a window. `play` pushes the text of a run with its counts, by any crew.
 //! - A `GameAlone` is played turn after turn, in memory that doesn't grow with the rounds, by the one loop of
 //!   `watch_rounds`, which shows a game to a `Watch`. `play_alone` pushes the text without counts in this way, and
-//!   `play_score` returns a game's score alone.
+//!   `play_score` returns only a game's score.
 //!
 //! The laws say which parts the text has, which rounds a list adds to it, what the counts add up to, and that a game
-//! can be interrupted and resumed. What names no section of the contest's task is this project's own. This crate
+//! can be interrupted and resumed. Whatever names no section of the contest's task is this project's own. This crate
 //! depends on `round_book`, `ant_turn` and `dump_print`.
 #![tactic(auto)]
 

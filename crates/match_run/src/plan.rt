@@ -1,4 +1,4 @@
-// What a run is asked to do.
+// What a run has to do.
 use crate::dumps::Dumps;
 
 /// The most rounds that a game has (this project's own).

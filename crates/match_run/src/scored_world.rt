@@ -11,8 +11,8 @@ use cell_world::{Ant, Cell, Colour, Ground, PlacedAnt, Score, World};
 use hex_geometry::Pos;
 use std::marker::Model;
 
-/// A world with its score: the food on each colour's hill (the task's game play). The score changes with each cell
-/// that is set, so no cell is counted twice. A contract sees the world alone.
+/// A world with its score: the food on each colour's hill (the task's game play). The score is updated with each cell
+/// that is set, so no cell is counted twice. A contract sees only the world.
 #[derive(Drop)]
 pub struct ScoredWorld {
     world: World,
@@ -32,7 +32,7 @@ impl Model for ScoredWorld {
 }
 
 impl ScoredWorld {
-    /// The given world. The score is counted over all its cells, once.
+    /// The given world. Its score is counted over all cells, once.
     pub fn of(world: World) -> ScoredWorld
         ensures { result ≡ world }
     {
@@ -40,7 +40,7 @@ impl ScoredWorld {
         ScoredWorld { world, score }
     }
 
-    /// The score now: the food on each colour's hill, from 0 to 2,340,900 particles. Nothing is counted for it.
+    /// The current score: the food on each colour's hill, from 0 to 2,340,900 particles. It is kept, not counted.
     #[inline]
     pub fn score(&self) -> Score
         ensures { result ≡ score_of (world_of self.now) }
@@ -104,7 +104,7 @@ impl Ground for ScoredWorld {
     }
 }
 
-// The food on a colour's hill, where one cell of the world becomes another.
+// The food on a colour's hill after one cell of the world is replaced by another.
 #[inline]
 fn food_after(food: u32, before: &Cell, after: &Cell, colour: Colour) -> u32
     requires part { hill_food_in colour before.now ≤ food }
@@ -115,7 +115,7 @@ fn food_after(food: u32, before: &Cell, after: &Cell, colour: Colour) -> u32
     food - hill_food(before, colour) + hill_food(after, colour)
 }
 
-// The food on a cell, where it is of this colour's hill.
+// The food on a cell, if it belongs to this colour's hill.
 #[inline]
 fn hill_food(cell: &Cell, colour: Colour) -> u32
     ensures { result ≡ hill_food_in colour cell.now }

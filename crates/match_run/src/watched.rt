@@ -1,4 +1,4 @@
-// A game, played before who watches it: the one loop over rounds and turns.
+// A game played before a watch: the one loop over rounds and turns.
 ghost use Rattle.std.specs.Prelude.{◌+◌, ◌-◌, ◌*◌, ◌<◌, ◌≤◌, ◌^◌, ℕ, length};
 ghost use Rattle.ant_turn.specs.Listed.{AreUp, IsUp, after_listed};
 ghost use Rattle.ant_turn.specs.Minds.{AreSound, Fits, minds_of};
@@ -77,8 +77,7 @@ struct Chunk {
     ghost few: { to ≤ from + 64 },
 }
 
-// Plays the turns of a chunk: those of resting ants first, of which nothing is told, and then the others in rising
-// order.
+// Plays the turns of a chunk: first those of resting ants, which aren't reported, and then the others in rising order.
 #[inline(always)]
 fn watch_chunk<W: Watch>(
     watch: &W,

@@ -36,9 +36,9 @@ use std::alloc::Global;
 /// 1,000,000 rounds, and at least one turn per window. The turns are those of the ids in rising order, from 0, round
 /// after round, with the random numbers of the seed from place 0 on. It returns the score after the last round: the
 /// food on each colour's hill. Then the crew's count of turns has risen by the number of ids times the rounds, or is
-/// the largest value.
+/// the largest `u64`.
 ///
-/// It fails if the sink failed and its count of faults rose; then a prefix of the text was pushed. Or it fails because
+/// It fails if the sink failed and its count of faults rose; then a prefix of the text was pushed. It also fails if
 /// memory ran out; then a proper prefix was pushed. In both cases the crew's count has risen by at most that of a whole
 /// run.
 pub fn play<C: Crew, K: Sink>(
@@ -96,19 +96,19 @@ fn game_of<'b>(
     Ok(Game::begin(field, plan.window))
 }
 
-/// Plays on a game that is at the end of a round, until this number of rounds is done in all, and pushes the rest of
+/// Continues a game that is at the end of a round, until this number of rounds is done in total, and pushes the rest of
 /// its text: the dump after each later round that is selected, in order, the score, and, if requested, the counts of
 /// all rounds (the task's game play).
 ///
-/// The rounds are at most 1,000,000, and at least those that are done. It returns the score at the end. Then the game
-/// is at that round, and the crew's count of turns has risen by the number of ids times the later rounds, or is the
-/// largest value.
+/// The number of rounds is at most 1,000,000, and at least the number of those that are done. It returns the score at
+/// the end. Then the game is at that round, and the crew's count of turns has risen by the number of ids times the
+/// later rounds, or is the largest `u64`.
 ///
-/// It fails if the sink failed and its count of faults rose; then a prefix of the text was pushed. Or it fails because
+/// It fails if the sink failed and its count of faults rose; then a prefix of the text was pushed. It also fails if
 /// memory ran out; then a proper prefix was pushed. If the sink failed at a dump, the game is at the end of that round;
-/// if at the score or the counts, at the end of the last round. If memory ran out, the game is at the window that was
-/// refused, exactly the dumps of the rounds before were pushed, and the game can be resumed. The crew has counted the
-/// turns that the game has, even after a failure.
+/// if it failed at the score or the counts, at the end of the last round. If memory ran out, the game is at the window
+/// that was refused, exactly the dumps of the rounds before it were pushed, and the game can be resumed. The crew has
+/// counted the turns that the game has, even after a failure.
 pub fn play_on<C: Crew, K: Sink>(
     alloc: Global,
     crew: &mut C,
@@ -158,7 +158,7 @@ fn play_rounds<C: Crew, K: Sink>(
     ensures counted { C.played crew.new ≡ counted_on (C.played crew.old) (game.new.totals.turns - game.old.totals.turns) }
     ensures rises { RisesUpTo (C.played crew.old) (C.played crew.new) (game.old.field.world.ids * (rounds - game.old.done)) }
 {
-    // A crew's count is a u64, so it doesn't change where there is no round.
+    // A crew's count is a u64, so it doesn't change if there is no round.
     let _count = crew.turns();
     let _window = game.window();
     let done = game.done();
@@ -168,7 +168,7 @@ fn play_rounds<C: Crew, K: Sink>(
     Ok(())
 }
 
-// Plays one round of a game, and pushes its dump, if that round is chosen.
+// Plays one round of a game, and pushes its dump if that round is chosen.
 fn play_round<C: Crew, K: Sink>(
     alloc: Global,
     crew: &mut C,
@@ -188,7 +188,7 @@ fn play_round<C: Crew, K: Sink>(
     Ok(())
 }
 
-// Pushes the score of a world, and the counts where they are asked for.
+// Pushes the score of a world, and the counts if they are requested.
 fn push_end<K: Sink>(
     world: &World,
     totals: Totals,
@@ -204,7 +204,7 @@ fn push_end<K: Sink>(
     Ok(score)
 }
 
-// Pushes the counts where they are asked for.
+// Pushes the counts if they are requested.
 fn push_counts<K: Sink>(totals: Totals, stats: bool, sink: &mut K) -> Result<(), Failed>
     ensures { Pushed (K.state sink.old) (K.state sink.new) (counts_text stats totals) result }
 {

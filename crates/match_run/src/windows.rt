@@ -8,7 +8,7 @@ use dump_print::Totals;
 use round_book::{Counts, Crew, Field};
 use std::alloc::Global;
 
-// How far windows were played: the next turn, and what came of all turns so far.
+// How far windows were played: the next turn, and the counts of all turns so far.
 #[derive(Clone, Copy)]
 pub(crate) struct Progress {
     pub(crate) next: u32,
@@ -16,7 +16,7 @@ pub(crate) struct Progress {
 }
 
 impl Progress {
-    // One window further, which ends before turn `to`.
+    // One window further; it ends before turn `to`.
     fn after(self, to: u32, counts: &Counts) -> Progress
         requires forwards { self.next ≤ to }
         requires few { self.totals.turns + (to - self.next) < 2 ^ 63 }
@@ -36,7 +36,8 @@ impl Progress {
     }
 }
 
-// Plays the windows of the turns from `from` on to the end of the round, or up to the first that the crew refuses.
+// Plays the windows of the turns from `from` on to the end of the round, or up to the first window that the crew
+// refuses.
 pub(crate) fn play_windows<C: Crew>(
     alloc: Global,
     crew: &mut C,
@@ -57,7 +58,7 @@ pub(crate) fn play_windows<C: Crew>(
     ensures add_up { result.totals.taken + result.totals.redone ≡ result.totals.turns }
     ensures turns { C.played crew.new ≡ counted_on (C.played crew.old) (result.totals.turns - totals.turns) }
 {
-    // A crew's count is a u64, so it doesn't change where there is no turn.
+    // A crew's count is a u64, so it doesn't change if there is no turn.
     let _count = crew.turns();
     let ids = field.world().ant_count();
     let mut progress = Progress { next: from, totals };

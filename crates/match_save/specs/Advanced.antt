@@ -1,4 +1,4 @@
--- A saved game that goes on and is saved again (this project's own).
+-- A saved game that is continued and saved again (this project's own).
 use Rattle.std.specs.Prelude.{◌≡◌, ℕ, ◌-◌, ◌≤◌, Bool}
 use Rattle.ant_base.specs.Layout.{◌+++◌}
 use Rattle.ant_turn.specs.Minds.{Minds}
@@ -11,8 +11,8 @@ use Rattle.match_save.specs.Resumed.{IsOfGame, later_moment, later_world, moment
 use Rattle.match_save.specs.Saved.{IsSaved, SavedValue}
 use Rattle.match_save.specs.Saves.{Starts, grid_at, saved_after}
 
--- a save once so many rounds of its game are done in all: its place and its world are those after the later rounds, and
--- their turns are counted beside the earlier ones; its seed, its window and its brains stay as they are
+-- a save after this many rounds of its game are done in total: its place and its world are those after the later
+-- rounds, and their turns are added to the counts; its seed, its window and its brains are unchanged
 unfoldable pub advanced : SavedValue → ℕ → SavedValue
 advanced s rounds = record s {
   round = rounds;
@@ -21,22 +21,22 @@ advanced s rounds = record s {
   world = grid_at (later_world s (rounds - s.round));
 }
 
--- advanced, the save of a game after m rounds is its save after n; and so is each save that stands where a game led
+-- advanced, the save of a game after m rounds is its save after n; and the same holds for each save of a game
 pub record GamesAreAdvanced : Type 0 where
   pub game : (minds : Minds) (seed window m n : ℕ) (grid : Grid) → Starts minds seed window n grid → m ≤ n
       → advanced (saved_after minds seed window (world_of grid) m) n ≡ saved_after minds seed window (world_of grid) n
   pub of_game : (s : SavedValue) (w : World) (n : ℕ) → IsOfGame s w → s.round ≤ n
       → advanced s n ≡ saved_after s.minds s.seed s.window w n
 
--- advanced, a save is one, whether or not a game made it: at its own round it is as it was, and by two steps it is what
--- it is by one
+-- advanced, a save is one, whether or not a game made it: at its own round it is unchanged, and in two steps it is the
+-- same as in one
 pub record SavesAreAdvanced : Type 0 where
   pub saved : (s : SavedValue) (n : ℕ) → IsSaved s → s.round ≤ n → n ≤ most_rounds → IsSaved (advanced s n)
   pub at_once : (s : SavedValue) → IsSaved s → advanced s s.round ≡ s
   pub by_steps : (s : SavedValue) (n m : ℕ) → IsSaved s → s.round ≤ n → n ≤ m → advanced (advanced s n) m ≡ advanced s m
 
--- what is resumed of a save is the chosen dumps up to a later round, and then what is resumed of it advanced to this
--- round; and where it stands where a game led, it does so then
+-- the resumed text of a save is the chosen dumps up to a later round, and then the resumed text of the save advanced to
+-- this round; and if the save is one of a game, so is the advanced one
 pub record AdvancedSavesGoOn : Type 0 where
   pub text : (s : SavedValue) (n rounds : ℕ) (chosen : ℕ → Bool) (stats : Bool) → IsSaved s → s.round ≤ n → n ≤ rounds →
       resumed_text s rounds chosen stats

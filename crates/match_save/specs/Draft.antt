@@ -11,7 +11,7 @@ use Rattle.match_save.specs.declared.soil.Soil.{Soil}
 use Rattle.cell_world.specs.Limits.{least_size, most_ants, most_size, most_weight}
 
 -- what all lines say: the numbers, the instructions of both brains, and, in row order, the ground, the marks of both
--- colours and the food of each cell; and the ants that are alive
+-- colours and the food of each cell; and the living ants
 pub record Draft : Type 0 where
   pub head : Head
   pub red : List Instr

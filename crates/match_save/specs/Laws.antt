@@ -1,4 +1,4 @@
--- What holds of all texts (this project's own).
+-- Laws of all texts (this project's own).
 use Rattle.std.specs.Prelude.{◌≡◌, ◌⊎◌, ℕ, List}
 use Rattle.match_save.specs.declared.fault.SaveFault.{SaveFault}
 use Rattle.match_save.specs.Faulty.{IsSaveFault}

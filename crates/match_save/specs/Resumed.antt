@@ -1,4 +1,4 @@
--- A saved game that goes on (this project's own).
+-- A saved game that is continued (this project's own).
 use Rattle.std.specs.Prelude.{◌≡◌, ℕ, ◌+◌, ◌≤◌, Bool, true, List, None, Result, Ok, Err, ⊤}
 use Rattle.ant_base.specs.Layout.{◌+++◌}
 use Rattle.ant_base.specs.Sink.{SinkState}
@@ -14,38 +14,38 @@ use Rattle.match_run.specs.Run.{dumps_text}
 use Rattle.round_book.specs.Book.{FieldValue}
 use Rattle.match_save.specs.Saved.{SavedValue}
 
--- where a saved game stands
+-- the moment of a saved game: its world and its place
 abbrev pub moment_of : SavedValue → Moment
 moment_of s = record { world = world_of s.world; place = s.place }
 
--- where it stands after so many more rounds
+-- its moment after this many more rounds
 abbrev pub later_moment : SavedValue → ℕ → Moment
 later_moment s rounds = after_rounds s.minds s.seed (moment_of s) rounds
 
--- the world then
+-- its world then
 abbrev pub later_world : SavedValue → ℕ → World
 later_world s rounds = (later_moment s rounds).world
 
--- the text of its rest up to so many rounds in all: the dumps of the later rounds that are chosen, the score of the
--- end, and the counts of all rounds where they are asked for
+-- the text of its rest up to this many rounds in total: the dumps of the later rounds that are chosen, the score at the
+-- end, and the counts of all rounds if they are requested
 unfoldable pub resumed_text : SavedValue → ℕ → (ℕ → Bool) → Bool → List ℕ
 resumed_text s rounds chosen stats =
     later_text s.minds s.seed s.window (moment_of s) s.round s.totals rounds chosen stats
 
--- a save stands where so many rounds of a game that starts in w led, and counts their turns
+-- a save is at the moment after its rounds of a game that starts in w, and counts their turns
 pub record IsOfGame (s : SavedValue) (w : World) : Type 0 where
   pub moment : moment_of s ≡ after_rounds s.minds s.seed (start_of w) s.round
   pub totals : s.totals ≡ totals_of s.minds s.seed s.window (start_of w) s.round
 
--- the text of a run that is never broken off is the line of the seed, the chosen dumps up to the saved round, and the
--- rest of the save's
+-- the text of an uninterrupted run is the line of the seed, the chosen dumps up to the saved round, and the rest of the
+-- save's
 abbrev pub SavesGoOn : Type 0
 SavesGoOn =
     (s : SavedValue) (w : World) (rounds : ℕ) (chosen : ℕ → Bool) (stats : Bool) → IsOfGame s w → s.round ≤ rounds →
     whole_text s.minds s.seed rounds chosen s.window stats w
     ≡ seed_text s.seed +++ dumps_text s.minds s.seed chosen w (s.round + 1) +++ resumed_text s rounds chosen stats
 
--- where memory was wanting, nothing was pushed
+-- if memory ran out, nothing was pushed
 abbrev pub UnwrittenByMemory : {A : Type 0} → SinkState → SinkState → Result A PushFault → Type 0
 UnwrittenByMemory old new (Ok _) = ⊤
 UnwrittenByMemory old new (Err WriteFault) = ⊤

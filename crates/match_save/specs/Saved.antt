@@ -19,7 +19,7 @@ use Rattle.match_save.specs.Text.{draft_text}
 use Rattle.match_save.specs.Verdict.{IsDraftText}
 
 -- what a contract sees of a save: the seed, how many turns a window has, how many rounds are done, the place in the
--- stream, what came of the turns, both brains with their sheet, and the world
+-- stream, the counts of the turns, both brains with their sheet, and the world
 pub record SavedValue : Type 0 where
   pub seed : ℕ
   pub window : ℕ
@@ -45,7 +45,7 @@ head_of s = record {
   height = s.world.height;
 }
 
--- the ground of a clear cell of this hill, if it is of one
+-- the ground of a clear cell of this hill, if it belongs to one
 abbrev pub soil_of_clear : Option Colour → Soil
 soil_of_clear None = Clear
 soil_of_clear (Some Red) = RedHill
@@ -60,7 +60,7 @@ abbrev pub placed_at : Pos → Option Ant → List PlacedAnt
 placed_at p None = []
 placed_at p (Some ant) = record { place = p; ant = ant } ∷ []
 
--- the ant of an id, if it is alive
+-- the ant with an id, if it is alive
 abbrev pub living_at : Grid → Option Pos → List PlacedAnt
 living_at g None = []
 living_at g (Some p) = placed_at p (cell_in g p).ant
@@ -87,7 +87,7 @@ draft_of s = record {
 unfoldable pub save_text : SavedValue → List ℕ
 save_text s = draft_text (draft_of s)
 
--- what every save keeps: its lines are in their forms and describe a state of a game, whose world is its own
+-- what holds of every save: its lines are in their forms and describe a state of a game, whose world is its own
 pub record IsSaved (s : SavedValue) : Type 0 where
   pub in_form : IsInForm (draft_of s)
   pub state : IsState (draft_of s)

@@ -17,7 +17,7 @@ use Rattle.match_run.specs.Game.{GameValue}
 use Rattle.match_save.specs.Resumed.{IsOfGame}
 use Rattle.match_save.specs.Saved.{IsSaved, SavedValue, save_text}
 
--- a game can be saved: it stands at the end of a round, it began at place 0, a window has at most 16,384 turns, and its
+-- a game can be saved: it is at the end of a round, it began at place 0, a window has at most 16,384 turns, and its
 -- world has as many ids as hill cells
 pub record CanBeSaved (game : GameValue) : Type 0 where
   pub at_end : game.next ≡ 0
@@ -25,8 +25,8 @@ pub record CanBeSaved (game : GameValue) : Type 0 where
   pub window : game.window ≤ 16384
   pub hills : hill_cells game.field.world.cells ≡ game.field.world.ids
 
--- the save of a game: its seed, its window, the rounds that are done, its place, what came of its turns, its brains and
--- its world
+-- the save of a game: its seed, its window, the rounds that are done, its place, the counts of its turns, its brains
+-- and its world
 abbrev pub save_of : GameValue → SavedValue
 save_of game = record {
   seed = game.field.seed;
@@ -47,7 +47,7 @@ cells_at w (suc n) = cells_at w n ++ w.cells (pos_at w.width n) ∷ []
 unfoldable pub grid_at : World → Grid
 grid_at w = record { width = w.width; height = w.height; ids = w.ids; cells = cells_at w (area w) }
 
--- the save of a game by the rules, which starts in w at place 0, after so many rounds, in windows of so many turns
+-- the save of a game by the rules, which starts in w at place 0, after this many rounds, in windows of this many turns
 unfoldable pub saved_after : Minds → ℕ → ℕ → World → ℕ → SavedValue
 saved_after minds seed window w rounds = record {
   seed = seed;
@@ -59,7 +59,7 @@ saved_after minds seed window w rounds = record {
   world = grid_at (after_rounds minds seed (start_of w) rounds).world;
 }
 
--- a game that starts on a world of some kinds, of which so many rounds can be saved
+-- a game that starts on the opening world of some kinds and can be saved after this many rounds
 pub record Starts (minds : Minds) (seed window rounds : ℕ) (grid : Grid) : Type 0 where
   pub kinds : List Kind
   pub plan : IsPlan grid.width grid.height kinds
@@ -75,7 +75,7 @@ pub record Starts (minds : Minds) (seed window rounds : ℕ) (grid : Grid) : Typ
   pub sized : window ≤ 16384
   pub short : rounds ≤ 1000000
 
--- the save of such a game is one, of this game
+-- the save of such a game is a save, and one of this game
 abbrev pub GamesAreSaved : Type 0
 GamesAreSaved = (minds : Minds) (seed window rounds : ℕ) (grid : Grid) → Starts minds seed window rounds grid
     → IsSaved (saved_after minds seed window (world_of grid) rounds)

@@ -1,4 +1,4 @@
--- The world that the lines of a save describe, and what every save keeps (this project's own).
+-- The world that the lines of a save describe, and what holds of every save (this project's own).
 use Rattle.std.specs.Prelude.{◌≡◌, ◌≢◌, ℕ, ◌+◌, ◌*◌, ◌<◌, ◌≤◌, Bool, true, false, List, [], ◌∷◌, length, Option, Some, None, slice_index_or, slice_set}
 use Rattle.std.specs.List.{AllByRecursion}
 use Rattle.brain_read.specs.declared.instr.Instr.{Instr}
@@ -14,28 +14,28 @@ use Rattle.match_save.specs.Draft.{Draft}
 use Rattle.match_save.specs.declared.soil.Soil.{Soil}
 use Rattle.match_save.specs.declared.soil.Soil.TheVariants.{Rock, Clear, RedHill, BlackHill}
 
--- whether it is rock
+-- whether a ground is rock
 abbrev pub is_rocky : Soil → Bool
 is_rocky Rock = true
 is_rocky Clear = false
 is_rocky RedHill = false
 is_rocky BlackHill = false
 
--- the colour of the hill of which it is
+-- the colour of the hill to which it belongs, if any
 abbrev pub hill_of : Soil → Option Colour
 hill_of Rock = None
 hill_of Clear = None
 hill_of RedHill = Some Red
 hill_of BlackHill = Some Black
 
--- whether it is of a hill
+-- whether it belongs to a hill
 abbrev pub is_hill : Soil → Bool
 is_hill Rock = false
 is_hill Clear = false
 is_hill RedHill = true
 is_hill BlackHill = true
 
--- how many cells are of a hill
+-- how many cells belong to a hill
 abbrev pub hill_count : List Soil → ℕ
 hill_count [] = 0
 hill_count (soil ∷ soils) = one_if (is_hill soil) + hill_count soils
@@ -71,7 +71,7 @@ abbrev pub with_ants : ℕ → List PlacedAnt → List Cell → List Cell
 with_ants width [] cells = cells
 with_ants width (it ∷ ants) cells = with_ants width ants (with_ant width it cells)
 
--- the world that the lines describe: as many ids as cells of a hill
+-- the world that the lines describe, with as many ids as hill cells
 unfoldable pub grid_of_draft : Draft → Grid
 grid_of_draft d = record {
   width = d.head.width;
@@ -89,11 +89,11 @@ abbrev pub program_of : Draft → Colour → List Instr
 program_of d Red = d.red
 program_of d Black = d.black
 
--- no ant of the list stands where this one does
+-- no ant of the list is on this one's cell
 abbrev pub StandsAlone : PlacedAnt → List PlacedAnt → Type 0
 StandsAlone it ants = AllByRecursion (λ (other : PlacedAnt). other.place ≢ it.place) ants
 
--- no two ants of the list stand on one cell
+-- no two ants of the list are on one cell
 abbrev pub StandApart : List PlacedAnt → Type 0
 StandApart [] = Unit {0}
 StandApart (it ∷ ants) = StandsAlone it ants × StandApart ants

@@ -12,7 +12,7 @@ use Rattle.match_save.specs.declared.head.Head.{Head}
 use Rattle.match_save.specs.declared.soil.Soil.{Soil}
 use Rattle.match_save.specs.declared.soil.Soil.TheVariants.{Rock, Clear, RedHill, BlackHill}
 
--- tokens, with one space between them
+-- tokens with one space between them
 abbrev pub spaced : List (List ℕ) → List ℕ
 spaced [] = []
 spaced (token ∷ []) = token
@@ -35,7 +35,7 @@ head_tokens h =
 unfoldable pub instruction_line : Instr → List ℕ
 instruction_line instruction = spaced (map field_text (fields_of instruction))
 
--- the lines of a brain, behind that of its name and its length
+-- the lines of a brain, after that of its name and its length
 abbrev pub program_lines : List ℕ → List Instr → List (List ℕ)
 program_lines name list = spaced (name ∷ decimal (length list) ∷ []) ∷ map instruction_line list
 
@@ -46,15 +46,15 @@ soil_byte Clear = 46
 soil_byte RedHill = 43
 soil_byte BlackHill = 45
 
--- the byte of a set of markers, of which marker i counts 2 to the power i
+-- the byte of a set of markers: marker i counts 2 to the power i
 abbrev pub marks_byte : ℕ → ℕ
 marks_byte set = 48 + set
 
--- the byte of an amount of food; `o` stands for all above 62
+-- the byte of an amount of food; `o` means any amount above 62
 abbrev pub food_byte : ℕ → ℕ
 food_byte food = if nat_le food 62 then 48 + food else 111
 
--- so many rows of this width, with a byte for each element of a list
+-- this many rows of this width, with a byte for each element of a list
 abbrev pub rows : {A : Type 0} → (A → ℕ) → ℕ → ℕ → List A → List (List ℕ)
 rows byte width zero list = []
 rows byte width (suc height) list = map byte (take width list) ∷ rows byte width height (drop width list)
@@ -63,7 +63,7 @@ rows byte width (suc height) list = map byte (take width list) ∷ rows byte wid
 abbrev pub food_tokens : ℕ → ℕ → ℕ → List (List ℕ)
 food_tokens width i food = codes "food" ∷ decimal (i % width) ∷ decimal (i / width) ∷ decimal food ∷ []
 
--- the lines of those amounts that have no byte of their own, of which the first is at number i in row order
+-- the lines of those amounts that have no byte of their own, if the first amount is at number i in row order
 abbrev pub food_lines : ℕ → ℕ → List ℕ → List (List ℕ)
 food_lines width i [] = []
 food_lines width i (food ∷ foods) =
@@ -97,7 +97,7 @@ cell_lines d =
 unfoldable pub draft_lines : Draft → List (List ℕ)
 draft_lines d = map spaced (head_tokens d.head) ++ (brain_lines d ++ (cell_lines d ++ ant_lines d.ants))
 
--- the text of lines, each of which is ended by LF
+-- the text of lines, each of which ends in LF
 abbrev pub text_of_lines : List (List ℕ) → List ℕ
 text_of_lines lines = flat_map (λ line. line ++ 10 ∷ []) lines
 

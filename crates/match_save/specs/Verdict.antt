@@ -4,7 +4,7 @@ use Rattle.ant_base.specs.Lines.{ends_in_lf, lines_of}
 use Rattle.match_save.specs.Draft.{Draft, IsInForm}
 use Rattle.match_save.specs.Text.{draft_lines}
 
--- a text has the lines of a save, each of them ended by LF
+-- a text has the lines of a save, each of which ends in LF
 pub record IsDraftText (text : List ℕ) (d : Draft) : Type 0 where
   pub in_form : IsInForm d
   pub lines : lines_of text ≡ draft_lines d
@@ -22,7 +22,7 @@ abbrev pub StopsBefore : List (List ℕ) → List (List ℕ) → Type 0
 StopsBefore before [] = (d : Draft) → IsInForm d → draft_lines d ≡ before → ⊥
 StopsBefore before (line ∷ later) = BeginSave (before ++ line ∷ []) → ⊥
 
--- the lines before one of this number are in their form, and it isn't
+-- the lines before the one with this number are in their form, and it isn't
 pub record IsFirstBad (text : List ℕ) (line : ℕ) : Type 0 where
   pub before : List (List ℕ)
   pub after : List (List ℕ)
@@ -31,7 +31,7 @@ pub record IsFirstBad (text : List ℕ) (line : ℕ) : Type 0 where
   pub stops : StopsBefore before after
   pub number : line ≡ length before + 1
 
--- all lines are those of a save, and no LF follows the last, which has this number
+-- all lines are those of a save, but the last, which has this number, doesn't end in LF
 pub record IsUnended (text : List ℕ) (line : ℕ) : Type 0 where
   pub draft : Draft
   pub in_form : IsInForm draft

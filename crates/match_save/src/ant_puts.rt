@@ -11,10 +11,10 @@ ghost use Rattle.match_save.specs.Inner.AntPuts.{PutsAll, PutsOne, is_free, weig
 
 use cell_world::{Cell, Ground, PlacedAnt, World};
 
-// What an ant weighs, and what one that carries food weighs besides.
+// The weight of an ant; one that carries food weighs one more.
 const ANT_WEIGHT: u64 = 9;
 
-// What ants weigh together.
+// The total weight of ants.
 pub fn weight_of_ants(ants: &[PlacedAnt]) -> u64
     requires { length ants.now ≤ 16384 }
     ensures { result ≡ weight_of_ants ants.now }
@@ -26,14 +26,14 @@ pub fn weight_of_ants(ants: &[PlacedAnt]) -> u64
     weight
 }
 
-// Whether a cell is clear, and no ant stands on it.
+// Whether a cell is clear and holds no ant.
 fn is_free(cell: &Cell) -> bool
     ensures { result ≡ is_free cell.now }
 {
     !cell.rocky && cell.ant.is_none()
 }
 
-// Puts an ant on its cell, if it can stand there.
+// Puts an ant on its cell, if it can be there.
 fn put_ant(world: &mut World, it: PlacedAnt) -> bool
     requires inside { IsInside world.old.width world.old.height it.place }
     requires light { weight (world_of world.old) + ant_weight (Some it.ant) ≤ most_weight }
@@ -54,12 +54,12 @@ fn put_ant(world: &mut World, it: PlacedAnt) -> bool
             ..cell
         },
     );
-    // Called for its clause: what is put leaves a world.
+    // Called for its clause: what is set leaves a world.
     let _width = world.width();
     true
 }
 
-// Puts ants, whose ids rise, on their cells in a world without ants, until one can't stand on its own.
+// Puts ants, whose ids rise, on their cells in a world without ants, until one can't be on its own.
 pub fn put_ants(world: &mut World, ants: &[PlacedAnt]) -> bool
     requires inside { AllByRecursion (λ it. IsInside world.old.width world.old.height it.place) ants.now }
     requires rise { IdsRise 0 ants.now }
@@ -67,7 +67,7 @@ pub fn put_ants(world: &mut World, ants: &[PlacedAnt]) -> bool
     requires light { weight (world_of world.old) + weight_of_ants ants.now ≤ most_weight }
     ensures { PutsAll world.old world.new ants.now result }
 {
-    // Called for its clause: the world keeps what every world keeps.
+    // Called for its clause: what holds of every world.
     let _width = world.width();
     for it in ants {
         if !put_ant(world, *it) {

@@ -1,4 +1,4 @@
-// The ants that are alive.
+// The living ants.
 ghost use Rattle.std.specs.Prelude.{◌≡◌, ◌<◌, ◌≤◌, IfOk, IfSome};
 ghost use Rattle.hex_geometry.specs.Direction.{dir_of};
 ghost use Rattle.match_save.specs.Inner.Answered.{ReadsAs, leaving, line_left};
@@ -32,7 +32,7 @@ fn colour_of(token: &[u8]) -> Option<Colour>
     None
 }
 
-// The colour that the next token names, or the token's number where it names none.
+// The colour that the next token names, or the token's number if it names none.
 fn next_colour(fields: &mut Fields) -> Result<Colour, usize>
     ensures { one colour_of fields.old ≡ leaving fields.new result }
 {
@@ -41,7 +41,7 @@ fn next_colour(fields: &mut Fields) -> Result<Colour, usize>
     colour_of(token).ok_or(at)
 }
 
-// The direction of this number.
+// The direction with this number.
 #[tactic(auto, using(crate::proofs::AntReads::dir_of_number))]
 fn facing_of(number: u64) -> Dir
     requires { number ≤ 5 }
@@ -62,7 +62,7 @@ fn next_mind(fields: &mut Fields) -> Result<(u64, (u64, (u64, u64))), usize>
     Ok((facing, (laden, (state, resting))))
 }
 
-// Where an ant stands, and its mind, by their numbers.
+// An ant's position, and its mind, by their numbers.
 fn next_body(
     fields: &mut Fields,
     width: u16,
@@ -79,7 +79,7 @@ fn next_body(
     Ok((x, (y, mind)))
 }
 
-// The ant that the next tokens say.
+// The ant in the next tokens.
 fn next_placed_ant(fields: &mut Fields, width: u16, height: u16) -> Result<PlacedAnt, usize>
     requires wide { 1 ≤ width }
     requires tall { 1 ≤ height }
@@ -119,7 +119,7 @@ fn ant_of(line: &[u8], width: u16, height: u16) -> Option<PlacedAnt>
     if fields.is_done() { Some(it) } else { None }
 }
 
-// The ant of a line, whose id is at least this one; or none, where it is the last line.
+// The ant of a line, whose id is at least this one; `None` if it is the last line.
 fn ant_or_end(line: &[u8], width: u16, height: u16, least: u32) -> Option<Option<PlacedAnt>>
     requires wide { 1 ≤ width }
     requires tall { 1 ≤ height }
@@ -137,7 +137,7 @@ fn ant_or_end(line: &[u8], width: u16, height: u16, least: u32) -> Option<Option
     }
 }
 
-// The next ant, whose id is at least this one; or none at the last line.
+// The next ant, whose id is at least this one; `None` at the last line.
 fn next_ant(
     lines: &mut SaveLines,
     width: u16,

@@ -18,7 +18,7 @@ use brain_read::Draft;
 use cell_world::PlacedAnt;
 use std::alloc::Global;
 
-// What all lines of a save say, each of them in its form.
+// What all lines of a save say, if each of them is in its form.
 #[derive(Drop)]
 pub struct SaveDraft {
     pub head: Head,
@@ -30,7 +30,7 @@ pub struct SaveDraft {
     pub red_marks: Vec<u8>,
     pub black_marks: Vec<u8>,
     pub foods: Vec<u32>,
-    // The ants that are alive, by rising id.
+    // The living ants, by rising id.
     pub ants: Vec<PlacedAnt>,
 }
 
@@ -43,7 +43,7 @@ fn read_brains(alloc: Global, lines: &mut SaveLines) -> Result<(Vec<Draft>, Vec<
     Ok((red, black))
 }
 
-// What lies on the cells, in row order.
+// The content of the cells, in row order.
 #[derive(Drop)]
 struct CellLists {
     soils: Vec<Soil>,
@@ -74,7 +74,7 @@ fn read_cells(
     })
 }
 
-// What stands behind the first eight lines, up to the last line.
+// What follows the first eight lines, up to the last line.
 fn read_body(alloc: Global, lines: &mut SaveLines, head: Head) -> Result<SaveDraft, SaveFault>
     requires wide { 1 ≤ head.width }
     requires tall { 1 ≤ head.height }
@@ -105,7 +105,7 @@ fn ends_in_lf(text: &[u8]) -> bool
     }
 }
 
-// Checks that no line is left, and that the last is ended.
+// Checks that no line is left, and that the last one ends in LF.
 fn check_end(lines: &mut SaveLines, is_ended: bool) -> Result<(), RefusedLine>
     ensures { line_end is_ended lines.old ≡ line_told result }
 {
@@ -120,7 +120,7 @@ fn check_end(lines: &mut SaveLines, is_ended: bool) -> Result<(), RefusedLine>
     }
 }
 
-// What all lines of a text say, where each is in its form.
+// What all lines of a text say, if each is in its form.
 pub fn read_draft(alloc: Global, text: &[u8]) -> Result<SaveDraft, SaveFault>
     requires { length text.now < 2 ^ 31 }
     ensures { TellsDraft (draft_of_text text.now) result }

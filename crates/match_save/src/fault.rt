@@ -1,4 +1,4 @@
-// Why a text is no save.
+// Why a text is not a save.
 ghost use Rattle.std.specs.Prelude.{◌≡◌};
 
 use ant_base::{AtLine, Failed, Layout, Sink, layout, show};
@@ -12,12 +12,12 @@ use std::fmt;
 pub enum SaveFault {
     /// The first line that isn't in its form.
     BadLine {
-        /// The line's number, from 1: of a line that is missing, that of the last line plus one.
+        /// The line's number, from 1. If a line is missing, it is the number of the last line plus one.
         line: u32,
     },
-    /// Each line is in its form, and together they describe no state of a game.
+    /// Each line is in its form, but together they describe no state of a game.
     BadState,
-    /// Memory could not be had.
+    /// Memory ran out.
     OutOfMemory,
 }
 
@@ -48,8 +48,8 @@ impl fmt::Display for SaveFault {
 
 impl Error for SaveFault {}
 
-/// The save has more rounds done than are to be played in all: this number (this project's own). It is no fault of the
-/// text, so the caller that sets the rounds compares them with `Saved::round`.
+/// The save has more rounds done than are requested in total: this number (this project's own). It is not a fault of
+/// the text, so the caller that sets the rounds compares them with `Saved::round`.
 #[derive(Clone, Copy, Debug, PartialEq, Eq)]
 pub struct AlreadyAt(pub u32);
 

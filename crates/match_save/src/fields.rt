@@ -37,14 +37,14 @@ pub fn is_text(bytes: &[u8], text: &str) -> bool
     text.as_bytes() == bytes
 }
 
-// How many pieces a line has at most.
+// The most pieces of a line.
 fn most_pieces(line: &[u8]) -> usize
     ensures { result ≡ length line.now + 1 }
 {
     line.len() + 1
 }
 
-// How many bytes stand before the first space.
+// How many bytes precede the first space.
 fn token_length(text: &[u8]) -> usize
     ensures first { result ≡ prefix_len (λ byte. not (byte == 32)) text.now }
     ensures within { result ≤ length text.now }
@@ -52,7 +52,7 @@ fn token_length(text: &[u8]) -> usize
     text.iter().take_while(|byte| **byte != b' ').count()
 }
 
-// The first token of a line, and what is left behind the space that follows it, if one does.
+// The first token of a line, and what follows the space after it, if there is one.
 fn cut_token(text: &[u8]) -> (&[u8], Option<&[u8]>)
     ensures { pieces text.now ≡ result.0.now ∷ pieces_left result.1 }
 {
@@ -68,7 +68,7 @@ impl<'t> Fields<'t> {
     pub fn new(line: &'t [u8]) -> Self
         ensures { result ≡ record { number = 0; items = pieces line.now } }
     {
-        // Called for its clause: a line has fewer fields than the counter can count.
+        // Called for its clause: a line has no more fields than the counter can count.
         let _most = most_pieces(line);
         Fields {
             rest: Some(line),
@@ -83,7 +83,7 @@ impl<'t> Fields<'t> {
         self.number
     }
 
-    // The next token, or its number where there is none.
+    // The next token, or its number if there is none.
     pub fn take(&mut self) -> Result<&'t [u8], usize>
         ensures { next_element self.old ≡ leaving_slice self.new result }
     {

@@ -1,4 +1,4 @@
-// The cells of a save's world before any ant stands on them.
+// The cells of a save's world without its ants.
 ghost use Rattle.std.specs.Prelude.{◌≡◌, ◌+◌, ◌*◌, ◌<◌, ◌≤◌, length, nat_eq, sum, IfOk};
 ghost use Rattle.std.specs.Int.{bit_at};
 ghost use Rattle.std.specs.List.{AllByRecursion};
@@ -20,7 +20,7 @@ impl Soil {
         matches!(self, Soil::Rock)
     }
 
-    // The colour of the hill to which it belongs, if it belongs to one.
+    // The colour of the hill to which it belongs, if any.
     fn hill(self) -> Option<Colour>
         ensures { result ≡ hill_of self }
     {
@@ -39,7 +39,7 @@ impl Soil {
     }
 }
 
-// How many cells are of a hill.
+// How many cells belong to a hill.
 pub fn hill_count(soils: &[Soil]) -> u32
     requires { length soils.now ≤ 262144 }
     ensures { result ≡ hill_count soils.now }
@@ -61,7 +61,7 @@ fn has_bit(set: u8, i: u8) -> bool
     set >> i & 1 == 1
 }
 
-// The same markers, and this one where its power of two is in a number.
+// The same markers, and this one if its power of two is in a number.
 fn with_marker(marks: Marks, set: u8, i: u8) -> Marks
     requires { i < 6 }
     ensures { result ≡ with_marker marks set i }
@@ -73,7 +73,7 @@ fn with_marker(marks: Marks, set: u8, i: u8) -> Marks
     }
 }
 
-// The markers whose powers of two this number adds up.
+// The markers whose powers of two add up to this number.
 fn marks_of(set: u8) -> Marks
     requires { set < 64 }
     ensures { result ≡ record { set = set } }
@@ -123,14 +123,15 @@ pub fn ground_cells(
     Ok(cells)
 }
 
-// Whether nothing lies on a cell.
+// Whether a cell has no food and no markers.
 fn is_empty_cell(cell: &Cell) -> bool
     ensures { result ≡ is_empty_cell cell.now }
 {
     cell.food == 0 && cell.red == Marks::none() && cell.black == Marks::none()
 }
 
-// Whether nothing lies on it if it is rock, and it is rock if it is on the rim; it has this number in row order.
+// Whether the cell with this number in row order has no food and no markers if it is rock, and is rock if it is on the
+// rim.
 fn is_sound_cell(width: u16, height: u16, number: usize, cell: &Cell) -> bool
     requires wide { 1 ≤ width }
     requires inside { number < width * height }
@@ -143,7 +144,7 @@ fn is_sound_cell(width: u16, height: u16, number: usize, cell: &Cell) -> bool
     }
 }
 
-// Whether this holds of all cells.
+// Whether this holds for all cells.
 pub fn are_sound_cells(width: u16, height: u16, cells: &[Cell]) -> bool
     requires wide { 1 ≤ width }
     requires full { length cells.now ≡ width * height }
@@ -157,7 +158,7 @@ pub fn are_sound_cells(width: u16, height: u16, cells: &[Cell]) -> bool
     true
 }
 
-// How much food lies on all cells.
+// The total food of all cells.
 pub fn food_sum(foods: &[u32]) -> u64
     requires { length foods.now ≤ 262144 }
     ensures { result ≡ sum foods.now }

@@ -10,7 +10,7 @@ use crate::save_lines::SaveLines;
 use cell_world::MOST_WEIGHT;
 use std::alloc::Global;
 
-// The value of a byte that stands for all amounts of food above 62.
+// The value of the byte for all amounts of food above 62.
 const HAS_LINE: u8 = 63;
 
 // The least food that has a line of its own.
@@ -19,7 +19,7 @@ const LEAST_LISTED: u64 = 63;
 // The most food of a world.
 const MOST_FOOD: u64 = MOST_WEIGHT as u64;
 
-// The food of a line that stands for the cell in this column and row.
+// The food of a line for the cell in this column and row.
 fn food_of(line: &[u8], x: usize, y: usize) -> Option<u32>
     ensures { result ≡ food_of x y line.now }
 {
@@ -43,7 +43,7 @@ fn food_of(line: &[u8], x: usize, y: usize) -> Option<u32>
     }
 }
 
-// The food of the cell with this number in row order, of whose byte this is the value.
+// The food of the cell with this number in row order; its byte has this value.
 fn food_at(lines: &mut SaveLines, width: u16, cell: usize, value: u8) -> Result<u32, RefusedLine>
     requires { 1 ≤ width }
     ensures { food_at width cell value lines.old ≡ line_left lines.new result }
@@ -57,7 +57,7 @@ fn food_at(lines: &mut SaveLines, width: u16, cell: usize, value: u8) -> Result<
     food_of(line, cell % columns, cell / columns).ok_or(RefusedLine(number))
 }
 
-// The food of the cells of whose bytes these are the values, behind what is there.
+// The food of the cells whose bytes have these values, after what is in the list.
 fn fill_foods(
     lines: &mut SaveLines,
     width: u16,

@@ -1,4 +1,4 @@
-// A saved game that goes on.
+// Saved games that are continued.
 ghost use Rattle.std.specs.Prelude.{◌≡◌, ◌+◌, ◌-◌, ◌*◌, ◌≤◌, IfOk, OnOk, false};
 ghost use Rattle.cell_world.specs.Score.{score_of};
 ghost use Rattle.match_run.specs.Dumps.{chooses};
@@ -18,20 +18,20 @@ use match_run::{Dumps, Game, GameAlone, PlayFault, play_on, play_on_alone};
 use round_book::{Crew, Field, lemma_valid};
 use std::alloc::Global;
 
-/// Goes on with a saved game by any crew until this number of rounds is done in all, and pushes the rest of its text:
+/// Continues a saved game by any crew until this number of rounds is done in total, and pushes the rest of its text:
 /// the dump after each later round that is selected, in order, the score, and, if requested, the counts of all rounds
-/// (this project's own). What was pushed before the save and this rest are together the text of the run that was never
-/// interrupted: the law `saves_go_on`.
+/// (this project's own). What was pushed before the save and this rest are together the text of the run without an
+/// interruption: the law `saves_go_on`.
 ///
-/// The rounds are at most 1,000,000, and at least those that are done. It returns the score at the end; then the crew's
-/// count of turns has risen by the number of ids times the later rounds, or is the largest value. It fails if the sink
-/// failed and its count of faults rose; then a prefix of the text was pushed. Or it fails because memory ran out; then
-/// a proper prefix was pushed. In both cases the crew's count has risen by at most that of the later rounds. The save
-/// stays unchanged.
+/// The number of rounds is at most 1,000,000, and at least the number of those that are done. It returns the score at
+/// the end; then the crew's count of turns has risen by the number of ids times the later rounds, or is the largest
+/// `u64`. It fails if the sink failed and its count of faults rose; then a prefix of the text was pushed. It also fails
+/// if memory ran out; then a proper prefix was pushed. In both cases the crew's count has risen by at most that of the
+/// later rounds. The save is unchanged.
 ///
-/// Given the save of `examples/one_ant.save`, which is at round 1, rounds 1 and no counts it pushes an empty line and
-/// `score: red 0 black 0`. Given rounds 2, all dumps and counts it pushes the dump after round 2, that score, and
-/// `turns 2 taken 2 redone 0`.
+/// For the save of `examples/one_ant.save`, which is at round 1, with 1 round and no counts it pushes an empty line and
+/// `score: red 0 black 0`. With 2 rounds, all dumps and counts it pushes the dump after round 2, that score, and `turns
+/// 2 taken 2 redone 0`.
 pub fn resume<C: Crew, K: Sink>(
     alloc: Global,
     crew: &mut C,
@@ -54,7 +54,7 @@ pub fn resume<C: Crew, K: Sink>(
     play_on(alloc, crew, &mut game, rounds, dumps, stats, sink)
 }
 
-// The game that stands where a save does.
+// The game of a save.
 fn game_of<'s>(alloc: Global, saved: &'s Saved) -> Result<Game<'s>, OutOfMemory>
     ensures { IfOk result (λ game. game ≡ game_at_round (field_of saved.now) saved.now.window saved.now.round saved.now.totals) }
 {
@@ -63,17 +63,17 @@ fn game_of<'s>(alloc: Global, saved: &'s Saved) -> Result<Game<'s>, OutOfMemory>
     Ok(Game::at_round(field, saved.window(), saved.round(), saved.totals()))
 }
 
-/// Goes on with a saved game by any crew until this number of rounds is done in all, and returns the save of it there
+/// Continues a saved game by any crew until this number of rounds is done in total, and returns the save of it there
 /// (this project's own). However many saves are made on the way, the last is the same: the laws `games_are_advanced`
 /// and `saves_are_advanced`.
 ///
-/// The rounds are at most 1,000,000, and at least those that are done. The seed, the window and both brains are those
-/// of the save, whatever game made it. Then the crew's count of turns has risen by the number of ids times the later
-/// rounds, or is the largest value. It fails only if memory runs out; the crew's count has then risen by at most that.
-/// The save stays unchanged.
+/// The number of rounds is at most 1,000,000, and at least the number of those that are done. The seed, the window and
+/// both brains are those of the save, whatever game made it. Then the crew's count of turns has risen by the number of
+/// ids times the later rounds, or is the largest `u64`. It fails only if memory runs out; the crew's count has then
+/// risen by at most that. The save is unchanged.
 ///
-/// Given the save of `examples/one_ant.save`, which is at round 1, and rounds 3 it returns one at round 3, with `taken
-/// 3 redone 0`, whose ant faces direction 3.
+/// For the save of `examples/one_ant.save`, which is at round 1, and 3 rounds it returns one at round 3, with `taken 3
+/// redone 0`, whose ant faces direction 3.
 pub fn advance<C: Crew>(
     alloc: Global,
     crew: &mut C,
@@ -94,7 +94,7 @@ pub fn advance<C: Crew>(
     save_of(alloc, &game)
 }
 
-// Plays so many more rounds of a game that is at the end of a round.
+// Plays this many more rounds of a game that is at the end of a round.
 fn play_rounds<C: Crew>(
     alloc: Global,
     crew: &mut C,
@@ -109,7 +109,7 @@ fn play_rounds<C: Crew>(
     ensures turns { OnOk result (C.played crew.new ≡ counted_on (C.played crew.old) (game.old.field.world.ids * rounds)) }
     ensures rises { RisesUpTo (C.played crew.old) (C.played crew.new) (game.old.field.world.ids * rounds) }
 {
-    // A crew's count is a u64, so it doesn't change where there is no round.
+    // A crew's count is a u64, so it doesn't change if there is no round.
     let _count = crew.turns();
     let _window = game.window();
     for _ in 0..rounds {
@@ -118,12 +118,12 @@ fn play_rounds<C: Crew>(
     Ok(())
 }
 
-/// Goes on with a saved game, as `resume` does if no counts are requested: it is played turn after turn, without looks
+/// Continues a saved game, as `resume` does if no counts are requested: it is played turn after turn, without looks
 /// (this project's own). Its text is the same, and it takes no more memory than a copy of the saved world.
 ///
-/// The rounds are at most 1,000,000, and at least those that are done. It returns the score at the end. It fails if the
-/// sink failed and its count of faults rose; then a prefix of the text was pushed. Or it fails because memory ran out;
-/// then nothing was pushed. The save stays unchanged.
+/// The number of rounds is at most 1,000,000, and at least the number of those that are done. It returns the score at
+/// the end. It fails if the sink failed and its count of faults rose; then a prefix of the text was pushed. It also
+/// fails if memory ran out; then nothing was pushed. The save is unchanged.
 pub fn resume_alone<K: Sink>(
     alloc: Global,
     saved: &Saved,
@@ -141,7 +141,7 @@ pub fn resume_alone<K: Sink>(
     Ok(play_on_alone(&mut game, rounds, dumps, sink)?)
 }
 
-// The game that stands where a save does, to be just played.
+// The game of a save, to be played alone.
 fn game_alone_of<'s>(alloc: Global, saved: &'s Saved) -> Result<GameAlone<'s>, OutOfMemory>
     ensures { IfOk result (λ game. game ≡ game_alone_of saved.now) }
 {

@@ -24,7 +24,7 @@ const MOST_COUNTED: u64 = 99_999_999_999;
 pub struct Head {
     // The seed of the random numbers.
     pub seed: u32,
-    // With how many foes around it an ant dies.
+    // How many foes around an ant kill it.
     pub surround: u8,
     // How much food a killed ant leaves.
     pub corpse: u8,
@@ -38,7 +38,7 @@ pub struct Head {
     pub place: u64,
     // How many turns were taken from looks.
     pub taken: u64,
-    // How many turns were done again.
+    // How many turns were executed again.
     pub redone: u64,
     // How many columns the world has.
     pub width: u16,
@@ -60,7 +60,7 @@ fn first_line(lines: &mut SaveLines) -> Result<(), RefusedLine>
     }
 }
 
-// The number between these two on a line, behind a word.
+// The number between these two on a line, after a word.
 fn named_number_of(line: &[u8], name: &str, least: u64, most: u64) -> Option<u64>
     ensures value { result ≡ named_number_of name.now least most line.now }
     ensures bounds { IfSome result (λ n. (least ≤ n) × (n ≤ most)) }
@@ -72,7 +72,7 @@ fn named_number_of(line: &[u8], name: &str, least: u64, most: u64) -> Option<u64
     if fields.is_done() { Some(number) } else { None }
 }
 
-// The number between these two on the next line, behind a word.
+// The number between these two on the next line, after a word.
 pub fn named_number(
     lines: &mut SaveLines,
     name: &str,

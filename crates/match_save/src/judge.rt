@@ -17,7 +17,7 @@ use brain_read::{Brain, Draft, Instr};
 use cell_world::{Colour, MOST_ANTS, MOST_WEIGHT, PlacedAnt, World};
 use std::alloc::Global;
 
-// Whether so many ids had these turns in the rounds that are done, and drew no more random numbers.
+// Whether this many ids had these turns in the rounds that are done, and drew no more random numbers than turns.
 fn has_turns(head: &Head, ids: u32) -> bool
     requires within { IsHead head.now }
     requires few { ids ≤ 16384 }
@@ -62,7 +62,7 @@ fn length_of(red: u32, black: u32, colour: Colour) -> u32
     }
 }
 
-// Whether the state of each ant is one of its colour's brain, which has so many.
+// Whether the state of each ant is one of its colour's brain, which has this many.
 fn are_fit(ants: &[PlacedAnt], red: u32, black: u32) -> bool
     ensures { result ≡ are_fit red black ants.now }
 {
@@ -74,7 +74,7 @@ fn are_fit(ants: &[PlacedAnt], red: u32, black: u32) -> bool
     true
 }
 
-// The world that the lines describe, with so many ids.
+// The world that the lines describe, with this many ids.
 fn world_of(alloc: Global, draft: &SaveDraft, ids: u32) -> Result<World, SaveFault>
     requires form { IsInForm (said draft.now) }
     requires ids { ids ≡ hill_count draft.now.soils.items }

@@ -1,4 +1,4 @@
-//! Checkpoints of games: the text of a save is read, judged and written, and the game goes on.
+//! Checkpoints of games: the text of a save is read, judged and written, and the game can be continued.
 #![tactic(auto)]
 
 mod ant_puts;

@@ -30,14 +30,14 @@ fn without_last(text: &[u8]) -> &[u8]
     text.split_at(text.len().saturating_sub(1)).0
 }
 
-// Whether two texts are the same.
+// Whether two texts are equal.
 fn are_same(text: &[u8], other: &[u8]) -> bool
     ensures { result ≡ bytes_eq text.now other.now }
 {
     text == other
 }
 
-// Prints an instruction into a sink; gives whether there was room for all.
+// Prints an instruction into a sink; returns whether there was room for all of it.
 fn prints(draft: Draft, sink: &mut MemSink) -> bool
     ensures { IfPrinted sink.old.held sink.new.held (instruction_text (drafted draft)) result }
 {
@@ -47,7 +47,7 @@ fn prints(draft: Draft, sink: &mut MemSink) -> bool
     }
 }
 
-// Whether an instruction is printed as this line stands.
+// Whether an instruction is printed exactly as this line.
 fn is_printed_as(alloc: Global, draft: Draft, line: &[u8]) -> Result<bool, OutOfMemory>
     ensures { IfOk result (λ same. same ≡ bytes_eq (instruction_line (drafted draft)) line.now) }
 {
@@ -61,7 +61,7 @@ fn is_printed_as(alloc: Global, draft: Draft, line: &[u8]) -> Result<bool, OutOf
     Ok(same)
 }
 
-// The instruction of a line, which is printed as the line stands.
+// The instruction of a line that is exactly how the instruction is printed.
 fn instruction_of(alloc: Global, line: &[u8]) -> Result<Option<Draft>, OutOfMemory>
     ensures { IfOk result (λ found. option_map drafted found ≡ instruction_of line.now) }
 {
@@ -85,7 +85,7 @@ fn next_instruction(alloc: Global, lines: &mut SaveLines) -> Result<Draft, SaveF
     }
 }
 
-// Reads so many instructions, and puts them behind those that are there.
+// Reads this many instructions, and adds them at the end of the list.
 fn fill_program(
     alloc: Global,
     lines: &mut SaveLines,
@@ -101,7 +101,7 @@ fn fill_program(
     Ok(())
 }
 
-// The instructions of a brain, behind the line of its name and its length.
+// The instructions of a brain, after the line of its name and its length.
 pub fn read_program(
     alloc: Global,
     lines: &mut SaveLines,

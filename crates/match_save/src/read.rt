@@ -14,11 +14,11 @@ use crate::judge::judge;
 use crate::saved::Saved;
 use std::alloc::Global;
 
-/// The save of a text of at most 4,194,304 bytes, or the text's fault (this project's own): the first line that isn't
-/// in its form, counted from 1, or that no line is bad and together they describe no state of a game.
+/// The save of a text of at most 4,194,304 bytes, or the text's fault (this project's own): the number of the first
+/// line that isn't in its form, counted from 1, or that all lines are in their form but describe no state of a game.
 ///
-/// Every text is that of one save or has one fault. `OutOfMemory` may be answered at any text; every other answer is
-/// the text's.
+/// Every text is that of one save or has one fault. `OutOfMemory` may be returned for any text; every other result
+/// follows from the text alone.
 pub fn read_saved(alloc: Global, text: &[u8]) -> Result<Saved, SaveFault>
     requires { length text.now ≤ longest }
     ensures saved { IfOk result (λ saved. IsSaveText text.now saved) }

@@ -1,15 +1,15 @@
-// What one byte of a row says of its cell.
+// What one byte of a row says about its cell.
 ghost use Rattle.std.specs.Prelude.{◌≡◌, Option, ℕ};
 ghost use Rattle.match_save.specs.Inner.Reading.{soil_of, value_of_byte};
 
 use crate::soil::Soil;
 
-// What one byte of a row says of its cell.
+// What one byte of a row says about its cell.
 pub trait RowCell: Copy + Drop {
-    // What a byte says, if it is one of the row's.
+    // The meaning of a byte, if the row can have it.
     ghost of_byte: { ℕ → Option Self };
 
-    // What this byte says, if it is one of the row's.
+    // The meaning of this byte, if the row can have it.
     fn of_byte(byte: u8) -> Option<Self>
         ensures { result ≡ of_byte byte };
 }

@@ -8,7 +8,7 @@ use crate::row_cell::RowCell;
 use crate::save_lines::SaveLines;
 use std::alloc::Global;
 
-// Reads the line of this number, which should be a row of so many cells, and puts them behind those that are there.
+// Reads the line with this number, which should be a row of this many cells, and adds them at the end of the list.
 fn push_row<T: RowCell>(
     line: &[u8],
     number: u32,
@@ -29,7 +29,7 @@ fn push_row<T: RowCell>(
     Ok(())
 }
 
-// Reads the next line, which should be a row of so many cells, and puts them behind those that are there.
+// Reads the next line, which should be a row of this many cells, and adds them at the end of the list.
 fn next_row<T: RowCell>(
     lines: &mut SaveLines,
     width: u16,
@@ -42,7 +42,7 @@ fn next_row<T: RowCell>(
     push_row(line, number, width, cells)
 }
 
-// Reads so many rows, and puts their cells behind those that are there.
+// Reads this many rows, and adds their cells at the end of the list.
 fn fill_rows<T: RowCell>(
     lines: &mut SaveLines,
     width: u16,
@@ -57,7 +57,7 @@ fn fill_rows<T: RowCell>(
     Ok(())
 }
 
-// The cells of so many rows, one row after another.
+// The cells of this many rows, one row after another.
 pub fn read_rows<T: RowCell>(
     alloc: Global,
     lines: &mut SaveLines,

@@ -46,7 +46,7 @@ impl<'t> SaveLines<'t> {
         self.number
     }
 
-    // The next line, or its number where there is none.
+    // The next line, or its number if there is none.
     pub fn take(&mut self) -> Result<&'t [u8], RefusedLine>
         ensures { next_element self.old ≡ line_left_slice self.new result }
     {

@@ -1,4 +1,4 @@
-// A save: a game between two rounds, with all that it takes to go on.
+// A save: a game between two rounds, with everything that is needed to continue it.
 ghost use Rattle.std.specs.Prelude.{◌≡◌, ◌*◌, ◌<◌, ◌≤◌};
 ghost use Rattle.ant_turn.specs.Minds.{minds_of};
 ghost use Rattle.match_save.specs.Inner.Made.{made_saved};
@@ -11,13 +11,13 @@ use cell_world::World;
 use dump_print::Totals;
 use std::marker::Model;
 
-/// A save (this project's own): a game at the end of a round, which began at place 0 of its stream, with all that it
-/// takes to go on: its seed, its window, the round, the place, what came of the turns, both brains with their sheet,
-/// and the world.
+/// A save (this project's own): a game at the end of a round, which began at place 0 of its stream, with everything
+/// that is needed to continue it: its seed, its window, the round, the place, the counts of the turns, both brains with
+/// their sheet, and the world.
 ///
 /// At most 1,000,000 rounds are done; a window has from 1 to 16,384 turns; the world has as many ids as hill cells;
-/// every ant fits its brain; no more random numbers were drawn than there were turns, and these are the ids times the
-/// rounds.
+/// every ant fits its brain; the number of turns is that of the ids times the rounds, and no more random numbers were
+/// drawn.
 #[derive(Drop)]
 pub struct Saved {
     seed: u32,
@@ -153,7 +153,7 @@ impl Saved {
         self.window
     }
 
-    // What came of the turns.
+    // The counts of the turns.
     pub(crate) fn totals(&self) -> Totals
         ensures { result ≡ self.now.totals }
     {

@@ -1,4 +1,4 @@
-// Saves that are made of games.
+// Saves of games.
 ghost use Rattle.std.specs.Prelude.{◌≡◌, ◌<◌, ◌≤◌, IfOk};
 ghost use Rattle.std.specs.List.{AllByRecursion};
 ghost use Rattle.brain_read.specs.Forms.{HasBound};
@@ -19,7 +19,7 @@ use std::alloc::Global;
 
 /// The save of a game at its current round (this project's own). The game is at the end of a round, it began at place
 /// 0, its window has at most 16,384 turns, and its world has one hill cell per id, as every opening world has. The game
-/// stays unchanged. It fails only if memory runs out.
+/// is unchanged. It fails only if memory runs out.
 pub fn save_of(alloc: Global, game: &Game<'_>) -> Result<Saved, OutOfMemory>
     requires { CanBeSaved game.now }
     ensures { IfOk result (λ saved. saved ≡ save_of game.now) }
@@ -61,7 +61,7 @@ fn head_of(game: &Game<'_>) -> Head
     }
 }
 
-// The bound of each Flip is a number of 32 bits.
+// The bound of each Flip fits 32 bits.
 fn bounds_are_short(brain: &Brain)
     ensures { AllByRecursion HasBound brain.now }
 {
@@ -70,12 +70,12 @@ fn bounds_are_short(brain: &Brain)
     }
 }
 
-// The bound of a Flip is a number of 32 bits.
+// The bound of a Flip fits 32 bits.
 fn bound_is_short(_instruction: Instr)
     ensures { HasBound _instruction }
 {}
 
-// Each ant that is alive rests for at most 255 turns.
+// Each living ant rests for at most 255 turns.
 fn rests_are_short(world: &World)
     ensures rests { AllByRecursion (λ it. it.ant.resting ≤ 255) (living world.now world.now.ids) }
     ensures world { IsWorld world.now }
@@ -85,7 +85,7 @@ fn rests_are_short(world: &World)
     }
 }
 
-// The ant of an id, if it is alive, rests for at most 255 turns.
+// The ant with an id, if it is alive, rests for at most 255 turns.
 fn rest_is_short(world: &World, id: u32)
     ensures { AllByRecursion (λ it. it.ant.resting ≤ 255) (living_at world.now (place_in (world_of world.now) id)) }
 {

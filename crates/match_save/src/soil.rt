@@ -1,6 +1,6 @@
 // The ground of a cell.
 
-// What a cell is, whatever lies or stands on it.
+// What a cell is, without what is on it.
 #[derive(Clone, Copy)]
 pub enum Soil {
     Rock,

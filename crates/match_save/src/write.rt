@@ -21,7 +21,7 @@ use hex_geometry::{Pos, pos_at};
 // How many markers a colour has.
 const MARKERS: u8 = 6;
 
-/// Pushes the text of a save, which is read as this save again (this project's own). At `Failed` a prefix of it was
+/// Pushes the text of a save, which is read back as this save (this project's own). At `Failed` a prefix of it was
 /// appended, and the sink's count of faults rose. It takes no memory.
 pub fn write_saved<K: Sink>(saved: &Saved, sink: &mut K) -> Result<(), Failed>
     ensures pushed { Pushed (K.state sink.old) (K.state sink.new) (save_text saved.now) result }
@@ -31,7 +31,7 @@ pub fn write_saved<K: Sink>(saved: &Saved, sink: &mut K) -> Result<(), Failed>
     push_written(saved, sink)
 }
 
-// Pushes it part after part.
+// Pushes it part by part.
 #[tactic(auto, unfolding(crate::specs::Inner::Written::written))]
 fn push_written<K: Sink>(saved: &Saved, sink: &mut K) -> Result<(), Failed>
     ensures { Pushed (K.state sink.old) (K.state sink.new) (written saved.now) result }
@@ -129,7 +129,7 @@ impl Layout for Byte {
     }
 }
 
-// What a row says of each of its cells in one byte.
+// What a row says about each of its cells, in one byte.
 trait CellByte: Copy + Drop {
     ghost byte: { Cell → ℕ };
 
@@ -207,7 +207,7 @@ fn set_of(marks: Marks) -> u8
     set
 }
 
-// The same number, and the power of two of a marker where it is set.
+// The same number, and the power of two of a marker if it is set.
 fn with_power(marks: Marks, set: u8, i: u8) -> u8
     requires { i < 6 }
     ensures { result ≡ with_power marks set i }
@@ -269,7 +269,7 @@ impl<B: CellByte> NumberedTexts for Rows<'_, B> {
     }
 }
 
-// The lines of food that has no byte of its own.
+// The lines of food amounts that have no byte of their own.
 #[derive(Clone, Copy)]
 struct FoodLines<'w>(&'w World);
 
@@ -349,7 +349,7 @@ impl Layout for AntLine {
     }
 }
 
-// The lines of the ants that are alive, by id.
+// The lines of the living ants, by id.
 #[derive(Clone, Copy)]
 struct AntLines<'w>(&'w World);
 

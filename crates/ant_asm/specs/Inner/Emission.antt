@@ -1,4 +1,4 @@
--- The instructions of a program, one after another, where numbers take the place of addresses.
+-- The instructions of a program, one after another, with numbers instead of addresses.
 use Rattle.std.specs.Prelude.{ℕ, zero, suc, ◌+◌, ◌==◌, List, [], ◌∷◌, ◌++◌, map, if◌then◌else◌, slice_index_or}
 use Rattle.brain_read.specs.declared.instr.Instr.{Instr}
 use Rattle.ant_asm.specs.declared.action.Label.{Label}
@@ -15,8 +15,7 @@ offset (suc k) End = 0
 offset (suc k) (Do action others) = suc (offset k others)
 offset (suc k) (Use handed block others) = size_of block + offset k others
 
--- the numbers of a body that is put in place: of its first instruction, of what follows it, and of what is handed for
--- its parameters
+-- the numbers of a body in use: of its first instruction, of what follows it, and those given for its parameters
 pub record Numbers : Type 0 where
   pub base : ℕ
   pub after : ℕ
@@ -33,7 +32,7 @@ number_target items numbers k Next = number_first items numbers (suc k)
 number_target items numbers k (Place j) = number_first items numbers j
 number_target items numbers k (Parameter i) = slice_index_or numbers.given i numbers.after
 
--- the numbers of a block that the k-th item puts in place
+-- the numbers of a block that the k-th item uses
 abbrev pub inner_numbers : Items → Numbers → ℕ → List Label → Numbers
 inner_numbers items numbers k handed = record {
   base = numbers.base + offset k items;
@@ -41,7 +40,7 @@ inner_numbers items numbers k handed = record {
   given = map (number_target items numbers k) handed;
 }
 
--- the instructions of some items of a body, the first of which is its k-th
+-- the instructions of some items of a body, beginning with the k-th
 abbrev pub emitted : Items → Items → Numbers → ℕ → List Instr
 emitted End body numbers k = []
 emitted (Do action others) body numbers k =
@@ -53,8 +52,8 @@ emitted (Use handed block others) body numbers k =
 abbrev pub main_numbers : Numbers
 main_numbers = record { base = 0; after = 0; given = [] }
 
--- the number of an address in a body of these items, by the way that leads to it: the first number is a place, the
--- items from it are these, and so many instructions stand before them
+-- the number of an address in a body with these items, by the way that leads to it: the first number is a place, the
+-- items from there on are these, and this many instructions precede them
 abbrev pub number_walk : Address → ℕ → Items → ℕ
 number_walk [] before items = before
 number_walk (k ∷ address) before End = before

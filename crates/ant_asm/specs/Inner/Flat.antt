@@ -17,13 +17,13 @@ use Rattle.ant_asm.specs.Inner.Emission.{Numbers, number_target, offset}
 abbrev pub most : ℕ
 most = 10000
 
--- the items of a body, where the blocks have these items
+-- the items of a body, if the blocks have these items
 abbrev pub tree_of : List Items → List Item → Items
 tree_of trees [] = End
 tree_of trees (Item.Do action ∷ items) = Do action (tree_of trees items)
 tree_of trees (Item.Use block handed ∷ items) = Use handed.items (slice_index_or trees block End) (tree_of trees items)
 
--- the items of further bodies, behind those of the bodies before
+-- the items of further bodies, after those of the bodies before
 abbrev pub trees_from : List Items → List Body → List Items
 trees_from trees [] = trees
 trees_from trees (body ∷ bodies) = trees_from (trees ++ tree_of trees body.items.items ∷ []) bodies
@@ -32,17 +32,17 @@ trees_from trees (body ∷ bodies) = trees_from (trees ++ tree_of trees body.ite
 abbrev pub trees_of : List Body → List Items
 trees_of bodies = trees_from [] bodies
 
--- the items of the body of this number
+-- the items of the body with this number
 abbrev pub tree_at : List Body → ℕ → Items
 tree_at bodies number = slice_index_or (trees_of bodies) number End
 
--- a label of a body with so many parameters and items leads somewhere
+-- a label of a body with this many parameters and items leads somewhere
 abbrev pub IsGoodLabel : ℕ → ℕ → Label → Type 0
 IsGoodLabel parameters items Next = Unit {0}
 IsGoodLabel parameters items (Place j) = j ≤ items
 IsGoodLabel parameters items (Parameter i) = i < parameters
 
--- so do all labels of an instruction
+-- all labels of an instruction lead somewhere
 abbrev pub IsGoodAction : ℕ → ℕ → Action Label → Type 0
 IsGoodAction parameters items (Sense sight met unmet condition) =
     IsGoodLabel parameters items met × IsGoodLabel parameters items unmet
@@ -55,14 +55,14 @@ IsGoodAction parameters items (Move met unmet) = IsGoodLabel parameters items me
 IsGoodAction parameters items (Flip bound met unmet) =
     IsGoodLabel parameters items met × IsGoodLabel parameters items unmet
 
--- an item of the body of this number is good: a use is of a body before it, with a label for each of its parameters
+-- an item of the body with this number is good: a use is of an earlier body, with a label for each of its parameters
 abbrev pub IsGoodItem : List Body → ℕ → ℕ → ℕ → Item → Type 0
 IsGoodItem bodies number parameters items (Item.Do action) = IsGoodAction parameters items action
 IsGoodItem bodies number parameters items (Item.Use block handed) =
     (block < number) × AllByRecursion (IsGoodLabel parameters items) handed.items
     × ((body : Body) → slice_get bodies block ≡ Some body → length handed.items ≡ body.parameters)
 
--- the body of this number is good, and knows where its items start
+-- the body with this number is good, and knows where its items start
 pub record IsGood (bodies : List Body) (number : ℕ) (body : Body) : Type 0 where
   pub items : AllByRecursion (IsGoodItem bodies number body.parameters (length body.items.items)) body.items.items
   pub starts : (k : ℕ) → k ≤ length body.items.items
@@ -71,30 +71,30 @@ pub record IsGood (bodies : List Body) (number : ℕ) (body : Body) : Type 0 whe
   pub short : length body.items.items ≤ most
   pub few : size_of (tree_at bodies number) ≤ most
 
--- so are all bodies
+-- all bodies are good
 pub record AreGood (bodies : List Body) : Type 0 where
   pub each : (number : ℕ) (body : Body) → slice_get bodies number ≡ Some body → IsGood bodies number body
 
--- a number is a place of the body of this number
+-- a number is a place of the body with this number
 abbrev pub IsPlace : List Body → ℕ → ℕ → Type 0
 IsPlace bodies number place = (body : Body) → slice_get bodies number ≡ Some body → place ≤ length body.items.items
 
--- a number is the place of an item of the body of this number
+-- a number is the place of an item of the body with this number
 abbrev pub IsPlaceOfItem : List Body → ℕ → ℕ → Type 0
 IsPlaceOfItem bodies number place =
     (body : Body) → slice_get bodies number ≡ Some body → place < length body.items.items
 
--- a label is one of the body of this number
+-- a label is one of the body with this number
 abbrev pub IsLabelOf : List Body → ℕ → Label → Type 0
 IsLabelOf bodies number label =
     (body : Body) → slice_get bodies number ≡ Some body → IsGoodLabel body.parameters (length body.items.items) label
 
--- so are all labels of an instruction
+-- all labels of an instruction are
 abbrev pub IsActionOf : List Body → ℕ → Action Label → Type 0
 IsActionOf bodies number action =
     (body : Body) → slice_get bodies number ≡ Some body → IsGoodAction body.parameters (length body.items.items) action
 
--- labels are
+-- these labels are
 abbrev pub AreLabelsOf : List Body → ℕ → List Label → Type 0
 AreLabelsOf bodies number labels =
     (body : Body) → slice_get bodies number ≡ Some body
@@ -109,7 +109,7 @@ HasGiven bodies number frame =
 abbrev pub numbers_of : Frame → Numbers
 numbers_of frame = record { base = frame.base; after = frame.after; given = frame.given.now }
 
--- an item of a body of these that is put in place, where all its instructions have numbers
+-- an item of a body in use, all of whose instructions have numbers
 pub record IsSpot (spot : Spot) : Type 0 where
   pub good : AreGood spot.bodies.now
   pub known : spot.number < length spot.bodies.now

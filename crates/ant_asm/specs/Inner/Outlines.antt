@@ -25,11 +25,11 @@ outline_size (Labelled name others) = outline_size others
 outline_size (Instructed line others) = suc (outline_size others)
 outline_size (Used line name block others) = outline_size block + outline_size others
 
--- the most of them that the code tells
+-- the most that the code counts
 abbrev pub most_size : ℕ
 most_size = 65535
 
--- a line before others, where the blocks have these outlines
+-- a line before others, if the blocks have these outlines
 abbrev pub line_before : List Outline → NamedLine → Outline → Outline
 line_before blocks (NamedLine.Label name) others = Labelled name.items others
 line_before blocks (NamedLine.Instruction line) others = Instructed line others
@@ -45,7 +45,7 @@ lines_before blocks (line ∷ lines) others = line_before blocks line (lines_bef
 abbrev pub outline_in : List Outline → NamedBody → Outline
 outline_in blocks body = lines_before blocks body.lines.items Closed
 
--- further bodies, behind those before
+-- further bodies, after those before
 abbrev pub outlines_from : List Outline → List NamedBody → List Outline
 outlines_from blocks [] = blocks
 outlines_from blocks (body ∷ bodies) = outlines_from (blocks ++ outline_in blocks body ∷ []) bodies
@@ -54,37 +54,37 @@ outlines_from blocks (body ∷ bodies) = outlines_from (blocks ++ outline_in blo
 abbrev pub outlines_of : List NamedBody → List Outline
 outlines_of bodies = outlines_from [] bodies
 
--- the body of this number
+-- the body with this number
 abbrev pub outline_at : List NamedBody → ℕ → Outline
 outline_at bodies number = slice_index_or (outlines_of bodies) number Closed
 
--- a use is of one of so many blocks
+-- a use is of one of this many blocks
 abbrev pub IsUseBelow : ℕ → NamedLine → Type 0
 IsUseBelow count (NamedLine.Label name) = Unit {0}
 IsUseBelow count (NamedLine.Instruction line) = Unit {0}
 IsUseBelow count (NamedLine.Use line name block) = block < count
 
--- the places of the lines that aren't labels, where the first line has this place
+-- the places of the lines that aren't labels, if the first line has this place
 abbrev pub counted_from : ℕ → List NamedLine → List ℕ
 counted_from place [] = []
 counted_from place (NamedLine.Label name ∷ lines) = counted_from (suc place) lines
 counted_from place (NamedLine.Instruction line ∷ lines) = place ∷ counted_from (suc place) lines
 counted_from place (NamedLine.Use line name block ∷ lines) = place ∷ counted_from (suc place) lines
 
--- a body behind blocks of these outlines uses these alone, and tells its size, where that is at most so much, and the
--- places of its items
+-- a body after blocks with these outlines uses only these; it knows its size, if that is at most the most counted, and
+-- the places of its items
 pub record IsGoodNamed (blocks : List Outline) (body : NamedBody) : Type 0 where
   pub uses : AllByRecursion (IsUseBelow (length blocks)) body.lines.items
   pub counted : body.counted.items ≡ counted_from 0 body.lines.items
   pub size : outline_size (outline_in blocks body) ≤ most_size → body.size ≡ outline_size (outline_in blocks body)
 
--- so does each of some bodies
+-- each of these bodies does so
 abbrev pub AreGoodNamed : List Outline → List NamedBody → Type 0
 AreGoodNamed blocks [] = Unit {0}
 AreGoodNamed blocks (body ∷ bodies) =
     IsGoodNamed blocks body × AreGoodNamed (blocks ++ outline_in blocks body ∷ []) bodies
 
--- how many instructions a line of a body expands to, as the bodies tell it
+-- how many instructions a line of a body expands to, according to the bodies
 abbrev pub size_in : Option NamedBody → ℕ
 size_in None = 0
 size_in (Some body) = body.size
@@ -102,7 +102,7 @@ outline_in_map blocks (Some n) = Some (slice_index_or blocks n Closed)
 abbrev pub blocks_named : List NamedBody → List (Bor (List ℕ) × ℕ) → List ℕ → Option Outline
 blocks_named bodies entries name = outline_in_map (outlines_of bodies) (known_as entries name)
 
--- main, where these lines are left: what was read of it and of the block that has begun stands before them
+-- main, if these lines are left: what was read of it, and of the block that has begun, precedes them
 abbrev pub rest_around : List NamedBody → Option Around → NamedBody → (List ℕ → Option Outline) → List NumberedLine
     → Outline
 rest_around bodies None current blocks lines =
@@ -118,7 +118,7 @@ rest_of outlines lines =
     rest_around outlines.bodies.items outlines.around outlines.current
     (blocks_named outlines.bodies.items outlines.blocks.entries) lines
 
--- what the lines of a text say that have a token
+-- what those lines of a text that have a token say
 abbrev pub said_before : ℕ → Read Line → List NumberedLine → List NumberedLine
 said_before number (Ok line) others = At number line ∷ others
 said_before number (Err fault) others = others
@@ -130,11 +130,11 @@ said_by (line ∷ lines) = said_before line.number (read_line line.tokens) (said
 abbrev pub lines_said : List ℕ → List NumberedLine
 lines_said text = said_by (lines_with_tokens text)
 
--- the same of lines of which some have no token, and the first has this number
+-- the same for lines some of which have no token, if the first has this number
 unfoldable pub rest_from : Outlines → ℕ → List (List ℕ) → Outline
 rest_from outlines number lines = rest_of outlines (said_by (token_lines number lines))
 
--- main is good, where lines add to a block in it
+-- main is good, if lines are added to a block in it
 abbrev pub IsGoodAround : List Outline → Option Around → Type 0
 IsGoodAround blocks None = Unit {0}
 IsGoodAround blocks (Some around) = IsGoodNamed blocks around.main
@@ -159,12 +159,12 @@ pub record AreOutlinesOf (lines : List NumberedLine) (bodies : List NamedBody) :
   pub short : length bodies ≤ suc most_blocks
   pub main : outline_at bodies (main_of bodies) ≡ outline_of lines
 
--- the number to which a label leads that stands at this number, before so many instructions of its body
+-- the number to which a label at this number leads, before this many instructions of its body
 abbrev pub state_at : ℕ → ℕ → ℕ → ℕ
 state_at left at after = if left == 0 then after else at
 
--- the labels of a body itself, of which these lines are left, by the numbers of its next instruction and of what
--- follows the body
+-- the own labels of a body, of which these lines are left, by the numbers of its next instruction and of what follows
+-- the body
 abbrev pub own_states : Outline → ℕ → ℕ → List WayStep → List LabelState
 own_states Closed at after way = []
 own_states (Labelled name others) at after way =
@@ -177,7 +177,7 @@ own_states (Used line name block others) at after way = own_states others (at + 
 abbrev pub further : List WayStep → List ℕ → ℕ → List WayStep
 further way name line = way ++ (record { name = name; line = line }) ∷ []
 
--- the labels of the blocks that it puts in place
+-- the labels of the blocks that it uses
 abbrev pub inner_states : Outline → ℕ → ℕ → List WayStep → List LabelState
 inner_states Closed at after way = []
 inner_states (Labelled name others) at after way = inner_states others at after way
@@ -191,7 +191,7 @@ inner_states (Used line name block others) at after way =
 abbrev pub all_states : Outline → ℕ → ℕ → List WayStep → List LabelState
 all_states outline at after way = own_states outline at after way ++ inner_states outline at after way
 
--- where its instructions stand, one after another, from this number on
+-- the lines of its instructions, one after another, from this number on
 abbrev pub told_lines : Outline → ℕ → List WayStep → List StateLine
 told_lines Closed at way = []
 told_lines (Labelled name others) at way = told_lines others at way
@@ -200,7 +200,7 @@ told_lines (Instructed line others) at way =
 told_lines (Used line name block others) at way =
     told_lines block at (further way name line) ++ told_lines others (at + outline_size block) way
 
--- the labels of main and of all that it puts in place, and where their instructions stand
+-- the labels of main and of all bodies that it uses, and the lines of their instructions
 abbrev pub source_seen : List NamedBody → ReadSource
 source_seen bodies = record {
   labels = all_states (outline_at bodies (main_of bodies)) 0 0 [];
@@ -213,7 +213,7 @@ label_of (NamedLine.Label name) state way = (record { way = way; name = name.ite
 label_of (NamedLine.Instruction line) state way = []
 label_of (NamedLine.Use line name block) state way = []
 
--- the bodies are good, and main is one of them and comes to no more instructions than a brain has
+-- the bodies are good, main is one of them, and it expands to no more instructions than a brain may have
 pub record AreListed (bodies : List NamedBody) : Type 0 where
   pub good : AreGoodNamed [] bodies
   pub some : 1 ≤ length bodies

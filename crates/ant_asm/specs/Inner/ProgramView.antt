@@ -1,4 +1,4 @@
--- What the code has read so far of a program, as what stands above a line, and the reading of the lines that are left.
+-- What the code has read so far of a program, as the state above a line, and the reading of the lines that are left.
 use Rattle.std.specs.Prelude.{◌≡◌, ◌⊎◌, ℕ, ◌-◌, ◌<◌, ◌≤◌, List, [], ◌∷◌, length, Option, Some, None, Result, Ok, Err, slice_get}
 use Rattle.std.specs.Borrow.{Bor}
 use Rattle.line_tokens.specs.TokenLines.{TokenLine, token_lines}
@@ -18,7 +18,7 @@ use Rattle.ant_asm.specs.Inner.Reading.{Read, fault_at, read_line}
 use Rattle.ant_asm.specs.Inner.Scopes.{known_as}
 use Rattle.ant_asm.specs.Inner.View.{IsGoodOpen, open_seen, parameters_in}
 
--- the block of a number, if there is one
+-- the block with a number, if there is one
 abbrev pub block_in : List Body → Option ℕ → Option Block
 block_in bodies None = None
 block_in bodies (Some n) = Some (record { parameters = parameters_in (slice_get bodies n); items = tree_at bodies n })
@@ -27,7 +27,7 @@ block_in bodies (Some n) = Some (record { parameters = parameters_in (slice_get 
 abbrev pub blocks_seen : List Body → List (Bor (List ℕ) × ℕ) → List ℕ → Option Block
 blocks_seen bodies entries name = block_in bodies (known_as entries name)
 
--- main, where lines add to it or to a block in it
+-- main, if lines are added to it or to a block in it
 abbrev pub main_of : Option Outer → OpenBody → OpenBody
 main_of None current = current
 main_of (Some outer) current = outer.main
@@ -38,7 +38,7 @@ begun_seen trees None current = None
 begun_seen trees (Some outer) current =
     Some (record { name = outer.name.now; line = outer.line; draft = open_seen trees current })
 
--- what stands above a line
+-- the state above a line
 abbrev pub standing_of : List Body → Option Outer → OpenBody → List (Bor (List ℕ) × ℕ) → Option ℕ → Standing
 standing_of bodies outer current blocks unknown = record {
   main = open_seen (trees_of bodies) (main_of outer current);
@@ -72,12 +72,12 @@ pub record IsGoodProgram (program : Program) : Type 0 where
   pub outer : IsGoodOuter program.bodies.items program.outer
   pub main : (main_of program.outer program.current).parameters ≡ 0
 
--- a line without a fault leads from what stands above it to what stands below it
+-- a line without a fault leads from the state above it to the state below it
 pub record IsReadInto (above : Standing) (number : ℕ) (line : Line) (under : Standing) : Type 0 where
   pub free : place_fault above number line ≡ None
   pub is : under ≡ below above number line
 
--- what stands below a line without a fault, or its fault
+-- the state below a line without a fault, or its fault
 abbrev pub placed_or : Option AsmFault → Standing → Result Standing AsmFault
 placed_or None under = Ok under
 placed_or (Some fault) under = Err fault
@@ -98,15 +98,15 @@ reading above [] = Ok above
 reading above (line ∷ lines) =
     then_lines (stepped above line.number (read_line line.tokens)) (λ under. reading under lines)
 
--- the same of lines of which some have no token, and the first has this number
+-- the same for lines some of which have no token, if the first has this number
 unfoldable pub reading_from : Standing → ℕ → List (List ℕ) → Result Standing AsmFault
 reading_from above number lines = reading above (token_lines number lines)
 
--- an answer's fault is that of the reading, or out of memory
+-- a result's fault is that of the reading, or out of memory
 abbrev pub FailsAs : AsmFault → Result Standing AsmFault → Type 0
 FailsAs fault made = (made ≡ Err fault) ⊎ (fault ≡ OutOfMemory)
 
--- an answer's fault is the text's, or out of memory
+-- a result's fault is the text's, or out of memory
 abbrev pub FailsText : List ℕ → AsmFault → Type 0
 FailsText text fault = IsAsmFault text fault ⊎ (fault ≡ OutOfMemory)
 

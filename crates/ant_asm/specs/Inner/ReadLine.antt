@@ -1,4 +1,4 @@
--- What the code reads of a line, as it is seen.
+-- What the code reads from a line, as contracts see it.
 use Rattle.std.specs.Prelude.{◌≡◌, ◌⊎◌, ℕ, List, ◌++◌, map, Result, Ok, Err}
 use Rattle.std.specs.Borrow.{Bor}
 use Rattle.ant_asm.specs.declared.action.Action.{Action}
@@ -40,16 +40,16 @@ abbrev pub action_read : Result (Action Source) SpellingFault → Read Line
 action_read (Ok action) = Ok (Instructs (mapped seen action))
 action_read (Err fault) = Err fault
 
--- an answer's fault is that of what is read, or out of memory
+-- a result's fault is that of what is read, or out of memory
 abbrev pub StopsAs : {A : Type 0} → Read A → SpellingFault → Type 0
 StopsAs made fault = (made ≡ Err fault) ⊎ (fault ≡ OutOfMemory)
 
--- an answer is what is read, or out of memory
+-- a result is what is read, or out of memory
 abbrev pub ReadsAs : {A B : Type 0} → (B → A) → Read A → Result B SpellingFault → Type 0
 ReadsAs see made (Ok x) = made ≡ Ok (see x)
 ReadsAs see made (Err fault) = StopsAs made fault
 
--- a line is read so
+-- a line is read in this way
 abbrev pub Reads : Read Line → Result code_line.Line SpellingFault → Type 0
 Reads made result = ReadsAs line_seen made result
 

@@ -1,4 +1,4 @@
--- What is read of the tokens of a line.
+-- What is read from the tokens of a line.
 use Rattle.std.specs.Prelude.{ℕ, zero, suc, List, [], ◌∷◌, map, Option, Some, None, Result, Ok, Err, ◌==◌, if◌then◌else◌}
 use Rattle.std.specs.Borrow.{Bor}
 use Rattle.line_tokens.specs.declared.refusal.LineFault.{LineFault}
@@ -24,7 +24,7 @@ use Rattle.ant_asm.specs.Lines.{Keyword, Line, keywords, most_parameters, word_o
 use Rattle.ant_asm.specs.Lines.Keyword.{BlockWord, EndWord, UseWord}
 use Rattle.ant_asm.specs.Lines.Line.{Marks, Begins, Ends, Uses, Instructs}
 
--- how a label is seen
+-- a label as contracts see it
 abbrev pub seen : Source → Named
 seen Source.Next = NextWord
 seen (Source.Named name) = Name name.now
@@ -42,7 +42,7 @@ abbrev pub name_read : Result (Bor (List ℕ)) SpellingFault → Read (List ℕ)
 name_read (Ok name) = Ok name.now
 name_read (Err fault) = Err fault
 
--- a name that there may be
+-- a name that may be missing
 abbrev pub name_seen : Option (Bor (List ℕ)) → Option (List ℕ)
 name_seen None = None
 name_seen (Some name) = Some name.now
@@ -56,12 +56,12 @@ abbrev pub ◌>>=◌ : {A B : Type 0} → Read A → (A → Read B) → Read B
 (Ok x) >>= f = f x
 (Err fault) >>= f = Err fault
 
--- a call's answer beside the tokens that it left
+-- a call's result, with the tokens that are left after it
 abbrev pub with_rest : {A : Type 0} → List (List ℕ) → Read A → Step A
 with_rest rest (Ok x) = Ok (x, rest)
 with_rest rest (Err fault) = Err fault
 
--- what is wrong with a position, where its token has no bad byte
+-- what is wrong with a position whose token has no bad byte
 abbrev pub fault_spelled : LineFault → SpellingFault
 fault_spelled LineFault.UnknownWord = UnknownWord
 fault_spelled LineFault.MissingToken = MissingToken
@@ -72,12 +72,12 @@ fault_spelled LineFault.ExtraToken = ExtraToken
 abbrev pub spelling_of : Refusal → SpellingFault
 spelling_of refusal = if refusal.bad_byte then BadByte else fault_spelled refusal.fault
 
--- what is read as in a brain's text
+-- what is read in the same way in a brain's text
 abbrev pub lifted : {A : Type 0} → brain.Read A → Read A
 lifted (Ok x) = Ok x
 lifted (Err refusal) = Err (spelling_of refusal)
 
--- the fault of a line of this number
+-- the fault of a line with this number
 abbrev pub fault_at : ℕ → SpellingFault → asm.AsmFault
 fault_at line BadByte = asm_fault.BadByte line
 fault_at line UnknownWord = asm_fault.UnknownWord line
@@ -87,24 +87,24 @@ fault_at line ExtraToken = asm_fault.ExtraToken line
 fault_at line BadName = asm_fault.BadName line
 fault_at line OutOfMemory = asm_fault.OutOfMemory
 
--- what a token stands for, or what is wrong with it
+-- the meaning of a token, or what is wrong with it
 abbrev pub or_fault : {A : Type 0} → Option A → SpellingFault → Read A
 or_fault (Some x) fault = Ok x
 or_fault None fault = Err fault
 
--- a token that has no bad byte
+-- what a token gives, if it has no bad byte
 abbrev pub good_token : {A : Type 0} → List ℕ → Read A → Read A
 good_token token read = if has_bad_byte token then Err BadByte else read
 
--- the label that a token is
+-- the label of a token
 unfoldable pub read_label : List ℕ → Read Named
 read_label token = good_token token (or_fault (label_of token) BadName)
 
--- the name that a token is
+-- the name of a token
 unfoldable pub read_name : List ℕ → Read (List ℕ)
 read_name token = good_token token (or_fault (name_of token) BadName)
 
--- the next token, by what it is
+-- the next token, by its meaning
 abbrev pub take_token : {A : Type 0} → (List ℕ → Read A) → List (List ℕ) → Step A
 take_token read [] = Err MissingToken
 take_token read (token ∷ rest) = with_rest rest (read token)
@@ -114,13 +114,13 @@ abbrev pub put_before : {A : Type 0} → A → Step (List A) → Step (List A)
 put_before x (Ok others) = Ok (x ∷ others.0, others.1)
 put_before x (Err fault) = Err fault
 
--- the next tokens, at most so many
+-- the next tokens, at most this many
 abbrev pub take_all : {A : Type 0} → (List ℕ → Read A) → ℕ → List (List ℕ) → Step (List A)
 take_all read zero tokens = Ok ([], tokens)
 take_all read (suc n) [] = Ok ([], [])
 take_all read (suc n) (token ∷ rest) = read token >>= (λ x. put_before x (take_all read n rest))
 
--- the tokens of the line, at most so many
+-- the tokens of the line, at most this many
 abbrev pub all_read : {A : Type 0} → (List ℕ → Read A) → ℕ → List (List ℕ) → Read (List A)
 all_read read n tokens = take_all read n tokens >>= (λ others. lifted (take_end others.1) >>= (λ end. Ok others.0))
 
@@ -128,7 +128,7 @@ all_read read n tokens = take_all read n tokens >>= (λ others. lifted (take_end
 abbrev pub ending : Line → List (List ℕ) → Read Line
 ending line tokens = lifted (take_end tokens) >>= (λ end. Ok line)
 
--- what stands after `Sense`
+-- what follows `Sense`
 unfoldable pub read_sense : List (List ℕ) → Read Line
 read_sense tokens = do
   sight ← lifted (take_sight tokens)
@@ -137,34 +137,34 @@ read_sense tokens = do
   condition ← lifted (take_condition unmet.1)
   ending (Instructs (Sense sight.0 met.0 unmet.0 condition.0)) condition.1
 
--- what stands after `Mark` and `Unmark`: a marker and a label
+-- what follows `Mark` and `Unmark`: a marker and a label
 unfoldable pub read_marked : (ℕ → Named → Action Named) → List (List ℕ) → Read Line
 read_marked make tokens = do
   marker ← lifted (take_marker tokens)
   on ← take_token read_label marker.1
   ending (Instructs (make marker.0 on.0)) on.1
 
--- what stands after `PickUp` and `Move`: two labels
+-- what follows `PickUp` and `Move`: two labels
 unfoldable pub read_branches : (Named → Named → Action Named) → List (List ℕ) → Read Line
 read_branches make tokens = do
   met ← take_token read_label tokens
   unmet ← take_token read_label met.1
   ending (Instructs (make met.0 unmet.0)) unmet.1
 
--- what stands after `Drop`
+-- what follows `Drop`
 unfoldable pub read_drop : List (List ℕ) → Read Line
 read_drop tokens = do
   on ← take_token read_label tokens
   ending (Instructs (Drop on.0)) on.1
 
--- what stands after `Turn`
+-- what follows `Turn`
 unfoldable pub read_turn : List (List ℕ) → Read Line
 read_turn tokens = do
   side ← lifted (take_side tokens)
   on ← take_token read_label side.1
   ending (Instructs (Turn side.0 on.0)) on.1
 
--- what stands after `Flip`
+-- what follows `Flip`
 unfoldable pub read_flip : List (List ℕ) → Read Line
 read_flip tokens = do
   bound ← lifted (take_bound tokens)
@@ -172,7 +172,7 @@ read_flip tokens = do
   unmet ← take_token read_label met.1
   ending (Instructs (Flip bound.0 met.0 unmet.0)) unmet.1
 
--- what stands after the word of a form
+-- what follows the word of a form
 abbrev pub read_form : Form → List (List ℕ) → Read Line
 read_form Form.Sense tokens = read_sense tokens
 read_form Form.Mark tokens = read_marked Mark tokens
@@ -190,13 +190,13 @@ read_named read make tokens = do
   others ← all_read read most_parameters name.1
   Ok (make name.0 others)
 
--- what stands after a keyword
+-- what follows a keyword
 abbrev pub read_keyword : Keyword → List (List ℕ) → Read Line
 read_keyword BlockWord tokens = read_named read_name Begins tokens
 read_keyword EndWord tokens = ending Ends tokens
 read_keyword UseWord tokens = read_named read_label Uses tokens
 
--- a line whose first token is no first word of a form
+-- a line whose first token isn't the first word of a form
 abbrev pub read_mark : List ℕ → List (List ℕ) → Read Line
 read_mark token [] = or_fault (name_if (before_colon token)) UnknownWord >>= (λ name. Ok (Marks name))
 read_mark token (other ∷ rest) = Err UnknownWord

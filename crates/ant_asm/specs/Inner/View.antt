@@ -1,4 +1,4 @@
--- What the code has read so far, as what stands above a line.
+-- What the code has read so far, as the state above a line.
 use Rattle.std.specs.Prelude.{◌≡◌, ◌⊎◌, ℕ, ◌+◌, ◌<◌, ◌≤◌, List, [], ◌∷◌, ◌++◌, length, map, Option, Some, None, slice_get, slice_index_or}
 use Rattle.brain_read.specs.Forms.{IsInRange}
 use Rattle.ant_asm.specs.declared.action.Action.{Action}
@@ -21,11 +21,11 @@ use Rattle.ant_asm.specs.Inner.Reading.{seen}
 use Rattle.ant_asm.specs.Inner.ReadLine.{labels_seen}
 use Rattle.ant_asm.specs.Inner.Scopes.{known_as}
 
--- an answer's fault is this one, or out of memory
+-- a result's fault is this one, or out of memory
 abbrev pub FailsWith : AsmFault → Option AsmFault → Type 0
 FailsWith fault is = (is ≡ Some fault) ⊎ (fault ≡ OutOfMemory)
 
--- an item by names, where the blocks have these items
+-- an item with names, if the blocks have these items
 abbrev pub kind_seen : List Items → OpenKind → Item
 kind_seen trees (OpenKind.Do action) = Instruction (mapped seen action)
 kind_seen trees (OpenKind.Use block handed) = Call (labels_seen handed.items) (slice_index_or trees block End)
@@ -54,7 +54,7 @@ abbrev pub flat_of : code_item.Item → Flat
 flat_of (code_item.Item.Do action) = Acts action
 flat_of (code_item.Item.Use block handed) = Puts block handed.items
 
--- an item with what its labels stand for
+-- an item with the meanings of its labels
 abbrev pub flat_kind : (Named → Label) → OpenKind → Flat
 flat_kind way (OpenKind.Do action) = Acts (mapped (λ label. way (seen label)) action)
 flat_kind way (OpenKind.Use block handed) = Puts block (map (λ label. way (seen label)) handed.items)
@@ -65,20 +65,20 @@ flat_resolved way item = flat_kind way item.kind
 abbrev pub start_of : OpenItem → ℕ
 start_of item = item.start
 
--- how many parameters the block of a number has
+-- how many parameters the block with a number has
 abbrev pub parameters_in : Option Body → ℕ
 parameters_in None = 0
 parameters_in (Some body) = body.parameters
 
--- an item is of a block that there is, with a label for each parameter, or an instruction whose numbers are in their
--- ranges, and expands to so many instructions
+-- an item is a use of an existing block, with a label for each parameter, or an instruction whose numbers are in their
+-- ranges; and it expands to this many instructions
 abbrev pub IsGoodKind : List Body → ℕ → OpenKind → Type 0
 IsGoodKind bodies size (OpenKind.Do action) = IsInRange (instruction_by (λ label. 0) (mapped seen action)) × (size ≡ 1)
 IsGoodKind bodies size (OpenKind.Use block handed) =
     (block < length bodies) × (length handed.items ≡ parameters_in (slice_get bodies block))
     × (size ≡ size_of (tree_at bodies block)) × (1 ≤ size)
 
--- items are good, and start one after another, where so many instructions stand before them; all are so many
+-- items are good and start one after another, if this many instructions precede them; all of them expand to this many
 abbrev pub AreGoodItems : List Body → ℕ → List OpenItem → ℕ → Type 0
 AreGoodItems bodies before [] all = before ≡ all
 AreGoodItems bodies before (item ∷ items) all =
@@ -99,7 +99,7 @@ pub record IsNew (named : List (List ℕ)) (draft : OpenBody) : Type 0 where
   pub items : draft.items.items ≡ []
   pub size : draft.size ≡ 0
 
--- a body that was read is closed: its labels stand for what they stand for in it, and it knows where its items start
+-- a body that was read is closed: its labels have the meanings that they have in it, and it knows where its items start
 pub record IsClosedAs (draft : OpenBody) (body : Body) : Type 0 where
   pub parameters : body.parameters ≡ draft.parameters
   pub items : map flat_of body.items.items

@@ -33,18 +33,18 @@ rest_in blocks (Some body) k = lines_before blocks (lines_at body.lines.items (d
 abbrev pub rest_at : List NamedBody → Spot → Outline
 rest_at bodies spot = rest_in (outlines_of bodies) (slice_get bodies spot.number) spot.place
 
--- what a spot's body still tells of its instructions, and of the labels of the blocks that it puts in place
+-- what a spot's body still has to report: its instructions, and the labels of the blocks that it uses
 abbrev pub lines_from : List NamedBody → Spot → List WayStep → List StateLine
 lines_from bodies spot way = told_lines (rest_at bodies spot) spot.at way
 
 abbrev pub labels_from : List NamedBody → Spot → List WayStep → List LabelState
 labels_from bodies spot way = inner_states (rest_at bodies spot) spot.at spot.after way
 
--- the same of the bodies that were left at uses
+-- the same for the bodies that were left at uses
 abbrev pub left_in : {A : Type 0} → (Spot → List WayStep → List A) → List Level → List WayStep → List A
 left_in tell levels way = left_by step_of (λ level way. tell level.spot way) levels way
 
--- and of all
+-- the same for all
 abbrev pub left_of : {A : Type 0} → (Spot → List WayStep → List A) → Walk → List A
 left_of tell walk = tell walk.spot (steps_of walk.outer.items) ++ left_in tell walk.outer.items []
 
@@ -68,8 +68,7 @@ steps_after bodies (level ∷ levels) = steps_in (rest_at bodies level.spot) + s
 abbrev pub steps_left : Walk → ℕ
 steps_left walk = steps_in (rest_at walk.bodies.now walk.spot) + steps_after walk.bodies.now walk.outer.items
 
--- a spot in one of these bodies, on the way to which there are so many others: each has a lesser number than the one
--- round it
+-- a spot in one of these bodies, which is inside this many others: each has a lower number than the one around it
 pub record IsSpotIn (bodies : List NamedBody) (depth : ℕ) (spot : Spot) : Type 0 where
   pub known : depth + spot.number < length bodies
   pub ends : spot.at + outline_size (rest_at bodies spot) ≡ spot.end
@@ -94,7 +93,7 @@ pub record IsNext (bodies : List NamedBody) (spot : Spot) (line : NamedLine) (be
   pub below : IsUseBelow spot.number line
   pub rest : rest_at bodies spot ≡ line_before (outlines_of bodies) line (rest_at bodies behind)
 
--- what is told at a step
+-- what is reported at a step
 abbrev pub met_lines : Met → List WayStep → List StateLine
 met_lines Nothing way = []
 met_lines (Instruction at line) way = (record { state = at; line = line; way = way }) ∷ []

@@ -13,7 +13,7 @@ use Rattle.ant_asm.specs.Inner.Emission.{Numbers, emitted}
 use Rattle.ant_asm.specs.Inner.Flat.{most, tree_at}
 use Rattle.ant_asm.specs.Inner.Left.{left_by}
 
--- the numbers of a body that is put in place
+-- the numbers of a body in use
 abbrev pub numbers_in : Put → Numbers
 numbers_in put = record { base = put.base; after = put.after; given = put.given.items }
 
@@ -25,7 +25,7 @@ list_from bodies k put path =
 abbrev pub places_from : List Body → ℕ → Put → List ℕ → List Address
 places_from bodies k put path = places_of (from_place k (tree_at bodies put.number)) path k
 
--- the place of the item that comes next, or at which a body is put in place
+-- the place of the next item, or of the use at which a body is expanded
 abbrev pub place_in : Put → ℕ
 place_in put = put.place
 
@@ -56,13 +56,13 @@ abbrev pub nodes_left : List Body → Work → ℕ
 nodes_left bodies work =
     nodes_in (from_place work.top.place (tree_at bodies work.top.number)) + nodes_after bodies work.outer.items
 
--- one of these bodies, put in place where all its instructions have numbers
+-- one of these bodies, in use; all its instructions have numbers
 pub record IsPutIn (bodies : List Body) (put : Put) : Type 0 where
   pub known : put.number < length bodies
   pub given : (body : Body) → slice_get bodies put.number ≡ Some body → length put.given.items ≡ body.parameters
   pub fits : put.base + size_of (tree_at bodies put.number) ≤ most
 
--- so is each body round it, at one of its items
+-- the same for each body around it, at one of its items
 abbrev pub IsPutAt : List Body → Put → Type 0
 IsPutAt bodies put = IsPutIn bodies put × (put.place < most)
 

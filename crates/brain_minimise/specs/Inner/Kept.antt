@@ -5,7 +5,7 @@ use Rattle.ant_turn.specs.Renumber.{state_number, redirected}
 use Rattle.ant_turn.specs.Turn.{instruction_at}
 use Rattle.brain_minimise.specs.Minimised.{new_number}
 
--- the instruction at each number is that of a state that has it, with its successors renumbered
+-- the instruction with each number is that of a state with this number, with its successors renumbered
 pub record AreKept (brain : List Instr) (numbers : List (Option ℕ)) (kept : List Instr) : Type 0 where
   pub few : length kept ≤ length brain
   pub below : (state number : ℕ) → new_number numbers state ≡ Some number → number < length kept

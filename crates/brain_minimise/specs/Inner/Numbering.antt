@@ -1,4 +1,4 @@
--- Numbers of the classes of the seen states, in the order in which the states show them.
+-- Numbers of the classes of the seen states, in the order in which the classes first occur.
 use Rattle.std.specs.Prelude.{◌≡◌, ℕ, ◌<◌, Bool, true, List, length, slice_index, Option, Some, IsSome}
 use Rattle.ant_turn.specs.Renumber.{state_number}
 use Rattle.brain_minimise.specs.Inner.Seen.{is_seen}
@@ -21,7 +21,7 @@ pub record AreNumbers (classes : List ℕ) (seen : List Bool) (numbers : List (O
       → new_number numbers a ≡ new_number numbers b
   pub rising : IsRising numbers
 
--- the number of each state that has one, and the state itself elsewhere
+-- the number of each state that has one; otherwise the state itself
 pub record IsTable (numbers : List (Option ℕ)) (table : List ℕ) : Type 0 where
   pub each : length table ≡ length numbers
   pub entry : (state : ℕ) → state < length numbers → slice_index table state ≡ state_number (new_number numbers) state

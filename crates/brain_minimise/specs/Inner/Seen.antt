@@ -1,4 +1,4 @@
--- States that were seen, and those of which the successors weren't looked at yet.
+-- States that were seen, and those whose successors weren't visited yet.
 use Rattle.std.specs.Prelude.{◌≡◌, ℕ, Bool, true, false, List, [], ◌∷◌, ◌++◌, length, slice_index_or, if◌then◌else◌}
 use Rattle.brain_read.specs.declared.instr.Instr.{Instr}
 use Rattle.brain_minimise.specs.Reach.{IsReachable}
@@ -7,7 +7,7 @@ use Rattle.brain_minimise.specs.Reach.{IsReachable}
 abbrev pub is_seen : List Bool → ℕ → Bool
 is_seen seen state = slice_index_or seen state false
 
--- the waiting states, with this one where it wasn't seen before
+-- the waiting states, with this one if it wasn't seen before
 abbrev pub with_waiting : List ℕ → Bool → ℕ → List ℕ
 with_waiting waiting before state = if before then waiting else waiting ++ state ∷ []
 

@@ -1,4 +1,4 @@
--- The states that an instruction names, the first and the last of them: one state where it names one.
+-- The first and the last state that an instruction names; the same state twice if it names only one.
 use Rattle.std.specs.Prelude.{ℕ, ◌-◌, length, slice_index}
 use Rattle.brain_read.specs.declared.instr.Instr.{Instr}
 use Rattle.brain_read.specs.Grammar.{states_of}

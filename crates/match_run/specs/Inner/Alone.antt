@@ -14,7 +14,7 @@ moment_from grid stream = record { world = world_of grid; place = stream.place }
 abbrev pub LastsARound : SeedAndPlace → Type 0
 LastsARound stream = stream.place + most_ants < 2 ^ 63
 
--- one round more was played, with a random number for each turn at most
+-- one more round was played, with at most one random number for each turn
 pub record RoundTaken (minds : Minds) (old : Grid) (before : SeedAndPlace) (new : Grid)
     (after : SeedAndPlace) : Type 0 where
   pub moment : moment_from new after ≡ after_round minds before.seed (moment_from old before)

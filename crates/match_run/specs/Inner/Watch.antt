@@ -1,10 +1,10 @@
--- What is told of the turns of some ids, one after another.
+-- The reports of the turns of some ids, one after another.
 use Rattle.std.specs.Prelude.{ℕ, List, [], ◌∷◌, ◌++◌}
 use Rattle.ant_turn.specs.Minds.{Minds}
 use Rattle.ant_turn.specs.Rounds.{Moment, after_turn}
 use Rattle.match_run.specs.Told.{Telling}
 
--- what is told of the turns of these ids, each from the moment that those before it led to
+-- the reports of the turns of these ids, each from the moment after those before it
 abbrev pub told_in_listed : {A : Type 0} → Telling A → Minds → ℕ → Moment → List ℕ → List A
 told_in_listed telling minds seed m [] = []
 told_in_listed telling minds seed m (t ∷ ids) =

@@ -5,8 +5,8 @@ use Rattle.dump_print.specs.declared.totals.Totals.{Totals}
 use Rattle.round_book.specs.Book.{FieldValue, field_moment}
 use Rattle.match_run.specs.Counts.{both, sum_windows}
 
--- some windows of so many turns were played, of the turns of a field's round from `from` on: where that led, the next
--- turn, and what came of all turns so far
+-- some windows of this many turns were played, with the turns of a field's round from `from` on: the field after them,
+-- the next turn, and the counts of all turns so far
 pub record WindowsPlayed (old : FieldValue) (size from : ℕ) (totals : Totals) (new : FieldValue) (next : ℕ)
     (new_totals : Totals) : Type 0 where
   pub windows : ℕ

@@ -1,4 +1,4 @@
--- A saved game that is just played (this project's own).
+-- A saved game that is played alone (this project's own).
 use Rattle.match_run.specs.Alone.{GameAloneValue}
 use Rattle.match_save.specs.Saved.{SavedValue}
 

@@ -7,16 +7,16 @@ use Rattle.cell_world.specs.Cell.{ant_weight}
 use Rattle.cell_world.specs.Grid.{Grid, cell_in}
 use Rattle.match_save.specs.State.{with_ant, with_ants}
 
--- whether no ant stands here
+-- whether there is no ant
 abbrev pub is_nobody : Option Ant → Bool
 is_nobody None = true
 is_nobody (Some ant) = false
 
--- whether a cell is clear, and no ant stands on it
+-- whether a cell is clear and holds no ant
 abbrev pub is_free : Cell → Bool
 is_free cell = not cell.rocky && is_nobody cell.ant
 
--- an ant can stand at its place: the cell there is clear and holds no ant, and its id was made
+-- an ant can be at its place: the cell there is clear and holds no ant, and its id was assigned
 pub record CanStand (g : Grid) (it : PlacedAnt) : Type 0 where
   pub clear : (cell_in g it.place).rocky ≡ false
   pub free : (cell_in g it.place).ant ≡ None
@@ -30,22 +30,22 @@ standing g it = record g { cells = with_ant g.width it g.cells }
 abbrev pub all_standing : Grid → List PlacedAnt → Grid
 all_standing g ants = record g { cells = with_ants g.width ants g.cells }
 
--- each ant can stand once those before it do
+-- each ant can be at its place once those before it are
 abbrev pub CanAllStand : Grid → List PlacedAnt → Type 0
 CanAllStand g [] = Unit {0}
 CanAllStand g (it ∷ ants) = CanStand g it × CanAllStand (standing g it) ants
 
--- what ants weigh together
+-- the total weight of ants
 abbrev pub weight_of_ants : List PlacedAnt → ℕ
 weight_of_ants [] = 0
 weight_of_ants (it ∷ ants) = ant_weight (Some it.ant) + weight_of_ants ants
 
--- what putting an ant did: it stands where it can, and else can't
+-- what putting an ant did: it is at its place, or it can't be
 abbrev pub PutsOne : Grid → Grid → PlacedAnt → Bool → Type 0
 PutsOne old new it true = CanStand old it × (new ≡ standing old it)
 PutsOne old new it false = CanStand old it → ⊥
 
--- what putting ants did: they all stand where they can, and else can't
+-- what putting ants did: they are all at their places, or they can't be
 abbrev pub PutsAll : Grid → Grid → List PlacedAnt → Bool → Type 0
 PutsAll old new ants true = CanAllStand old ants × (new ≡ all_standing old ants)
 PutsAll old new ants false = CanAllStand old ants → ⊥

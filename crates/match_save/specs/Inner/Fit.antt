@@ -15,6 +15,6 @@ abbrev pub are_fit : ℕ → ℕ → List PlacedAnt → Bool
 are_fit red black [] = true
 are_fit red black (it ∷ ants) = nat_lt it.ant.state (length_of red black it.ant.colour) && are_fit red black ants
 
--- whether so many ids had these turns in the rounds that are done, and drew no more random numbers
+-- whether this many ids had these turns in the rounds that are done, and drew no more random numbers than turns
 abbrev pub has_turns : Head → ℕ → Bool
 has_turns head ids = nat_le head.place (ids * head.round) && (head.taken + head.redone == ids * head.round)

@@ -1,4 +1,4 @@
--- What judging the lines of a save answers.
+-- The results of judging the lines of a save.
 use Rattle.std.specs.Prelude.{◌≡◌, List, length, Result, Ok, Err, ℕ}
 use Rattle.brain_read.specs.declared.instr.Instr.{Instr}
 use Rattle.brain_read.specs.Grammar.{StatesBelow}
@@ -12,7 +12,7 @@ use Rattle.match_save.specs.Saved.{IsSaveText, SavedValue, saved_of}
 use Rattle.match_save.specs.State.{IsState, grid_of_draft}
 use Rattle.match_save.specs.Inner.State.{HasWorld}
 
--- what is refused can't be had; out of memory says nothing
+-- what is refused is impossible; out of memory says nothing
 abbrev pub Refutes : Type 0 → SaveFault → Type 0
 Refutes P (BadLine line) = ⊥
 Refutes P BadState = P → ⊥

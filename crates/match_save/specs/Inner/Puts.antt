@@ -11,8 +11,9 @@ use Rattle.cell_world.specs.World.{weight}
 use Rattle.match_save.specs.Draft.{IdsRise}
 use Rattle.match_save.specs.Inner.AntPuts.{CanAllStand, all_standing, weight_of_ants}
 
--- some ants were put into a world, which has its cells, and these are left: with them it is what it should become; they
--- can all stand where all could at first; their ids are above those that stand, and it stays light enough
+-- some ants were put into a world, which has all its cells, and these are left: with them it is what it should become;
+-- they can all be placed if all could at first; their ids are above those of the placed ones, and the world stays light
+-- enough
 pub record PutsOn (old now : Grid) (all left : List PlacedAnt) : Type 0 where
   pub full : length now.cells ≡ now.width * now.height
   pub becomes : all_standing now left ≡ all_standing old all

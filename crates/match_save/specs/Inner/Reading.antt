@@ -39,7 +39,7 @@ is_strict text =
     nat_le 1 (length text) && nat_le (length text) 11 && all_ascii_digits text
     && not (nat_lt 1 (length text) && (slice_index text 0 == 48))
 
--- its value
+-- the value of such a text
 unfoldable pub strict_value : List ℕ → Option ℕ
 strict_value text = if is_strict text then Some (digits_value 10 text) else None
 
@@ -47,11 +47,11 @@ strict_value text = if is_strict text then Some (digits_value 10 text) else None
 abbrev pub number : ℕ → ℕ → Reader (List ℕ) ℕ
 number least most = one (λ token. within least most (strict_value token))
 
--- a token that is this word, and what is read behind it
+-- a token that is this word, and what is read after it
 abbrev pub word : {A : Type 0} → List ℕ → Reader (List ℕ) A → Reader (List ℕ) A
 word text r = lead (bytes_eq text) r
 
--- this word is passed
+-- this word is taken
 abbrev pub led_by : List ℕ → Reader (List ℕ) (Unit {0})
 led_by text = word text (nothing tt)
 
@@ -64,7 +64,7 @@ is_none_left (token ∷ tokens) = false
 abbrev pub line_of : {A : Type 0} → Reader (List ℕ) A → Reader (List ℕ) A
 line_of r = one (λ line. whole r (pieces line))
 
--- the number between these two on a line behind a word
+-- the number between these two on a line, after a word
 abbrev pub named_number_of : List ℕ → ℕ → ℕ → List ℕ → Option ℕ
 named_number_of name least most line = whole (word name (number least most)) (pieces line)
 
@@ -89,7 +89,7 @@ first_line = lead (bytes_eq (codes "ants save 1")) (nothing tt)
 abbrev pub HeadParts : Type 0
 HeadParts = ℕ × ((ℕ × (ℕ × ℕ)) × (ℕ × (ℕ × (ℕ × ((ℕ × ℕ) × (ℕ × ℕ))))))
 
--- where the game stands: the window, the round, the place, the counts and the sizes
+-- the state of the game: the window, the round, the place, the counts and the sizes
 abbrev pub standing_parts : Reader (List ℕ) (ℕ × (ℕ × (ℕ × ((ℕ × ℕ) × (ℕ × ℕ)))))
 standing_parts =
     followed (line_of (word (codes "window") (number 1 16384)))
@@ -105,7 +105,7 @@ head_parts =
     (λ seed. followed (line_of sheet_tokens)
     (λ sheet. standing_parts)))
 
--- the numbers that stand in the parts
+-- the numbers in the parts
 abbrev pub head_of : HeadParts → Head
 head_of p = record {
   seed = p.0;
@@ -125,7 +125,7 @@ head_of p = record {
 abbrev pub read_head : Reader (List ℕ) Head
 read_head = mapped head_of head_parts
 
--- an instruction that is printed as it stands
+-- an instruction, if it is printed exactly as it was read
 abbrev pub if_canonical : List ℕ → Read Instr → Option Instr
 if_canonical line (Ok instruction) = if bytes_eq (instruction_line instruction) line then Some instruction else None
 if_canonical line (Err refusal) = None
@@ -134,24 +134,24 @@ if_canonical line (Err refusal) = None
 unfoldable pub instruction_of : List ℕ → Option Instr
 instruction_of line = if_canonical line (read_line (tokens_of line))
 
--- the instructions of a brain, behind the line of its name and its length
+-- the instructions of a brain, after the line of its name and its length
 abbrev pub read_program : List ℕ → Reader (List ℕ) (List Instr)
 read_program name =
     mapped (λ (both : ℕ × List Instr). both.1)
     (followed (line_of (word name (number 1 most_states))) (λ count. many instruction_of count))
 
--- one value in front of others, where there are both
+-- one value in front of others, if there are both
 abbrev pub with_value : {A : Type 0} → Option A → Option (List A) → Option (List A)
 with_value None values = None
 with_value (Some x) None = None
 with_value (Some x) (Some values) = Some (x ∷ values)
 
--- the values of all bytes, where each has one
+-- the values of all bytes, if each has one
 abbrev pub all_of : {A : Type 0} → (ℕ → Option A) → List ℕ → Option (List A)
 all_of value [] = Some []
 all_of value (byte ∷ bytes) = with_value (value byte) (all_of value bytes)
 
--- the values of a row of so many bytes
+-- the values of a row of this many bytes
 abbrev pub row_of : {A : Type 0} → (ℕ → Option A) → ℕ → List ℕ → Option (List A)
 row_of value width line = if length line == width then all_of value line else None
 
@@ -160,7 +160,7 @@ abbrev pub joined : {A : Type 0} → List (List A) → List A
 joined [] = []
 joined (row ∷ rows) = row ++ joined rows
 
--- the values of so many rows
+-- the values of this many rows
 abbrev pub read_rows : {A : Type 0} → (ℕ → Option A) → ℕ → ℕ → Reader (List ℕ) (List A)
 read_rows value width height = mapped joined (many (row_of value width) height)
 
@@ -170,8 +170,8 @@ soil_of byte =
     if byte == 35 then Some Rock else if byte == 46 then Some Clear else if byte == 43 then Some RedHill
     else if byte == 45 then Some BlackHill else None
 
--- the number from 0 to 63 that a byte from 48 on stands for: a set of markers, or an amount of food, where 63 stands
--- for all above 62
+-- the number from 0 to 63 of a byte from 48 on: a set of markers, or an amount of food, where 63 means any amount above
+-- 62
 abbrev pub value_of_byte : ℕ → Option ℕ
 value_of_byte byte = if nat_le 48 byte && nat_lt byte 112 then Some (byte - 48) else None
 
@@ -180,11 +180,11 @@ abbrev pub food_tokens : ℕ → ℕ → Reader (List ℕ) (ℕ × (ℕ × ℕ))
 food_tokens x y =
     word (codes "food") (followed (number x x) (λ column. followed (number y y) (λ row. number 63 most_weight)))
 
--- the food of a line that stands for the cell in this column and row
+-- the food of a line for the cell in this column and row
 abbrev pub food_of : ℕ → ℕ → List ℕ → Option ℕ
 food_of x y line = whole (mapped (λ (z : ℕ × (ℕ × ℕ)). z.1.1) (food_tokens x y)) (pieces line)
 
--- the food of the cell of number i, of whose byte this is the value
+-- the food of the cell with number i, whose byte has this value
 abbrev pub food_at : ℕ → ℕ → ℕ → Reader (List ℕ) ℕ
 food_at width i value = if value == 63 then one (food_of (i % width) (i / width)) else nothing value
 
@@ -205,16 +205,16 @@ abbrev pub colour_of : List ℕ → Option Colour
 colour_of token =
     if bytes_eq (codes "red") token then Some Red else if bytes_eq (codes "black") token then Some Black else None
 
--- what stands on the line of an ant: its id, its colour, its position, its direction, its load, its state and its rest
+-- the content of the line of an ant: its id, its colour, its position, its direction, its load, its state and its rest
 abbrev pub AntParts : Type 0
 AntParts = ℕ × (Colour × (ℕ × (ℕ × (ℕ × (ℕ × (ℕ × ℕ))))))
 
--- how an ant faces, what it carries, its state and its rest
+-- an ant's direction, load, state and rest
 abbrev pub mind_tokens : Reader (List ℕ) (ℕ × (ℕ × (ℕ × ℕ)))
 mind_tokens =
     followed (number 0 5) (λ facing. followed (number 0 1) (λ laden. followed (number 0 9999) (λ state. number 0 255)))
 
--- where an ant stands, and its mind
+-- an ant's position, and its mind
 abbrev pub body_tokens : ℕ → ℕ → Reader (List ℕ) (ℕ × (ℕ × (ℕ × (ℕ × (ℕ × ℕ)))))
 body_tokens width height = followed (number 0 (width - 1)) (λ x. followed (number 0 (height - 1)) (λ y. mind_tokens))
 
@@ -244,7 +244,7 @@ abbrev pub if_rises : ℕ → Option PlacedAnt → Option (Option PlacedAnt)
 if_rises least None = None
 if_rises least (Some it) = if nat_le least it.ant.id then Some (Some it) else None
 
--- the ant of a line, whose id is at least this; or none, where it is the last line
+-- the ant of a line, whose id is at least this one; none if it is the last line
 abbrev pub ant_or_end : ℕ → ℕ → ℕ → List ℕ → Option (Option PlacedAnt)
 ant_or_end width height least line =
     if bytes_eq (codes "end") line then Some None else if_rises least (ant_of width height line)
@@ -259,7 +259,7 @@ abbrev pub ant_onto : ℕ → Option PlacedAnt → ℕ → (PlacedAnt → Result
 ant_onto least None n below = Err n
 ant_onto least (Some it) n below = if nat_le least it.ant.id then made (λ ants. it ∷ ants) (below it) else Err n
 
--- the ants on these lines up to the last line, whose ids rise from this one on; the first line has this number
+-- the ants on these lines up to the last line, with ids that rise from this one on; the first line has this number
 abbrev pub ants_from : ℕ → ℕ → List (List ℕ) → ℕ → ℕ → Result (List PlacedAnt × Left (List ℕ)) ℕ
 ants_from width height [] least n = Err n
 ants_from width height (line ∷ lines) least n =
@@ -284,7 +284,7 @@ cell_parts width height =
     (λ red_marks. followed (read_rows value_of_byte width height)
     (λ black_marks. read_all_foods width height)))
 
--- all that stands behind the first eight lines
+-- everything after the first eight lines
 abbrev pub BodyParts : Type 0
 BodyParts = (List Instr × List Instr) × (CellParts × List PlacedAnt)
 
@@ -304,7 +304,7 @@ draft_of_parts p = record {
   ants = p.1.1.1;
 }
 
--- what all lines say, behind the first eight
+-- what all lines say, after the first eight
 abbrev pub read_body : Head → Reader (List ℕ) Draft
 read_body head = mapped (λ (body : BodyParts). draft_of_parts (head, body)) (body_parts head.width head.height)
 
@@ -312,7 +312,7 @@ read_body head = mapped (λ (body : BodyParts). draft_of_parts (head, body)) (bo
 abbrev pub read_draft : Reader (List ℕ) Draft
 read_draft = mapped draft_of_parts (followed read_head (λ head. body_parts head.width head.height))
 
--- no line is left, and the last is ended
+-- no line is left, and the last one ends in LF
 abbrev pub end_of : Bool → ℕ → List (List ℕ) → Result (Unit {0}) ℕ
 end_of ended n (line ∷ lines) = Err n
 end_of ended n [] = if ended then Ok tt else Err (n - 1)
@@ -320,16 +320,16 @@ end_of ended n [] = if ended then Ok tt else Err (n - 1)
 abbrev pub line_end : Bool → Left (List ℕ) → Result (Unit {0}) ℕ
 line_end ended at = end_of ended at.number at.items
 
--- what was read, where the end is as it should be
+-- what was read, if the end is right
 abbrev pub if_ends : Draft → Result (Unit {0}) ℕ → Result Draft ℕ
 if_ends d (Ok _) = Ok d
 if_ends d (Err n) = Err n
 
--- the lines of a whole save, where none is left and the last is ended
+-- the lines of a whole save, if none is left and the last one ends in LF
 abbrev pub whole_draft : Bool → Draft → ℕ → List (List ℕ) → Result Draft ℕ
 whole_draft ended d n lines = if_ends d (end_of ended n lines)
 
--- what was read of all lines
+-- what was read from all lines
 abbrev pub draft_from : Bool → Result (Draft × Left (List ℕ)) ℕ → Result Draft ℕ
 draft_from ended (Ok read) = whole_draft ended read.0 read.1.number read.1.items
 draft_from ended (Err n) = Err n

@@ -1,4 +1,4 @@
--- What was read of all lines.
+-- What was read from all lines.
 use Rattle.std.specs.Prelude.{◌≡◌, map, Result, Ok, Err, ℕ}
 use Rattle.brain_read.specs.Drafts.{drafted}
 use Rattle.match_save.specs.declared.draft.SaveDraft.{SaveDraft}
@@ -19,7 +19,7 @@ said it = record {
   ants = it.ants.items;
 }
 
--- what is read of a text is what was told, or its fault is the line that was told
+-- what is read from a text is what was judged, or its fault is the line that was judged bad
 abbrev pub TellsDraft : Result Draft ℕ → Result SaveDraft SaveFault → Type 0
 TellsDraft told (Ok draft) = told ≡ Ok (said draft)
 TellsDraft told (Err fault) = FaultTold told fault

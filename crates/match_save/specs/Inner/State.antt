@@ -1,4 +1,4 @@
--- The parts of what makes lines a state of a game.
+-- The parts of what a state of a game requires of its lines.
 use Rattle.std.specs.Prelude.{◌≡◌, ◌+◌, ◌<◌, ◌≤◌, true, length, sum}
 use Rattle.std.specs.List.{AllByRecursion}
 use Rattle.brain_read.specs.Grammar.{StatesBelow}

@@ -19,7 +19,7 @@ use Rattle.match_save.specs.Inner.LineTexts.{lines_text, tokens_text}
 abbrev pub program_text : List ℕ → List Instr → List ℕ
 program_text name list = tokens_text (name ∷ decimal (length list) ∷ []) +++ brain_text list
 
--- the bytes of a row, which a cell's byte is given by, and the LF
+-- the bytes of a row, one for each cell, and the LF
 abbrev pub row_text : (Cell → ℕ) → Grid → ℕ → List ℕ
 row_text byte g y = numbered (λ x. byte (cell_in g (record { x = x; y = y })) ∷ []) g.width +++ codes "\n"
 
@@ -31,7 +31,7 @@ rows_text byte g = numbered (row_text byte g) g.height
 abbrev pub ground_byte : Cell → ℕ
 ground_byte cell = soil_byte (soil_of_cell cell)
 
--- the same number, and the power of two of a marker where it is set
+-- the same number, and the power of two of a marker if it is set
 abbrev pub with_power : Marks → ℕ → ℕ → ℕ
 with_power marks set i = if has_mark marks i then bit_or set (2 ^ i) else set
 
@@ -50,7 +50,7 @@ cell_food_byte cell = food_byte cell.food
 abbrev pub food_text : ℕ → ℕ → ℕ → List ℕ
 food_text width i food = if nat_le food 62 then [] else tokens_text (food_tokens width i food)
 
--- the same of the cell of this number
+-- the same for the cell with this number
 abbrev pub food_text_at : Grid → ℕ → List ℕ
 food_text_at g i = food_text g.width i (cell_in g (pos_at g.width i)).food
 
@@ -59,7 +59,7 @@ abbrev pub standing_text : Pos → Option Ant → List ℕ
 standing_text p None = []
 standing_text p (Some ant) = tokens_text (ant_tokens (record { place = p; ant = ant }))
 
--- the line of the ant of an id, if it is alive
+-- the line of the ant with an id, if it is alive
 abbrev pub ant_text : Grid → Option Pos → List ℕ
 ant_text g None = []
 ant_text g (Some p) = standing_text p (cell_in g p).ant
