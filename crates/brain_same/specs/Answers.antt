@@ -5,20 +5,20 @@ use Rattle.brain_read.specs.declared.instr.Instr.{Instr}
 use Rattle.brain_read.specs.Grammar.{states_of}
 use Rattle.ant_turn.specs.Turn.{instruction_at}
 
--- the state to which an answer leads: met to the first that the instruction names, unmet to the second; an instruction
--- that names one state has one answer, met
+-- the state to which an answer leads: met leads to the first that the instruction names, unmet to the second; an
+-- instruction that names one state has one answer, met
 abbrev pub next_by : Instr → Bool → Option ℕ
 next_by instruction true = slice_get (states_of instruction) 0
 next_by instruction false = slice_get (states_of instruction) 1
 
--- the state to which these answers lead from a state, one after another; where an instruction on the way lacks the
--- answer there is none
+-- the state to which these answers lead from a state, one after another; none if an instruction on the way doesn't have
+-- the answer
 abbrev pub led_to : List Instr → List Bool → ℕ → Option ℕ
 led_to brain [] = λ state. Some state
 led_to brain (met ∷ answers) =
     λ state. option_and_then (led_to brain answers) (next_by (instruction_at brain state) met)
 
--- where two lists first part, the first has met and the second unmet
+-- at the first difference of two lists, the first has met and the second unmet
 abbrev pub IsMetFirst : List Bool → List Bool → Type 0
 IsMetFirst [] others = Unit {0}
 IsMetFirst (met ∷ answers) [] = ⊥
@@ -27,7 +27,7 @@ IsMetFirst (true ∷ answers) (false ∷ others) = Unit {0}
 IsMetFirst (false ∷ answers) (true ∷ others) = ⊥
 IsMetFirst (false ∷ answers) (false ∷ others) = IsMetFirst answers others
 
--- the first list comes no later than the second: it is shorter, or as long and has met where they first part, or is it
+-- the first list isn't after the second: it is shorter, or equally long and has met at their first difference, or equal
 pub data IsNoLater (answers others : List Bool) : Type 0 where
   IsShorter : length answers < length others → IsNoLater answers others
   IsAsLong : length answers ≡ length others → IsMetFirst answers others → IsNoLater answers others

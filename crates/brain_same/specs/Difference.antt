@@ -1,4 +1,4 @@
--- Two brains that are the same, and where others first differ (over the task's neurology).
+-- Two brains that are the same, and the first difference of others (over the task's neurology).
 use Rattle.std.specs.Prelude.{◌≡◌, ◌≢◌, ℕ, Bool, true, List, length, Some}
 use Rattle.brain_read.specs.declared.instr.Instr.{Instr}
 use Rattle.ant_turn.specs.Turn.{instruction_at}
@@ -8,7 +8,7 @@ use Rattle.brain_same.specs.declared.comparison.Comparison.TheVariants.{Same, Di
 use Rattle.brain_same.specs.declared.comparison.Found.{Found}
 use Rattle.brain_same.specs.Answers.{IsNoLater, led_to}
 
--- two brains are the same but for the numbers of their states: some bisimulation relates their states 0
+-- two brains are the same except for the numbers of their states: some bisimulation relates their states 0
 pub record AreSame (first second : List Instr) : Type 0 where
   pub related : Relation
   pub bisimulation : IsBisimulation first second related
@@ -21,8 +21,8 @@ pub record TellsApart (first second : List Instr) (answers : List Bool) (a b : �
   pub other : led_to second answers 0 ≡ Some b
   pub differ : shape_of (instruction_at first a) ≢ shape_of (instruction_at second b)
 
--- these two are where the brains first differ: no list of answers that tells them apart comes before one of so many
--- answers that leads there
+-- these two are the first difference of the brains: this many answers lead there, and no list of answers that
+-- distinguishes the brains comes before them
 pub record IsFirstDifference (first second : List Instr) (many a b : ℕ) : Type 0 where
   pub answers : List Bool
   pub count : length answers ≡ many
@@ -33,7 +33,7 @@ pub record IsFirstDifference (first second : List Instr) (many a b : ℕ) : Type
 abbrev pub found_of : List Instr → ℕ → Found
 found_of brain state = record { state = state; instruction = instruction_at brain state }
 
--- what two brains come to
+-- the result of comparing two brains
 pub data IsComparison (first second : List Instr) : Comparison → Type 0 where
   IsSame : AreSame first second → IsComparison first second Same
   IsDifferent : (many a b : ℕ) → IsFirstDifference first second many a b

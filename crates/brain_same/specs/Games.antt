@@ -12,15 +12,15 @@ use Rattle.ant_turn.specs.Rounds.{Moment}
 use Rattle.brain_minimise.specs.Match.{DiffersInStates}
 use Rattle.brain_same.specs.Difference.{AreSame}
 
--- one moment is as another but for the states of this side's ants: so is its world, as many random numbers were used,
--- and the score is equal
+-- one moment is as another except for the states of this side's ants: its world is, the same number of random numbers
+-- was used, and the score is equal
 pub record IsSameBut (side : Colour) (old new : Moment) : Type 0 where
   pub world : DiffersInStates side old.world new.world
   pub place : new.place ≡ old.place
   pub score : score_of new.world ≡ score_of old.world
 
--- whatever the opening world, the other brain, the numbers of the rules, the seed, the side and the number of rounds:
--- with the one brain in place of the other on that side the game is the same but for the states of that side's ants
+-- for any opening world, other brain, numbers of the rules, seed, side and number of rounds: with one brain instead of
+-- the other on that side, the game is the same except for the states of that side's ants
 abbrev pub PlaysSame : Type 0
 PlaysSame =
     (minds : Minds) (side : Colour) (brain : List Instr) (seed width height : ℕ) (kinds : List Kind) (r : ℕ)
@@ -31,14 +31,14 @@ PlaysSame =
 abbrev pub without_states : World → World
 without_states w = renumbered_world (λ _ _. 0) w
 
--- one moment is as another but for the states of ants: without these the worlds are one, as many random numbers were
--- used, and the score is equal
+-- one moment is as another except for the states of ants: without these the worlds are equal, the same number of random
+-- numbers was used, and the score is equal
 pub record IsSameButStates (old new : Moment) : Type 0 where
   pub world : without_states new.world ≡ without_states old.world
   pub place : new.place ≡ old.place
   pub score : score_of new.world ≡ score_of old.world
 
--- with other brains on both sides, each the same as the one before, the game is the same but for the states of ants
+-- with other brains on both sides, each the same as the one before, the game is the same except for the states of ants
 abbrev pub BothPlaySame : Type 0
 BothPlaySame =
     (minds : Minds) (red black : List Instr) (seed width height : ℕ) (kinds : List Kind) (r : ℕ) → AreSame minds.red red

@@ -11,7 +11,7 @@ use Rattle.brain_same.specs.declared.way.Step.{Step}
 unfoldable pub found_text : Found → List ℕ
 found_text found = decimal found.state +++ codes ": " +++ instruction_text found.instruction
 
--- `same`, or after how many answers the brains differ, and the state of each then with its instruction
+-- `same`; or after how many answers the brains differ, and the state of each at that point with its instruction
 unfoldable pub comparison_text : Comparison → List ℕ
 comparison_text Same = codes "same\n"
 comparison_text (Different answers first second) =
@@ -31,7 +31,7 @@ answer_text false = codes "unmet"
 unfoldable pub step_text : Step → List ℕ
 step_text step = codes "first " +++ found_words step.first +++ codes ", second " +++ found_words step.second +++ codes ": " +++ answer_text step.met +++ codes "\n"
 
--- the text of a comparison, with a line for each answer on the way behind that of their number
+-- the text of a comparison, with a line for each answer on the way after the line of their number
 unfoldable pub way_text : Comparison → List Step → List ℕ
 way_text Same steps = codes "same\n"
 way_text (Different answers first second) steps =

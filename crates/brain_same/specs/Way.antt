@@ -1,4 +1,4 @@
--- The way to where two brains first differ, an answer after another (over the task's neurology).
+-- The way to the first difference of two brains, answer by answer (over the task's neurology).
 use Rattle.std.specs.Prelude.{◌≡◌, ℕ, Bool, List, [], ◌∷◌, Some, unwrap_or}
 use Rattle.brain_read.specs.declared.instr.Instr.{Instr}
 use Rattle.ant_turn.specs.Turn.{instruction_at}
@@ -21,8 +21,8 @@ abbrev pub way_by : List Instr → List Instr → List Bool → ℕ → ℕ → 
 way_by first second [] = λ a b. []
 way_by first second (met ∷ answers) = λ a b. step_of first second a b met ∷ way_by first second answers (state_after first a met) (state_after second b met)
 
--- what two brains come to, and the way there: none where they are the same, and else that by the answers after which
--- they first differ
+-- the result of comparing two brains, and the way there: none if they are the same; otherwise the way by the answers
+-- after which they first differ
 pub data IsWayComparison (first second : List Instr) : Comparison → List Step → Type 0 where
   NoWay : AreSame first second → IsWayComparison first second Same []
   ByWay : (many a b : ℕ) (difference : IsFirstDifference first second many a b)

@@ -1,11 +1,11 @@
-// Classes of states that are to be the same, joined two at a time.
+// Classes of states that are assumed to be the same, joined two at a time.
 ghost use Rattle.std.specs.Prelude.{◌≡◌, ◌<◌, length, map, IfOk};
 ghost use Rattle.brain_same.specs.Inner.Classes.{AreApart, IsJoined, renamed};
 
 use hex_geometry::OutOfMemory;
 use std::alloc::Global;
 
-// A class for each of so many states, named by the state.
+// A class for each of this many states, named by the state.
 pub(crate) fn classes_apart(alloc: Global, count: u16) -> Result<Vec<u16>, OutOfMemory>
     ensures { IfOk result (λ classes. AreApart count classes.items) }
 {
@@ -16,7 +16,7 @@ pub(crate) fn classes_apart(alloc: Global, count: u16) -> Result<Vec<u16>, OutOf
     Ok(classes)
 }
 
-// Makes one class of those of two states, and says whether they were two.
+// Joins the classes of two states, and returns whether they were two.
 pub(crate) fn join(classes: &mut [u16], a: usize, b: usize) -> bool
     requires a { a < length classes.old }
     requires b { b < length classes.old }

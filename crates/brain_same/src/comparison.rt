@@ -1,4 +1,4 @@
-// What a comparison of two brains comes to, and its text.
+// The result of comparing two brains, and its text.
 ghost use Rattle.ant_base.specs.Sink.{Pushed};
 ghost use Rattle.brain_same.specs.declared.comparison.Comparison.TheVariants.{Different};
 ghost use Rattle.brain_same.specs.Text.{comparison_text, found_text};
@@ -29,8 +29,8 @@ pub enum Comparison {
     },
 }
 
-/// `same`; or three lines: after how many answers they differ, and of each brain the state that it is in then and its
-/// instruction. Each line ends in LF.
+/// The text is `same`; or three lines: after how many answers the brains differ, and for each brain its state at that
+/// point and the state's instruction. Each line ends in LF.
 impl Layout for Comparison {
     ghost text = { comparison_text };
 

@@ -1,11 +1,11 @@
-// What an instruction is but for the states that it names, and to which state an answer leads.
+// An instruction without the states that it names, and the state to which an answer leads.
 ghost use Rattle.std.specs.Prelude.{◌≡◌, Some, false, true};
 ghost use Rattle.brain_minimise.specs.Equivalence.{shape_of};
 ghost use Rattle.brain_same.specs.Answers.{next_by};
 
 use brain_read::Instr;
 
-// The instruction with state 0 in place of each state that it names.
+// The instruction with state 0 instead of each state that it names.
 #[inline]
 pub(crate) fn shape(instruction: Instr) -> Instr
     ensures { result ≡ shape_of instruction }
@@ -31,8 +31,8 @@ pub(crate) fn shape(instruction: Instr) -> Instr
     }
 }
 
-// The state to which an answer leads: met the first state that the instruction names, and unmet the second, where it
-// names two.
+// The state to which an answer leads: met leads to the first state that the instruction names, and unmet to the second,
+// if it names two.
 #[inline]
 pub(crate) fn next(instruction: Instr, met: bool) -> Option<u16>
     ensures { result ≡ next_by instruction met }

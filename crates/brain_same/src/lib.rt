@@ -1,10 +1,10 @@
 //! Whether two brains are the same except for the numbers of their states.
 //!
-//! Two brains are the same if a bisimulation relates state 0 of the one to state 0 of the other. Then no ant can
+//! Two brains are the same if a bisimulation relates state 0 of one to state 0 of the other. Then no ant can
 //! distinguish them, and each game is the same except for states; that is a law of this crate. Otherwise [`compare`]
 //! reports the least number of answers that shows the difference, and the two states, and [`compare_way`] reports the
-//! way there too. What names no section of the contest's task is this project's own. It depends on `brain_read`, and on
-//! the definitions of `brain_minimise` and of `ant_turn`.
+//! way there too. Whatever names no section of the contest's task is this project's own. It depends on `brain_read`,
+//! and on the definitions of `brain_minimise` and of `ant_turn`.
 #![tactic(auto)]
 
 mod classes;

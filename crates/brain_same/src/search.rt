@@ -1,4 +1,4 @@
-// Two brains compared: pairs of states that the same answers lead to, looked at in the order of the answers.
+// Two brains compared: pairs of states to which the same answers lead, visited in the order of the answers.
 ghost use Rattle.std.specs.Prelude.{◌≡◌, ◌<◌, ◌≤◌, ◌↔◌, ◌+◌, ◌++◌, IsTrue, length, option_to_list, IfOk, OnOk};
 ghost use Rattle.ant_turn.specs.Turn.{instruction_at};
 ghost use Rattle.brain_read.specs.Soundness.{IsBrain};
@@ -15,7 +15,7 @@ use hex_geometry::OutOfMemory;
 use std::alloc::Global;
 use std::collections::VecDeque;
 
-// A state of each brain, to which the same answers lead, and how many they are.
+// A state of each brain, to which the same answers lead, and the number of these answers.
 #[derive(Clone, Copy)]
 pub(crate) struct Pair {
     pub first: u16,
@@ -25,12 +25,12 @@ pub(crate) struct Pair {
 
 /// Compares two brains (over the task's neurology). It returns `Same` if some bisimulation relates their states 0.
 /// Otherwise it returns the least number of answers after which their instructions differ in more than the states that
-/// they name, with the states at that point. Among several lists of that length it takes the first, met before unmet
-/// from the first answer on. States that state 0 doesn't lead to are ignored. It fails only if memory runs out.
+/// they name, with the states at that point. Among several lists of that length it takes the first, with met before
+/// unmet from the first answer on. States that state 0 doesn't lead to are ignored. It fails only if memory runs out.
 ///
-/// It looks at pairs of states in the order of the answers that lead to them. Both states of a pair are put into one
-/// class, and a pair of one class is skipped: a difference that it could show is longer than one that an earlier pair
-/// shows. So there are fewer joins than states, at most 19,999, and each goes over the classes once.
+/// It visits pairs of states in the order of the answers that lead to them. Both states of a pair are put into one
+/// class, and a pair whose states are in one class is skipped: a difference that it could show is longer than one that
+/// an earlier pair shows. So there are fewer joins than states, at most 19,999, and each goes over the classes once.
 pub fn compare(alloc: Global, first: &Brain, second: &Brain) -> Result<Comparison, OutOfMemory>
     ensures { IfOk result (λ comparison. IsComparison first.now second.now comparison) }
 {
@@ -38,7 +38,7 @@ pub fn compare(alloc: Global, first: &Brain, second: &Brain) -> Result<Compariso
     search(alloc, first, second, &mut classes)
 }
 
-// The same, where each state of both brains is a class of its own, those of the second after those of the first.
+// The same, if each state of both brains has a class of its own, those of the second after those of the first.
 fn search(
     alloc: Global,
     first: &Brain,
@@ -72,7 +72,7 @@ pub(crate) fn start() -> Pair
     }
 }
 
-// Whether the instructions of a pair are the same but for the states that they name.
+// Whether the instructions of a pair are the same except for the states that they name.
 pub(crate) fn are_alike(first: &Brain, second: &Brain, pair: Pair) -> bool
     requires { IsInside first.now second.now pair }
     ensures { IsTrue result ↔ (shape_of (instruction_at first.now pair.first) ≡ shape_of (instruction_at second.now pair.second)) }
@@ -83,7 +83,7 @@ pub(crate) fn are_alike(first: &Brain, second: &Brain, pair: Pair) -> bool
     )
 }
 
-// What is told of a pair.
+// What is reported of a pair.
 pub(crate) fn difference(first: &Brain, second: &Brain, pair: Pair) -> Comparison
     requires { IsInside first.now second.now pair }
     ensures { result ≡ Comparison.Different pair.answers (found_of first.now pair.first) (found_of second.now pair.second) }
@@ -105,7 +105,7 @@ pub(crate) fn found(brain: &Brain, state: u16) -> Found
     }
 }
 
-// Joins the classes of a pair's states, and where they were two, appends the pairs that follow it.
+// Joins the classes of a pair's states. If they were two, appends the pairs that follow it.
 fn follow(
     first: &Brain,
     second: &Brain,

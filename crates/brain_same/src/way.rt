@@ -1,4 +1,4 @@
-// The way to where two brains first differ, and its text.
+// The way to the first difference of two brains, and its text.
 ghost use Rattle.std.specs.Prelude.{length, slice_index_or};
 ghost use Rattle.ant_base.specs.Sink.{Pushed};
 ghost use Rattle.brain_same.specs.declared.comparison.Comparison.TheVariants.{Different};
@@ -9,29 +9,29 @@ use crate::comparison::{Comparison, Found};
 use ant_base::{Each, Failed, Layout, NumberedTexts, Sink, layout};
 use brain_read::{Draft, InstructionWords};
 
-/// An answer on the way to a difference, which both brains have, and the states before it (the task's neurology).
+/// An answer on the way to a difference, which both brains give, and the states before it (the task's neurology).
 #[derive(Clone, Copy)]
 pub struct Step {
     /// The state of the first brain before the answer, and its instruction.
     pub first: Found,
     /// That of the second brain.
     pub second: Found,
-    /// Whether the answer is met: so it is too where an instruction has one answer.
+    /// Whether the answer is met. It is met for an instruction with one answer.
     pub met: bool,
 }
 
-/// What two brains come to, and the way there.
+/// The result of comparing two brains, and the way there.
 #[derive(Drop)]
 pub struct Way {
-    /// What they come to.
+    /// The result.
     pub comparison: Comparison,
-    /// A step for each answer that leads to the difference, in their order; none where the brains are the same.
+    /// A step for each answer that leads to the difference, in order; none if the brains are the same.
     pub steps: Vec<Step>,
 }
 
-/// `same`; or the number of answers after which the brains differ, a line for each of these answers, and for each brain
-/// its state then, with its instruction. The line of an answer is as `first 0: Move 1 2, second 3: Move 4 5: unmet`,
-/// with the states before it. Each line ends in LF.
+/// The text is `same`; or the number of answers after which the brains differ, a line for each of these answers, and
+/// for each brain its state at that point, with its instruction. The line of an answer has the states before it, such
+/// as `first 0: Move 1 2, second 3: Move 4 5: unmet`. Each line ends in LF.
 impl Layout for Way {
     ghost text = { λ way. way_text way.comparison way.steps.items };
 
@@ -90,8 +90,8 @@ impl NumberedTexts for StepLines<'_> {
     }
 }
 
-/// The states before the answer with their instructions, and the answer, as `first 0: Move 1 2, second 3: Move 4 5:
-/// unmet`, with LF at the end.
+/// The states before the answer with their instructions, and the answer, such as `first 0: Move 1 2, second 3: Move 4
+/// 5: unmet`, with LF at the end.
 impl Layout for Step {
     ghost text = { step_text };
 
@@ -118,7 +118,7 @@ impl Layout for FoundWords {
     }
 }
 
-// An answer in a word.
+// An answer as a word.
 #[derive(Clone, Copy)]
 struct Answer(bool);
 

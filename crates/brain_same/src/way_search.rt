@@ -1,4 +1,4 @@
-// Two brains compared by the way: the search that keeps how it came to each pair.
+// Two brains compared with the way: the search that keeps how it reached each pair.
 ghost use Rattle.std.specs.Prelude.{◌≡◌, ◌<◌, ◌≤◌, ◌+◌, ◌++◌, [], length, slice_get, Some, IfOk, OnOk, option_to_list};
 ghost use Rattle.brain_read.specs.Soundness.{IsBrain};
 ghost use Rattle.brain_same.specs.Inner.Classes.{AreApart};
@@ -14,8 +14,8 @@ use brain_read::Brain;
 use hex_geometry::OutOfMemory;
 use std::alloc::Global;
 
-// A pair that the search came to: from which one, by its place among them, and by which answer. The first came from
-// none.
+// A pair that the search reached: from which pair, by its place among them, and by which answer. The first was reached
+// from none.
 #[derive(Clone, Copy)]
 pub(crate) struct Reached {
     pub pair: Pair,
@@ -24,11 +24,11 @@ pub(crate) struct Reached {
 }
 
 /// As [`compare`](crate::compare), with the way to the difference: a step for each answer, from the states 0 on. Each
-/// step has the states before its answer, which leads both brains to those of the next step, and from the last step to
-/// the states that are reported. Among the ways of the least length it is the first, met before unmet from the first
-/// answer on (over the task's neurology). It fails only if memory runs out.
+/// step has the states before its answer. The answer leads both brains to the states of the next step, and the last
+/// answer to the states that are reported. Among the ways of the least length it is the first, with met before unmet
+/// from the first answer on (over the task's neurology). It fails only if memory runs out.
 ///
-/// It looks at the same pairs as `compare`, and keeps all that it found: at most 39,999, in 16 bytes each.
+/// It visits the same pairs as `compare`, and keeps all that it found: at most 39,999, in 16 bytes each.
 pub fn compare_way(alloc: Global, first: &Brain, second: &Brain) -> Result<Way, OutOfMemory>
     ensures { IfOk result (λ way. IsWayComparison first.now second.now way.comparison way.steps.items) }
 {
@@ -44,7 +44,7 @@ pub fn compare_way(alloc: Global, first: &Brain, second: &Brain) -> Result<Way, 
 }
 
 // The place of the first pair whose instructions differ, if there is one, among the pairs that are found. No pair was
-// found yet, and each state of both brains is a class of its own, those of the second after those of the first.
+// found yet, and each state of both brains has a class of its own, those of the second after those of the first.
 fn first_apart(
     first: &Brain,
     second: &Brain,
@@ -70,7 +70,7 @@ fn first_apart(
     Ok(None)
 }
 
-// The states 0, which come from none.
+// The states 0, which were reached from none.
 fn at_start() -> Reached
     ensures { result ≡ start_kept }
 {
@@ -81,7 +81,7 @@ fn at_start() -> Reached
     }
 }
 
-// The pair of a place.
+// The pair at a place.
 #[inline]
 fn reached_at(reached: &[Reached], place: u32) -> Reached
     requires { place < length reached.now }
@@ -90,7 +90,7 @@ fn reached_at(reached: &[Reached], place: u32) -> Reached
     reached[place as usize]
 }
 
-// Joins the classes of a pair's states, and where they were two, keeps the pairs that follow it.
+// Joins the classes of a pair's states. If they were two, keeps the pairs that follow it.
 fn keep_next(
     first: &Brain,
     second: &Brain,
@@ -138,7 +138,7 @@ fn keep_after(
     Ok(())
 }
 
-// The comparison by the pair of a place, and the way there.
+// The comparison by the pair at a place, and the way there.
 #[tactic(auto, using(crate::proofs::ReachedLemmas::IsWayComparison_ends, crate::proofs::ReachedLemmas::inside_ends))]
 fn way_to(
     alloc: Global,
@@ -160,7 +160,7 @@ fn way_to(
     })
 }
 
-// The steps to the pair of a place, gathered from the last to the first.
+// The steps to the pair at a place, collected from the last to the first.
 fn steps_to(
     alloc: Global,
     first: &Brain,

@@ -1,4 +1,4 @@
--- What the faults of a text of breaks say (this project's own).
+-- The texts of the faults of a text of breaks (this project's own).
 use Rattle.std.specs.Prelude.{ℕ, List, codes}
 use Rattle.ant_base.specs.FaultText.{line_says, memory_text}
 use Rattle.line_tokens.specs.FaultText.{line_fault_text}
@@ -6,7 +6,7 @@ use Rattle.line_tokens.specs.declared.refusal.LineFault.TheVariants as line_faul
 use Rattle.break_view.specs.declared.fault.BreakFault.{BreakFault}
 use Rattle.break_view.specs.declared.fault.BreakFault.TheVariants.{UnknownWord, MissingToken, BadNumber, ExtraToken, TooMany, OutOfMemory}
 
--- what the fault of a text of breaks says
+-- the text of the fault of a text of breaks
 abbrev pub break_fault_text : BreakFault → List ℕ
 break_fault_text (UnknownWord line) = line_says line (line_fault_text line_fault.UnknownWord)
 break_fault_text (MissingToken line) = line_says line (line_fault_text line_fault.MissingToken)

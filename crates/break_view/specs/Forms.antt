@@ -1,4 +1,4 @@
--- The words and the forms of breaks; the clauses of the public calls rest on them.
+-- The words and the forms of breaks, as the clauses of the public calls use them.
 use Rattle.std.specs.Prelude.{ℕ, ◌≤◌, List, [], ◌∷◌, codes}
 use Rattle.std.specs.List.{AllByRecursion}
 use Rattle.cell_world.specs.declared.ant.Colour.{Colour}
@@ -41,7 +41,7 @@ fields_of (Food x y least) = Word (word_of_break BreakWord.Food) ∷ Number x �
 fields_of (Killed id) = Word (word_of_break BreakWord.Killed) ∷ Number id ∷ []
 fields_of (Score colour least) = Word (word_of_break BreakWord.Score) ∷ Word (word_of_colour colour) ∷ Number least ∷ []
 
--- the largest number of a break, the last value of a u32
+-- the largest number of a break, the largest u32
 abbrev pub most_number : ℕ
 most_number = 4294967295
 

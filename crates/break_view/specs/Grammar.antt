@@ -12,7 +12,7 @@ most_breaks = 256
 abbrev pub AreBreaks : List TokenLine → List Break → Type 0
 AreBreaks lines list = AreLinesOf BreakLine lines list
 
--- the text is that of the breaks: a line without a token is skipped, and every other is one break
+-- the text is that of the breaks: a line without a token is skipped, and every other line is one break
 pub record IsBreakText (text : List ℕ) (list : List Break) : Type 0 where
   pub lines : AreBreaks (lines_with_tokens text) list
   pub few : length list ≤ most_breaks

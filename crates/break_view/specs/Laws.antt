@@ -1,4 +1,4 @@
--- What holds of all texts of breaks and of all games with breaks.
+-- Laws of all texts of breaks and of all games with breaks.
 use Rattle.std.specs.Prelude.{◌≡◌, ◌⊎◌, ℕ, ◌<◌, ◌≤◌, List, [], Option, None}
 use Rattle.std.specs.List.{Contains}
 use Rattle.cell_world.specs.World.{World}
@@ -20,11 +20,11 @@ pub record OneListOrOneFault : Type 0 where
   pub never_both : (text : List ℕ) (list : List Break) (fault : BreakFault) → IsBreakText text list
       → IsBreakFault text fault → ⊥
 
--- every break of one list stands in the other
+-- every break of one list is in the other
 abbrev pub StandIn : List Break → List Break → Type 0
 StandIn few more = (item : Break) → Contains few item → Contains more item
 
--- with fewer breaks a game doesn't stop earlier, and where it doesn't stop with more it doesn't with fewer
+-- with fewer breaks a game doesn't stop earlier, and if it doesn't stop with more, it doesn't with fewer
 pub record FewerStopLater : Type 0 where
   pub later : (minds : Minds) (seed rounds from : ℕ) (w : World) (few more : List Break) (stop earlier : Stop)
       → StandIn few more
@@ -34,7 +34,7 @@ pub record FewerStopLater : Type 0 where
       → HasNoStop minds seed rounds from w more → HasNoStop minds seed rounds from w few
 
 -- a break counts only after a turn: there is no stop without rounds, without ants or without breaks, and none before
--- round 1 or before the round from which on breaks are looked for
+-- round 1 or before the round from which on breaks are tested
 pub record StopsFollowTurns : Type 0 where
   pub round : (minds : Minds) (seed rounds from : ℕ) (w : World) (items : List Break) (stop : Stop)
       → IsFirstStop minds seed rounds from w items stop → 1 ≤ stop.round
@@ -47,7 +47,7 @@ pub record StopsFollowTurns : Type 0 where
       → HasNoStop minds seed rounds from w items
   pub no_break : (minds : Minds) (seed rounds from : ℕ) (w : World) → HasNoStop minds seed rounds from w []
 
--- rounds beyond a stop change nothing
+-- rounds after a stop change nothing
 abbrev pub LaterRoundsAddNothing : Type 0
 LaterRoundsAddNothing =
     (minds : Minds) (seed rounds more from : ℕ) (w : World) (items : List Break) (stop : Stop) → rounds ≤ more
@@ -68,7 +68,7 @@ pub record OneFirstStop : Type 0 where
       → IsViewText minds seed rounds from w items text
       → IsViewText minds seed rounds from w items other → text ≡ other
 
--- searching finds the end of a game, and so each end is the one that is found, and its view is the one text
+-- searching finds the end of a game, so each end is the one that is found, and its view is the one text
 pub record EndsAreFound : Type 0 where
   pub found : (minds : Minds) (seed rounds from : ℕ) (w : World) (items : List Break)
       → EndsAt minds seed rounds from w items (first_stop minds seed w items from rounds)
@@ -77,8 +77,8 @@ pub record EndsAreFound : Type 0 where
       → EndsAt minds seed rounds from w items stop end
       → view_text end seed rounds stop ≡ view_of minds seed rounds from w items
 
--- where no turn of the rounds from `from` to below `later` would stop a game, its view from the one round on is that
--- from the other
+-- if no turn of the rounds from `from` to below `later` would stop a game, its view from the one round on is that from
+-- the other
 abbrev pub QuietRoundsArePassed : Type 0
 QuietRoundsArePassed = (minds : Minds) (seed rounds from later : ℕ) (w : World) (items : List Break) → from ≤ later
     → ((r t : ℕ) → IsTurn w rounds from r t → r < later → met_at minds seed w items r t ≡ None)

@@ -12,7 +12,7 @@ use Rattle.cell_world.specs.World.{World, place_in}
 use Rattle.break_view.specs.declared.breaks.Break.{Break}
 use Rattle.break_view.specs.declared.breaks.Break.TheVariants.{Round, State, Stand, Food, Killed, Score}
 
--- the ant of the cell at a position, where there is a position
+-- the ant of the cell at a position, if there is a position
 abbrev pub ant_at : World → Option Pos → Option Ant
 ant_at w None = None
 ant_at w (Some p) = (w.cells p).ant
@@ -26,16 +26,16 @@ is_in_state colour state (Some ant) = same_colour colour ant.colour && (ant.stat
 abbrev pub if_clear : Cell → Option Cell
 if_clear cell = if cell.rocky then None else Some cell
 
--- the clear cell in column x of row y; there is none on rock and outside the world
+-- the clear cell in column x of row y; none on rock and outside the world
 abbrev pub clear_cell : World → ℕ → ℕ → Option Cell
 clear_cell w x y = if_clear (w.cells (record { x = x; y = y }))
 
--- whether there is a clear cell on which an ant of this colour stands
+-- whether there is a clear cell with an ant of this colour
 abbrev pub has_ant_of : Colour → Option Cell → Bool
 has_ant_of colour None = false
 has_ant_of colour (Some cell) = is_ant_of colour cell.ant
 
--- whether there is a clear cell with at least so many food particles
+-- whether there is a clear cell with at least this many food particles
 abbrev pub is_fed : ℕ → Option Cell → Bool
 is_fed least None = false
 is_fed least (Some cell) = nat_le least cell.food
@@ -46,16 +46,16 @@ abbrev pub is_met : Break → World → ℕ → ℕ → Bool
 is_met (Round round) w r t = round == r
 -- the ant whose turn it was is alive, of this colour and in this state
 is_met (State colour state) w r t = is_in_state colour state (ant_at w (place_in w t))
--- an ant of this colour stands on the cell
+-- an ant of this colour is on the cell
 is_met (Stand colour x y) w r t = has_ant_of colour (clear_cell w x y)
--- the cell has at least so much food
+-- the cell has at least this much food
 is_met (Food x y least) w r t = is_fed least (clear_cell w x y)
--- the id was made, and no cell holds its ant
+-- the id was assigned, and no cell holds its ant
 is_met (Killed id) w r t = nat_lt id w.ids && not (is_some (place_in w id))
--- the food on the colour's hill is at least so much
+-- the food on the colour's hill is at least this much
 is_met (Score colour least) w r t = nat_le least (hill_food_of w colour)
 
--- the number of the first break of a list that holds then, where the first of the list has this number
+-- the number of the first break of a list that holds then, if the first of the list has this number
 abbrev pub first_met : ℕ → List Break → World → ℕ → ℕ → Option ℕ
 first_met number [] w r t = None
 first_met number (item ∷ items) w r t = if is_met item w r t then Some number else first_met (number + 1) items w r t

@@ -1,4 +1,4 @@
--- Which position of a line is at fault: the rule of faults, on which the clauses of `read_breaks` rest.
+-- Which position of a line is at fault: the rule of faults, as the clauses of `read_breaks` use it.
 use Rattle.std.specs.Prelude.{ℕ, List, [], ◌∷◌, ◌++◌, Option, Some, None, option_map}
 use Rattle.ant_base.specs.Number.{number_within}
 use Rattle.line_tokens.specs.Fields.{named}
@@ -8,7 +8,7 @@ use Rattle.break_view.specs.declared.fault.BreakFault.TheVariants.{UnknownWord, 
 use Rattle.break_view.specs.declared.words.BreakWord.{BreakWord}
 use Rattle.break_view.specs.Forms.{word_of_break, word_of_colour, break_kinds, colours, most_number}
 
--- what is wanted at a place of a line
+-- what a position of a line needs
 pub data Position : Type 0 where
   BreakToken ColourToken NumberToken : Position
 
@@ -21,7 +21,7 @@ positions_of BreakWord.Food = NumberToken ∷ NumberToken ∷ NumberToken ∷ []
 positions_of BreakWord.Killed = NumberToken ∷ []
 positions_of BreakWord.Score = ColourToken ∷ NumberToken ∷ []
 
--- the positions that the token brings, where its position accepts it
+-- the positions that the token adds, if its position accepts it
 abbrev pub accepted : Position → List ℕ → Option (List Position)
 accepted BreakToken token = option_map positions_of (named word_of_break break_kinds token)
 accepted ColourToken token = option_map nothing_more (named word_of_colour colours token)
@@ -33,8 +33,8 @@ fault_of BreakToken line = UnknownWord line
 fault_of ColourToken line = UnknownWord line
 fault_of NumberToken line = BadNumber line
 
--- The fault of the first position at fault, if there is one. The positions are judged from the left: one without a
--- token is MissingToken, a token that its position doesn't accept has that position's fault, and one beyond the last
+-- The fault of the first position at fault, if there is one. The positions are judged from the left. One without a
+-- token is MissingToken, a token that its position doesn't accept has that position's fault, and a token after the last
 -- position is ExtraToken.
 abbrev pub first_fault : ℕ → List (List ℕ) → List Position → Option BreakFault
 first_fault line [] [] = None

@@ -30,8 +30,8 @@ met_in_round minds seed m items r t = first_met 1 items (world_in_round minds se
 abbrev pub met_at : Minds → ℕ → World → List Break → ℕ → ℕ → Option ℕ
 met_at minds seed w items r t = met_in_round minds seed (before_round minds seed w r) items r t
 
--- breaks are looked for after the turn of id t in round r, counted from 1: the game has it, and round `from` has come;
--- the turn of a dead id is a turn
+-- breaks are tested after the turn of id t in round r, counted from 1: the game has that turn, and the round isn't
+-- before `from`; the turn of a dead id is a turn
 pub record IsTurn (w : World) (rounds from r t : ℕ) : Type 0 where
   pub begun : 1 ≤ r
   pub reached : from ≤ r
@@ -62,7 +62,7 @@ EndsAt minds seed rounds from w items (Some stop) end =
 EndsAt minds seed rounds from w items None end =
     HasNoStop minds seed rounds from w items × (end ≡ world_after minds seed w rounds)
 
--- the stop after the turn of id t in round r, where a break holds then
+-- the stop after the turn of id t in round r, if a break holds then
 abbrev pub stop_at : Minds → ℕ → World → List Break → ℕ → ℕ → Option Stop
 stop_at minds seed w items r t =
     option_map (λ which. record { round = r; id = t; which = which }) (met_at minds seed w items r t)
@@ -73,7 +73,7 @@ first_in_round minds seed w items r zero = None
 first_in_round minds seed w items r (suc t) =
     option_or (first_in_round minds seed w items r t) (stop_at minds seed w items r t)
 
--- the first stop in the rounds from `from` on, of so many rounds of a game that begins in w, by search
+-- the first stop in the rounds from `from` on, among this many rounds of a game that begins in w, by search
 abbrev pub first_stop : Minds → ℕ → World → List Break → ℕ → ℕ → Option Stop
 first_stop minds seed w items from zero = None
 first_stop minds seed w items from (suc r) =

@@ -18,7 +18,7 @@ stop_line stop =
 unfoldable pub no_stop_line : ℕ → List ℕ
 no_stop_line rounds = codes "no stop in " +++ decimal rounds +++ codes " rounds\n"
 
--- what stands behind the line of the seed: the stop and the cells of the world then, or that there was none
+-- what follows the line of the seed: the stop and the cells of the world then, or that there was none
 abbrev pub end_text : World → ℕ → Option Stop → List ℕ
 end_text w rounds (Some stop) = stop_line stop +++ cells_text w
 end_text w rounds None = no_stop_line rounds

@@ -1,4 +1,4 @@
--- What the words of a command line ask for: one record for all commands, read by the table.
+-- What the words of a command line request: one record for all commands, read by the table.
 use Rattle.std.specs.Prelude.{◌≡◌, ◌≢◌, ℕ, ◌+◌, ◌<◌, ◌≤◌, nat_le, Bool, true, Option, Some, None, unwrap_or, slice_get, if◌then◌else◌, List, [], ◌∷◌, ◌++◌, length, take, map}
 use Rattle.std.specs.List.{flat_map, list_any, AllZip, AllByRecursion, Contains}
 use Rattle.std.specs.Str.{bytes_eq}
@@ -22,7 +22,7 @@ use Rattle.command_words.specs.Words.{texts}
 abbrev pub joined : List (List (List ℕ)) → List (List ℕ)
 joined parts = flat_map (λ words. words) parts
 
--- an option that is given, with the words after its own place by place
+-- an option that is given, with the words after its own, place by place
 pub record Given : Type 0 where
   pub choice : Choice
   pub values : List (List (List ℕ))
@@ -31,7 +31,7 @@ pub record Given : Type 0 where
 abbrev pub given_words : Given → List (List ℕ)
 given_words given = option_of given.choice ∷ joined given.values
 
--- the words at each place are what it asks for
+-- the words at each place fit it
 abbrev pub FitAll : List Place → List (List (List ℕ)) → Type 0
 FitAll places parts = AllZip FitsPlace places parts
 
@@ -59,7 +59,7 @@ pub record IsCommandOf (kind : CommandKind) (front : List (List (List ℕ))) (gi
   pub once : NoneTwice given
   pub needed : (choice : Choice) → Contains (choices_of kind) choice → is_needed choice ≡ true → IsGiven choice given
 
--- the words after the first one that is this; none where none is
+-- the words after the first one that equals this; none if none does
 unfoldable pub rest_after : List ℕ → List (List ℕ) → List (List ℕ)
 rest_after text [] = []
 rest_after text (word ∷ words) = if bytes_eq word text then words else rest_after text words
@@ -69,7 +69,7 @@ abbrev pub first_word : List (List ℕ) → Option (List ℕ)
 first_word [] = None
 first_word (word ∷ words) = Some word
 
--- the word for an option's places, of the words after its own; a flag has none
+-- the word for an option's places, among the words after its own; a flag has none
 abbrev pub value_of : List Place → List (List ℕ) → Option (List ℕ)
 value_of [] words = None
 value_of (place ∷ places) words = first_word words
@@ -79,12 +79,12 @@ abbrev pub names_front : List (List ℕ) → List (List ℕ)
 names_front [] = []
 names_front (word ∷ words) = if is_file_name word then word ∷ names_front words else []
 
--- whether a word stands among others
+-- whether a word is among others
 unfoldable pub is_among : List ℕ → List (List ℕ) → Bool
 is_among word words = list_any (λ other. bytes_eq other word) words
 
--- what words of a command say: the word of a number, counted from 1, that has a place; the names after a list's word;
--- the word after an option's; and whether an option's word stands among them
+-- what words of a command say: the word with a number, counted from 1, that has a place; the names after a list's word;
+-- the word after an option's; and whether an option's word is among them
 pub record Answers : Type 0 where
   pub place : ℕ → Option (List ℕ)
   pub names : NameList → List (List ℕ)
@@ -99,7 +99,7 @@ answers_in kind words = record {
   has = λ choice. is_among (option_of choice) words;
 }
 
--- what a command line asks for, whichever command it is: the file and the number at each place, counted from 0; the
+-- what a command line requests, whichever command it is: the file and the number at each place, counted from 0; the
 -- names of each list; the number of each option, given or not; the rounds that are dumped; and whether an option is
 -- given
 pub record PlainAsked : Type 0 where
@@ -111,17 +111,17 @@ pub record PlainAsked : Type 0 where
   pub dumps : DumpChoice
   pub has : Choice → Bool
 
--- the number that a word says; without it, the default
+-- the number of a word; without it, the default
 abbrev pub said : NumberKind → ℕ → Option (List ℕ) → ℕ
 said kind default None = default
 said kind default (Some word) = unwrap_or (number_in kind word) default
 
--- the number that a word at a place says; a place for something else says none
+-- the number of a word at a place; a place for something else has none
 abbrev pub said_at : Option Place → Option (List ℕ) → ℕ
 said_at (Some (Word (Number kind))) word = said kind (least_of kind) word
 said_at place word = 0
 
--- the number that the word after an option's says, by the option's places
+-- the number of the word after an option's, by the option's places
 abbrev pub said_for : List Place → ℕ → Option (List ℕ) → ℕ
 said_for (Word (Number kind) ∷ []) default word = said kind default word
 said_for places default word = default
@@ -131,12 +131,12 @@ abbrev pub most_for : List Place → ℕ
 most_for (Word (Number kind) ∷ []) = most_of kind
 most_for places = 4294967295
 
--- the dumps that a word asks for; without it there is none
+-- the dumps that a word requests; without it there are none
 abbrev pub dumps_said : Option (List ℕ) → DumpChoice
 dumps_said None = NoDump
 dumps_said (Some word) = unwrap_or (dumps_of word) NoDump
 
--- what the answers of a command's words ask for, by the command's row of the table
+-- what the answers of a command's words request, by the command's row of the table
 abbrev pub asked_of : CommandKind → Answers → PlainAsked
 asked_of kind a = record {
   kind = kind;
@@ -151,11 +151,11 @@ asked_of kind a = record {
 abbrev pub asked_in : CommandKind → List (List ℕ) → PlainAsked
 asked_in kind words = asked_of kind (answers_in kind words)
 
--- what was read asks for
+-- what was read, as a request
 abbrev pub plain : Asked → PlainAsked
 plain asked = asked_in asked.kind (texts asked.words.now)
 
--- the words are a command that asks for this: they are one of its kind, and say it
+-- the words are a command that requests this: they are one of its kind, and say it
 pub record IsCommand (words : List (List ℕ)) (asked : PlainAsked) : Type 0 where
   pub kind : CommandKind
   pub front : List (List (List ℕ))
@@ -169,9 +169,9 @@ pub record IsBeginning (words : List (List ℕ)) : Type 0 where
   pub asked : PlainAsked
   pub whole : IsCommand (words ++ more) asked
 
--- the refused word, counted from 1: the first one with which the words up to and including it are not the beginning of
--- any command, so that any fewer are one; where all the words are a beginning and no command, the number of words plus
--- one
+-- the refused word, counted from 1: the first one that makes it impossible to complete the words to a command, so that
+-- any fewer are the beginning of one; if all the words are the beginning of a command but not a command, it is the
+-- number of words plus one
 pub record IsRefusedAt (words : List (List ℕ)) (word : ℕ) : Type 0 where
   pub counted : 1 ≤ word
   pub no_further : word ≤ length words + 1
@@ -185,8 +185,8 @@ AreWithin NoDump = Unit {0}
 AreWithin EveryDump = Unit {0}
 AreWithin (ChosenDumps rounds) = AllByRecursion (IsWithin RoundCount) rounds
 
--- what is asked for is within the limits: each number is within those of its kind, and the names of each list of the
--- command are as many as it asks for, and different where they must differ
+-- what is requested is within the limits: each number is within those of its kind, and each list of the command has a
+-- permitted number of names, which are different if they must differ
 pub record AskedWithin (asked : PlainAsked) : Type 0 where
   pub number : (place : ℕ) (kind : NumberKind) → slice_get (places_of asked.kind) place ≡ Some (Word (Number kind))
       → IsWithin kind (asked.number place)

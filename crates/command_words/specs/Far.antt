@@ -1,4 +1,4 @@
--- Words as a reader takes them that doesn't know the option `--far` of `run`.
+-- Words for a reader that doesn't know the option `--far` of `run`.
 use Rattle.std.specs.Prelude.{◌≡◌, ℕ, Bool, true, false, ◌&&◌, if◌then◌else◌, List, [], ◌∷◌, map}
 use Rattle.std.specs.List.{list_any}
 use Rattle.std.specs.Str.{bytes_eq}
@@ -7,20 +7,20 @@ use Rattle.command_words.specs.declared.table.Choice.TheVariants.{Far}
 use Rattle.command_words.specs.Command.{PlainAsked, IsCommand}
 use Rattle.command_words.specs.Table.{option_of, word_of}
 
--- whether the first word is `run`, and `--far` stands among them, right or wrong
+-- whether the first word is `run`, and `--far` is among them, rightly or wrongly
 abbrev pub is_far_run : List (List ℕ) → Bool
 is_far_run [] = false
 is_far_run (word ∷ words) = bytes_eq word (word_of Run) && list_any (λ other. bytes_eq other (option_of Far)) words
 
--- a word, where `--far` is none that any command has: as the empty word, which no command has either
+-- a word, if no command has `--far`: it is treated as the empty word, which no command has either
 abbrev pub word_without_far : List ℕ → List ℕ
 word_without_far word = if bytes_eq word (option_of Far) then [] else word
 
--- the words, where `--far` among those of a `run` is no option of it; to other commands it is none anyway
+-- the words, if `--far` isn't an option of `run`; for other commands it never is
 abbrev pub words_without_far : List (List ℕ) → List (List ℕ)
 words_without_far words = if is_far_run words then map word_without_far words else words
 
--- such a reader takes no command that has the option, and all others as they are
+-- such a reader refuses each command that has the option, and reads all others unchanged
 pub record RefusesFar : Type 0 where
   pub refused : (words : List (List ℕ)) (asked : PlainAsked) → is_far_run words ≡ true
       → ¬ IsCommand (words_without_far words) asked

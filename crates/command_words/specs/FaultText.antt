@@ -1,4 +1,4 @@
--- What is said of words that are no command (this project's own).
+-- The text for words that are not a command (this project's own).
 use Rattle.std.specs.Prelude.{ℕ, List, codes, decimal}
 use Rattle.ant_base.specs.Layout.{◌+++◌}
 

@@ -1,5 +1,5 @@
--- What the page of `--help` says of the table: each command with its options, and each option, with their limits (this
--- project's own).
+-- What the page of `--help` says about the table: each command with its options, and each option, with their limits
+-- (this project's own).
 use Rattle.std.specs.Prelude.{ℕ, ◌-◌, Bool, true, false, not, if◌then◌else◌, List, [], ◌∷◌, length, slice_index_or, codes, decimal}
 use Rattle.std.specs.List.{list_any}
 use Rattle.ant_base.specs.Layout.{◌+++◌, numbered}
@@ -14,7 +14,7 @@ use Rattle.command_words.specs.declared.table.Choice.TheVariants.{Seed}
 use Rattle.command_words.specs.Limits.{least_of, most_of, name_of}
 use Rattle.command_words.specs.Table.{about_of, choices_of, default_of, fewest_names, help_row, is_needed, kinds, list_name, means_all, most_names, option_of, options, places_of, values_of, word_of}
 
--- the texts of the elements of a list, one after another; `first` stands for none of them
+-- the texts of the elements of a list, one after another; `first` is a default that is never used
 abbrev pub each_text : {A : Type 0} → A → (A → List ℕ) → List A → List ℕ
 each_text first text list = numbered (λ at. text (slice_index_or list at first)) (length list)
 
@@ -46,11 +46,11 @@ needed_texts choices = each_text Seed needed_text choices
 unfoldable pub free_texts : List Choice → List ℕ
 free_texts choices = each_text Seed free_text choices
 
--- whether some of these options needn't be given
+-- whether some of these options may be left out
 unfoldable pub has_free : List Choice → Bool
 has_free choices = list_any (λ choice. not (is_needed choice)) choices
 
--- that a command may have more of its options than it needs, and which
+-- that a command may have more options than it needs, and which
 unfoldable pub more_text : List Choice → List ℕ
 more_text choices = if has_free choices then codes " [OPTION].." else []
 
@@ -66,24 +66,24 @@ command_text kind =
     +++ place_lines (places_of kind)
     +++ takes_line (choices_of kind)
 
--- what stands behind an option's word, two columns wide
+-- what follows an option's word, two columns wide
 abbrev pub value_text : List Place → List ℕ
 value_text (Word (Number kind) ∷ []) = codes " N"
 value_text (Word Dumps ∷ []) = codes " D"
 value_text places = codes "  "
 
--- what holds without an option: all, or a number
+-- the default of an option: all, or a number
 abbrev pub without_text : Bool → ℕ → List ℕ
 without_text true default = codes "all"
 without_text false default = decimal default
 
--- the limits of an option's number, and what holds without it
+-- the limits of an option's number, and its default
 abbrev pub default_text : List Place → Bool → Bool → ℕ → List ℕ
 default_text (Word (Number kind) ∷ []) true all default = range_text kind +++ codes "; needed"
 default_text (Word (Number kind) ∷ []) false all default = range_text kind +++ codes "; " +++ without_text all default
 default_text places needed all default = []
 
--- the line of an option; what is said of it begins in column 17
+-- the line of an option; the sentence about it begins in column 17
 unfoldable pub option_line : Choice → List ℕ
 option_line choice =
     codes "  " +++ option_of choice +++ value_text (values_of choice)

@@ -26,7 +26,7 @@ abbrev pub OneOfBoth : Type 0
 OneOfBoth =
     (words : List (List ℕ)) → ((asked : PlainAsked) × IsCommand words asked) ⊎ ((word : ℕ) × IsRefusedAt words word)
 
--- a prefix of a beginning is a beginning, so that the refused word ends it for good
+-- a prefix of a beginning is a beginning, so no further words can repair a refused word
 abbrev pub FrontBegins : Type 0
 FrontBegins = (words more : List (List ℕ)) → IsBeginning (words ++ more) → IsBeginning words
 
@@ -42,9 +42,9 @@ AnyOrder = (words more : List (List ℕ)) (asked : PlainAsked) (is : IsCommand w
 abbrev pub WithinLimits : Type 0
 WithinLimits = (words : List (List ℕ)) (asked : PlainAsked) → IsCommand words asked → AskedWithin asked
 
--- what is asked for stands among the words: no default takes the place of a word that stands there
+-- what is requested is among the words: no default replaces a word that is given
 pub record SaysItsWords : Type 0 where
-  -- a file has the name that stands at its place
+  -- a file has the name at its place
   pub file : (words : List (List ℕ)) (asked : PlainAsked) → IsCommand words asked → (place : ℕ)
       → slice_get (places_of asked.kind) place ≡ Some (Word FileName)
       → slice_get words (place + 1) ≡ Some (asked.file place)
@@ -52,15 +52,15 @@ pub record SaysItsWords : Type 0 where
   pub number : (words : List (List ℕ)) (asked : PlainAsked) → IsCommand words asked → (place : ℕ) (kind : NumberKind)
       → slice_get (places_of asked.kind) place ≡ Some (Word (Number kind))
       → (word : List ℕ) × (slice_get words (place + 1) ≡ Some word) × (number_in kind word ≡ Some (asked.number place))
-  -- an option that is given has the number that is spelled behind its word
+  -- an option that is given has the number that is spelled after its word
   pub option : (words : List (List ℕ)) (asked : PlainAsked) (is : IsCommand words asked) (given : Given)
       → Contains is.given given
       → (kind : NumberKind) → values_of given.choice ≡ Word (Number kind) ∷ []
       → (word : List ℕ) × (given.values ≡ (word ∷ []) ∷ []) × (number_in kind word ≡ Some (asked.option given.choice))
-  -- and without it, that of the table
+  -- an option that isn't given has the table's default
   pub default : (words : List (List ℕ)) (asked : PlainAsked) (is : IsCommand words asked) (choice : Choice)
       → ¬ IsGiven choice is.given → asked.option choice ≡ default_of choice
-  -- whether an option is given is said
+  -- whether an option is given is answered correctly
   pub has : (words : List (List ℕ)) (asked : PlainAsked) (is : IsCommand words asked) (choice : Choice)
       → asked.has choice ≡ true → IsGiven choice is.given
   pub given : (words : List (List ℕ)) (asked : PlainAsked) (is : IsCommand words asked) (choice : Choice)

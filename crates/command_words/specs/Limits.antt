@@ -1,4 +1,4 @@
--- The numbers that words may say, a row a kind.
+-- The numbers that words may say, one row for each kind.
 use Rattle.std.specs.Prelude.{ℕ, ◌≤◌, List, Option, codes}
 use Rattle.ant_base.specs.Number.{number_within}
 use Rattle.command_words.specs.declared.limits.NumberKind.{NumberKind}
@@ -32,7 +32,7 @@ most_of ElementCount = 255
 most_of AntId = 16383
 most_of SeedCount = 1000
 
--- the number of a kind that a word says: 1 to 10 decimal digits, within the kind's limits
+-- the number of a word, of a kind: 1 to 10 decimal digits, within the kind's limits
 abbrev pub number_in : NumberKind → List ℕ → Option ℕ
 number_in kind word = number_within (least_of kind) (most_of kind) word
 
@@ -40,7 +40,7 @@ number_in kind word = number_within (least_of kind) (most_of kind) word
 abbrev pub IsWithin : NumberKind → ℕ → Type 0
 IsWithin kind number = (least_of kind ≤ number) × (number ≤ most_of kind)
 
--- what the page of `--help` calls a number that stands at a place
+-- the name that the page of `--help` has for a number at a place
 abbrev pub name_of : NumberKind → List ℕ
 name_of SeedNumber = codes "SEED"
 name_of RoundCount = codes "ROUNDS"

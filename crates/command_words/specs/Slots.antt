@@ -15,7 +15,7 @@ use Rattle.command_words.specs.Table.{keyword_of, fewest_names, most_names, must
 unfoldable pub is_file_name : List ℕ → Bool
 is_file_name word = nat_lt 0 (length word) && not (starts_with nat_eq word (codes "--"))
 
--- the pieces of a text between its commas: one more than commas
+-- the pieces of a text between its commas: one more than there are commas
 abbrev pub pieces_of : List ℕ → List (List ℕ)
 pieces_of text = slice_split (λ byte. byte == 44) text
 
@@ -24,7 +24,7 @@ abbrev pub with_number : Option ℕ → Option (List ℕ) → Option (List ℕ)
 with_number None numbers = None
 with_number (Some number) numbers = option_map (λ more. number ∷ more) numbers
 
--- the numbers of the pieces, where each piece is a count of rounds
+-- the numbers of the pieces, if each piece is a count of rounds
 abbrev pub numbers_of : List (List ℕ) → Option (List ℕ)
 numbers_of [] = Some []
 numbers_of (piece ∷ pieces) = with_number (number_in RoundCount piece) (numbers_of pieces)
@@ -45,7 +45,7 @@ dumps_of word =
 unfoldable pub is_dumps : List ℕ → Bool
 is_dumps word = is_some (dumps_of word)
 
--- whether a word may be what a slot asks for
+-- whether a word fits a slot
 abbrev pub fits : Slot → List ℕ → Bool
 fits FileName word = is_file_name word
 fits (Number kind) word = is_some (number_in kind word)
@@ -57,14 +57,14 @@ abbrev pub AllDiffer : List (List ℕ) → Type 0
 AllDiffer [] = Unit {0}
 AllDiffer (name ∷ names) = AllByRecursion (λ other. other ≢ name) names × AllDiffer names
 
--- the names of a list: file names, as many as it asks for, and different ones where they must differ
+-- the names of a list: file names, a permitted number of them, and different ones if they must differ
 pub record AreNames (list : NameList) (names : List (List ℕ)) : Type 0 where
   pub enough : fewest_names list ≤ length names
   pub few : length names ≤ most_names
   pub each : AllByRecursion (λ name. is_file_name name ≡ true) names
   pub different : must_differ list ≡ true → AllDiffer names
 
--- the words that stand at a place: one word, or names
+-- the words at a place: one word, or names
 abbrev pub FitsPlace : Place → List (List ℕ) → Type 0
 FitsPlace (Word slot) [] = ⊥
 FitsPlace (Word slot) (word ∷ []) = fits slot word ≡ true

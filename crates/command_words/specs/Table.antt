@@ -1,4 +1,4 @@
--- The commands, their options and their lists of names, a row each.
+-- The commands, their options and their lists of names, one row for each.
 use Rattle.std.specs.Prelude.{◌≡◌, ℕ, Bool, true, false, ◌&&◌, ◌||◌, Option, Some, slice_get, List, [], ◌∷◌, codes}
 use Rattle.std.specs.List.{list_any}
 use Rattle.std.specs.Str.{bytes_eq}
@@ -14,7 +14,7 @@ use Rattle.command_words.specs.declared.table.CommandKind.TheVariants.{Show, Bra
 use Rattle.command_words.specs.declared.table.Choice.{Choice}
 use Rattle.command_words.specs.declared.table.Choice.TheVariants.{Seed, Seeds, Rounds, Dump, Workers, Window, Surround, Corpse, Rest, Stats, Far, Width, Height, Rocks, Blobs, From, Ant, Food, Labels, States, Games, Leads, Gauntlet, Lines, Way}
 
--- a command: its first word, what stands after that, and its options, which follow in any order
+-- a command: its first word, what follows it, and its options, which may be in any order
 pub record CommandRow : Type 0 where
   pub word : List ℕ
   pub places : List Place
@@ -71,7 +71,7 @@ row_of Acts = command_row (codes "acts") game_places (Seed ∷ Rounds ∷ From �
 row_of Profile = command_row (codes "profile") game_places (Seed ∷ Rounds ∷ From ∷ Surround ∷ Corpse ∷ Rest ∷ [])
 row_of Advance = command_row (codes "advance") one_file (Rounds ∷ Workers ∷ [])
 
--- what the page of `--help` has of a command: its places by name, each behind a space, and a sentence
+-- what the page of `--help` has about a command: its places by name, each after a space, and a sentence
 pub record CommandHelp : Type 0 where
   pub names : List ℕ
   pub says : List ℕ
@@ -123,8 +123,8 @@ places_of kind = (row_of kind).places
 abbrev pub choices_of : CommandKind → List Choice
 choices_of kind = (row_of kind).choices
 
--- an option: its word, what stands after that, whether a command that has the option needs it, and the number that
--- holds where it isn't given, or whether all do
+-- an option: its word, what follows it, whether a command that has the option needs it, and its default, which is a
+-- number or all
 pub record OptionRow : Type 0 where
   pub word : List ℕ
   pub values : List Place
@@ -195,11 +195,11 @@ values_of choice = (option_row choice).values
 abbrev pub is_needed : Choice → Bool
 is_needed choice = (option_row choice).needed
 
--- what holds where a number's option isn't given
+-- the default of a number's option
 abbrev pub default_of : Choice → ℕ
 default_of choice = (option_row choice).default
 
--- whether all hold where it isn't given
+-- whether the default is all
 abbrev pub means_all : Choice → Bool
 means_all choice = (option_row choice).all
 
@@ -209,7 +209,7 @@ options =
     Seed ∷ Seeds ∷ Rounds ∷ Dump ∷ Workers ∷ Window ∷ Surround ∷ Corpse ∷ Rest ∷ From ∷ Ant ∷ Stats ∷ Food ∷ Far ∷ Width
     ∷ Height ∷ Rocks ∷ Blobs ∷ Games ∷ Leads ∷ Gauntlet ∷ States ∷ Way ∷ Labels ∷ Lines ∷ []
 
--- what the page says of an option
+-- the sentence about an option on the page
 abbrev pub about_of : Choice → List ℕ
 about_of Seed = codes "the seed of the random numbers"
 about_of Seeds = codes "how many seeds each game is played with"
@@ -252,7 +252,7 @@ HasFile kind place = is_file (slice_get (places_of kind) place) ≡ true
 abbrev pub HasNumber : CommandKind → ℕ → Type 0
 HasNumber kind place = is_number (slice_get (places_of kind) place) ≡ true
 
--- it has an option, or one whose word is followed by a number
+-- a command's row has an option, or one whose word is followed by a number
 abbrev pub has_option : CommandKind → Choice → Bool
 has_option kind choice = list_any (λ other. bytes_eq (option_of other) (option_of choice)) (choices_of kind)
 
@@ -294,7 +294,7 @@ has_names list (Names other ∷ places) = bytes_eq (keyword_of other) (keyword_o
 abbrev pub HasNames : CommandKind → NameList → Type 0
 HasNames kind list = has_names list (places_of kind) ≡ true
 
--- what the page calls the names of a list
+-- the name that the page has for the names of a list
 abbrev pub list_name : NameList → List ℕ
 list_name Worlds = codes "WORLD.."
 list_name Brains = codes "BRAIN.."

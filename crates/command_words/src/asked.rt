@@ -1,4 +1,4 @@
-// What a command line asks for.
+// What a command line requests.
 ghost use Rattle.std.specs.Prelude.{◌≡◌, ◌≤◌};
 ghost use Rattle.command_words.specs.Words.{plain_dumps, texts};
 ghost use Rattle.command_words.specs.Command.{most_for, plain};
@@ -15,7 +15,7 @@ use crate::{Choice, CommandKind, DumpRounds, NameList};
 pub struct Asked<'w> {
     /// which command it is
     pub kind: CommandKind,
-    /// all words of the command, with its first
+    /// all words of the command, including its first
     pub words: &'w [String],
 }
 
@@ -48,7 +48,7 @@ impl<'w> Asked<'w> {
         names_of(list, self.words)
     }
 
-    /// The number that an option says, or the one that holds without it: within the limits of the option's kind.
+    /// The number that an option says, or its default: within the limits of the option's kind.
     #[tactic(auto, using(crate::proofs::WithinLemmas::option_most))]
     pub fn option(self, choice: Choice) -> u32
         requires has { HasNumberOption self.kind choice }
@@ -76,10 +76,10 @@ impl<'w> Asked<'w> {
     }
 }
 
-/// The words are no command; names the refused word, the first one with which they are not the beginning of any
-/// command.
+/// The words are not a command. It has the refused word: the first one that makes it impossible to complete the line to
+/// a command.
 #[derive(Clone, Copy, Debug, PartialEq, Eq)]
 pub struct Refused {
-    /// counted from 1; the number of words plus one where all of them are the beginning of a command and no command
+    /// counted from 1; the number of words plus one if words are only missing at the end
     pub word: usize,
 }

@@ -1,4 +1,4 @@
-// Which rounds are dumped.
+// The rounds that are dumped.
 ghost use Rattle.std.specs.Prelude.{◌≡◌, option_map};
 ghost use Rattle.command_words.specs.Slots.{dumps_of, is_dumps};
 
@@ -11,7 +11,7 @@ pub enum DumpRounds<'w> {
     Nothing,
     /// every round
     All,
-    /// the rounds of a list, in its order, with the repeated ones
+    /// the rounds of a list, in its order, including repeated ones
     Chosen(Numbers<'w>),
 }
 

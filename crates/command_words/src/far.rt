@@ -1,4 +1,4 @@
-// The option `--far`, to a reader that doesn't know it.
+// The option `--far`, for a reader that doesn't know it.
 ghost use Rattle.std.specs.Prelude.{IfErr, IfOk, min, true, ◌≡◌};
 ghost use Rattle.command_words.specs.Command.{IsCommand, IsRefusedAt, PlainAsked, plain};
 ghost use Rattle.command_words.specs.Inner.Fronts.{words_before};
@@ -9,7 +9,7 @@ use crate::read::read_words;
 use crate::walk::is_among;
 use crate::{Asked, Choice, CommandKind, Refused};
 
-/// Whether the first word is `run`, and `--far` stands among the others, right or wrong.
+/// Whether the first word is `run`, and `--far` is among the others, rightly or wrongly.
 #[tactic(auto, unfolding(crate::specs::Command::is_among))]
 pub fn is_far_run(words: &[String]) -> bool
     ensures { result ≡ is_far_run (texts words.now) }
@@ -20,8 +20,8 @@ pub fn is_far_run(words: &[String]) -> bool
     first.as_str() == CommandKind::Run.word() && is_among(Choice::Far.word(), others)
 }
 
-/// The same as `read_words`, but that `--far` is no option: the first `--far` of a `run` is refused, unless a word
-/// before it is. It takes no memory.
+/// As `read_words`, for a reader without `--far`: the first `--far` of a `run` is refused, unless an earlier word is.
+/// It takes no memory.
 pub fn read_words_without_far<'w>(words: &'w [String]) -> Result<Asked<'w>, Refused>
     ensures command { IfOk result (λ asked. IsCommand (words_without_far (texts words.now)) (plain asked)) }
     ensures refused { IfErr result (λ refused. IsRefusedAt (words_without_far (texts words.now)) refused.word) }
@@ -34,7 +34,7 @@ pub fn read_words_without_far<'w>(words: &'w [String]) -> Result<Asked<'w>, Refu
     }
 }
 
-// The refused word of a run among whose words `--far` stands, where that is no option.
+// The refused word of a run that has `--far` among its words, if that isn't an option.
 fn refused_far(words: &[String]) -> Refused
     requires { is_far_run (texts words.now) ≡ true }
     ensures { IsRefusedAt (words_without_far (texts words.now)) result.word }
@@ -55,7 +55,7 @@ fn earlier(one: Refused, other: Refused) -> Refused
     if one.word < other.word { one } else { other }
 }
 
-// The words before the first one that is this; all of them where none is.
+// The words before the first one that equals this; all of them if none does.
 fn words_before<'w>(text: &str, words: &'w [String]) -> &'w [String]
     ensures { texts result.now ≡ words_before text.now (texts words.now) }
 {

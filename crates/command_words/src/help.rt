@@ -1,4 +1,4 @@
-// What the page of `--help` says of the table.
+// What the page of `--help` says about the table.
 ghost use Rattle.std.specs.Prelude.{◌≡◌, length, slice_index_or, codes};
 ghost use Rattle.command_words.specs.Help.{command_text, default_text, free_text, free_texts, has_free, more_text, needed_text, needed_texts, option_line, place_line, place_lines, range_text, table_text, takes_line, value_text, without_text};
 ghost use Rattle.command_words.specs.Table.{default_of, is_needed, kinds, means_all, options, values_of};
@@ -11,8 +11,8 @@ use crate::table::{MOST_NAMES, kinds, options};
 use crate::{Choice, CommandKind, NumberKind, Place, Slot};
 use ant_base::{Each, Failed, Layout, NumberedTexts, Sink, layout};
 
-/// What the page of `--help` says of the table: of each command how it is called, a sentence, the limits of its numbers
-/// and lists, and its options; and of each option what it is for, its limits, and what holds without it.
+/// What the page of `--help` says about the table. For each command: how it is called, a sentence, the limits of its
+/// numbers and lists, and its options. For each option: what it is for, its limits, and its default.
 #[derive(Clone, Copy)]
 pub struct HelpPage;
 
@@ -70,7 +70,7 @@ impl Layout for Command {
     }
 }
 
-// That a command may have more of its options than it needs.
+// That a command may have more options than it needs.
 #[derive(Clone, Copy)]
 struct More(&'static [Choice]);
 
@@ -102,7 +102,7 @@ impl Layout for Takes {
     }
 }
 
-// Whether some of these options needn't be given.
+// Whether some of these options may be left out.
 #[tactic(auto, unfolding(crate::specs::Help::has_free))]
 fn has_free(choices: &[Choice]) -> bool
     ensures { result ≡ has_free choices.now }
@@ -110,7 +110,7 @@ fn has_free(choices: &[Choice]) -> bool
     choices.iter().any(|choice| !choice.is_needed())
 }
 
-// The options that are needed, of these.
+// Those of these options that are needed.
 #[derive(Clone, Copy)]
 struct NeededOptions(&'static [Choice]);
 
@@ -143,7 +143,7 @@ impl NumberedTexts for NeededOptions {
     }
 }
 
-// The options that needn't be given, of these.
+// Those of these options that may be left out.
 #[derive(Clone, Copy)]
 struct FreeOptions(&'static [Choice]);
 
@@ -188,7 +188,7 @@ impl Layout for Range {
     }
 }
 
-// The lines of the places with limits, of these.
+// The lines of those of these places that have limits.
 #[derive(Clone, Copy)]
 struct PlaceLines(&'static [Place]);
 
@@ -276,7 +276,7 @@ impl Layout for OptionLine {
     }
 }
 
-// What stands behind an option's word.
+// What follows an option's word.
 fn value_of(values: &[Place]) -> &'static str
     ensures { result.now ≡ value_text values.now }
 {
@@ -287,7 +287,7 @@ fn value_of(values: &[Place]) -> &'static str
     }
 }
 
-// The limits of an option's number, and what holds without it.
+// The limits of an option's number, and its default.
 #[derive(Clone, Copy)]
 struct Default(Choice);
 
@@ -311,7 +311,7 @@ impl Layout for Default {
     }
 }
 
-// What holds without an option: all, or a number.
+// The default of an option: all, or a number.
 #[derive(Clone, Copy)]
 struct Without {
     all: bool,
@@ -329,7 +329,7 @@ impl Layout for Without {
     }
 }
 
-// So many spaces.
+// This many spaces.
 #[derive(Clone, Copy)]
 struct Spaces(usize);
 

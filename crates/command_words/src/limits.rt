@@ -4,7 +4,7 @@ ghost use Rattle.command_words.specs.Limits.{least_of, most_of, name_of, number_
 
 use ant_base::read_number_within;
 
-/// What a number counts. Each kind has limits of its own; a number is 1 to 10 decimal digits, and leading zeros are
+/// What a number counts. Each kind has its own limits. A number is 1 to 10 decimal digits, and leading zeros are
 /// accepted.
 #[derive(Clone, Copy, Debug, PartialEq, Eq)]
 pub enum NumberKind {
@@ -28,7 +28,7 @@ pub enum NumberKind {
     ElementCount,
     /// an ant's id, from 0 to 16,383
     AntId,
-    /// seeds that follow one another, from 1 to 1000
+    /// consecutive seeds, from 1 to 1000
     SeedCount,
 }
 
@@ -70,7 +70,7 @@ impl NumberKind {
         }
     }
 
-    // What the page of `--help` calls one that stands at a place.
+    // The name that the page of `--help` has for a number at a place.
     pub(crate) fn name(self) -> &'static str
         ensures { result.now ≡ name_of self }
     {
@@ -83,7 +83,7 @@ impl NumberKind {
         }
     }
 
-    // The number that a word says.
+    // The number of a word.
     pub(crate) fn read(self, word: &[u8]) -> Option<u32>
         ensures number { result ≡ number_in self word.now }
         ensures within { IfSome result (λ number. number ≤ most_of self) }

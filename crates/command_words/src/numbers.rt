@@ -8,7 +8,7 @@ use crate::pieces::Pieces;
 use std::marker::Model;
 
 /// The remaining numbers of a list, each from 0 to 1,000,000, in the order of the list. Contracts see it as the list of
-/// these numbers. It takes no memory and refuses nothing: the list was checked whole when it was made.
+/// these numbers. It takes no memory and never fails: the whole list was checked when it was made.
 #[derive(Drop)]
 pub struct Numbers<'w> {
     pieces: Pieces<'w>,
@@ -26,7 +26,7 @@ impl<'w> Model for Numbers<'w> {
 }
 
 impl<'w> Numbers<'w> {
-    // The numbers of a list with one comma between them; None where it is no such list.
+    // The numbers of a list with one comma between them; `None` if the word isn't such a list.
     pub(crate) fn new(word: &'w [u8]) -> Option<Self>
         ensures { result ≡ numbers_of (pieces_of word.now) }
     {

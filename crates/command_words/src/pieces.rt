@@ -7,10 +7,10 @@ ghost use Rattle.command_words.specs.Inner.Pieces.{pieces_left, after_byte};
 
 use std::marker::Model;
 
-// The pieces of a text that are left, from the first on. It takes no memory, and reads each byte once.
+// The remaining pieces of a text, from the first on. It takes no memory, and reads each byte once.
 #[derive(Drop)]
 pub(crate) struct Pieces<'t> {
-    // what stands after the last comma that was read, till the last piece is taken
+    // what follows the last comma that was read, until the last piece is taken
     rest: Option<&'t [u8]>,
 }
 
@@ -46,7 +46,7 @@ impl<'t> Iterator for Pieces<'t> {
     }
 }
 
-// The first piece, and what stands after its comma.
+// The first piece, and what follows its comma.
 #[tactic(auto, using(crate::proofs::PiecesLemmas::pieces_of_cut))]
 fn cut_piece(text: &[u8]) -> (&[u8], Option<&[u8]>)
     ensures { pieces_of text.now ≡ result.0.now ∷ pieces_left (option_copied result.1) }
@@ -64,7 +64,7 @@ fn after_byte(text: &[u8]) -> Option<&[u8]>
     }
 }
 
-// How many bytes stand before the first comma.
+// How many bytes precede the first comma.
 fn piece_length(text: &[u8]) -> usize
     ensures first { result ≡ prefix_len (λ byte. not (byte == 44)) text.now }
     ensures within { result ≤ length text.now }

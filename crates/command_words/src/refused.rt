@@ -1,4 +1,4 @@
-// What is said of words that are no command.
+// The text for words that are not a command.
 use crate::Refused;
 use ant_base::{Failed, Layout, Sink, layout, show};
 use std::error::Error;

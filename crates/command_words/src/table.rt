@@ -4,24 +4,24 @@ ghost use Rattle.command_words.specs.Table.{about_of, choices_of, default_of, fe
 
 use crate::{NumberKind, Place, Slot};
 
-/// A command, by its first word, which is spelled exactly as here.
+/// A command, named by its first word, which is spelled exactly as here.
 #[derive(Clone, Copy, Debug, PartialEq, Eq)]
 pub enum CommandKind {
     /// `show WORLD SEED`: the dump of a world at the start of a game
     Show,
     /// `brain FILE`: the canonical text of a brain
     Brain,
-    /// `minimise FILE`, and its option: a brain with as few states as serve, or its states' new numbers
+    /// `minimise FILE`, and its option: an equivalent brain with the fewest states, or its states' new numbers
     Minimise,
     /// `run WORLD RED BLACK`, and its options: a game and its score
     Run,
-    /// `gen SEED`, and its options: a world made from a number
+    /// `gen SEED`, and its options: a world generated from a number
     Gen,
     /// `cup --worlds NAMES --brains NAMES`, and its options: all games between some brains
     Cup,
     /// `view WORLD RED BLACK BREAKS`, and its options: the first moment of a game at which a break holds
     View,
-    /// `workload SEED ROUNDS WORKERS`: a game of a world made from a number
+    /// `workload SEED ROUNDS WORKERS`: a game of a world generated from a number
     Workload,
     /// `--help`: the commands
     Help,
@@ -29,18 +29,18 @@ pub enum CommandKind {
     HelpWord,
     /// `--version`: which program this is
     Version,
-    /// `asm FILE`, and its options: the brain of a labelled program, or what its labels lead to and which lines its
-    /// states come from
+    /// `asm FILE`, and its options: the brain of a labelled program, or the states of its labels, or the lines of its
+    /// states
     Asm,
-    /// `save WORLD RED BLACK`, and its options: a game after some rounds, to go on with
+    /// `save WORLD RED BLACK`, and its options: a game after some rounds, to be continued
     Save,
     /// `resume SAVE`, and its options: the rest of a game that was saved
     Resume,
     /// `trace WORLD RED BLACK ID`, and its options: an ant's way, round by round
     Trace,
-    /// `same FILE FILE`, and its option: whether two brains are the same, or where they first differ
+    /// `same FILE FILE`, and its option: whether two brains are the same, or their first difference
     Same,
-    /// `events WORLD RED BLACK`, and its options: who dies in a game, and how the score goes, turn by turn
+    /// `events WORLD RED BLACK`, and its options: the deaths and the scores of a game, turn by turn
     Events,
     /// `acts WORLD RED BLACK`, and its options: what every ant executes in a game, turn by turn
     Acts,
@@ -50,62 +50,63 @@ pub enum CommandKind {
     Advance,
 }
 
-/// An option that may follow the words of a command's places, in any order and at most once.
+/// An option that may follow the words of a command's places, in any order and at most once. A number's default is used
+/// if its option is not given.
 #[derive(Clone, Copy, Debug, PartialEq, Eq)]
 pub enum Choice {
     /// `--seed N`, needed
     Seed,
-    /// `--seeds N`, how many seeds follow one another from that of `--seed`; without it 1
+    /// `--seeds N`, how many consecutive seeds, beginning with that of `--seed`; default 1
     Seeds,
     /// `--rounds N`, needed
     Rounds,
-    /// `--dump D`, the rounds that are dumped; without it none
+    /// `--dump D`, the rounds that are dumped; default none
     Dump,
-    /// `--workers N`; without it 1
+    /// `--workers N`; default 1
     Workers,
-    /// `--window N`, the turns of a window; without it 16,384
+    /// `--window N`, the turns of a window; default 16,384
     Window,
-    /// `--surround N`, the foes that surround an ant; without it 5
+    /// `--surround N`, the foes that surround an ant; default 5
     Surround,
-    /// `--corpse N`, the food that a killed ant leaves; without it 3
+    /// `--corpse N`, the food that a killed ant leaves; default 3
     Corpse,
-    /// `--rest N`, the rounds of rest after a step; without it 14
+    /// `--rest N`, the rounds of rest after a step; default 14
     Rest,
-    /// `--stats`, whether the counts of turns are wanted
+    /// `--stats`, whether the counts of turns are printed
     Stats,
-    /// `--food`, whether it is told who takes and who drops food
+    /// `--food`, whether each food particle taken or dropped is reported
     Food,
     /// `--far`, whether the workers are kept for the whole game
     Far,
-    /// `--width N`, the cells of a row; without it 150
+    /// `--width N`, the cells of a row; default 150
     Width,
-    /// `--height N`, the rows; without it 150
+    /// `--height N`, the rows; default 150
     Height,
-    /// `--rocks N`; without it 14
+    /// `--rocks N`; default 14
     Rocks,
-    /// `--blobs N`; without it 11
+    /// `--blobs N`; default 11
     Blobs,
-    /// `--from N`, the first round that is looked at; without it 0
+    /// `--from N`, the first round that is reported; default 0
     From,
-    /// `--ant N`, the one ant that is reported; without it all are
+    /// `--ant N`, the one ant that is reported; default all
     Ant,
     /// `--labels`, whether to print the state of each label instead of the brain
     Labels,
     /// `--states`, whether to print the new number of each state instead of the brain
     States,
-    /// `--games`, whether the line of each game is wanted before the standing
+    /// `--games`, whether the line of each game is printed before the standing
     Games,
-    /// `--leads`, whether each line of the standing ends in the brain's lead
+    /// `--leads`, whether each line of the standing ends with the brain's lead
     Leads,
     /// `--gauntlet`, whether only the games of the first brain are played
     Gauntlet,
     /// `--lines`, whether to print the line of each state instead of the brain
     Lines,
-    /// `--way`, whether each answer on the way to the difference is wanted
+    /// `--way`, whether each answer on the way to the difference is printed
     Way,
 }
 
-/// A list of file names, after a word of its own.
+/// A list of file names, after its own word.
 #[derive(Clone, Copy, Debug, PartialEq, Eq)]
 pub enum NameList {
     /// `--worlds`, then 1 to 16 names
@@ -116,7 +117,7 @@ pub enum NameList {
 
 pub(crate) const MOST_NAMES: usize = 16;
 
-/// How many turns a window has where no option says it: 16,384, which is a whole round.
+/// How many turns a window has without an option: 16,384, which is a whole round.
 pub const DEFAULT_WINDOW: u32 = 16_384;
 
 pub(crate) fn kinds() -> &'static [CommandKind]
@@ -146,8 +147,8 @@ pub(crate) fn kinds() -> &'static [CommandKind]
     ]
 }
 
-// A command: its first word, what stands after that, and the options that may follow; and of the page of `--help` its
-// places by name, each behind a space, and a sentence.
+// A command: its first word, what follows it, and the options that may follow; and for the page of `--help` its places
+// by name, each after a space, and a sentence.
 #[derive(Clone, Copy)]
 struct CommandRow {
     word: &'static str,
@@ -390,21 +391,21 @@ impl CommandKind {
         self.row().word
     }
 
-    // What stands after its first word.
+    // What follows its first word.
     pub(crate) fn places(self) -> &'static [Place]
         ensures { result.now ≡ places_of self }
     {
         self.row().places
     }
 
-    // Its places by name, each behind a space.
+    // Its places by name, each after a space.
     pub(crate) fn names(self) -> &'static str
         ensures { result.now ≡ (help_row self).names }
     {
         self.row().names
     }
 
-    // What the page of `--help` says of it.
+    // The sentence about it on the page of `--help`.
     pub(crate) fn says(self) -> &'static str
         ensures { result.now ≡ (help_row self).says }
     {
@@ -451,8 +452,8 @@ pub(crate) fn options() -> &'static [Choice]
     ]
 }
 
-// An option: its word, what stands after that, whether a command that has the option needs it, the number that holds
-// where it isn't given, or whether all do, and what the page of `--help` says of it.
+// An option: its word, what follows it, whether a command that has the option needs it, its default, which is a number
+// or all, and the sentence about it on the page of `--help`.
 #[derive(Clone, Copy)]
 struct OptionRow {
     word: &'static str,
@@ -612,21 +613,21 @@ impl Choice {
         }
     }
 
-    // The number that holds where the option isn't given.
+    // The default of a number.
     pub(crate) fn default(self) -> u32
         ensures { result ≡ default_of self }
     {
         self.row().default
     }
 
-    // Whether all hold where it isn't given.
+    // Whether the default is all.
     pub(crate) fn means_all(self) -> bool
         ensures { result ≡ means_all self }
     {
         self.row().all
     }
 
-    // What the page of `--help` says of it.
+    // The sentence about it on the page of `--help`.
     pub(crate) fn about(self) -> &'static str
         ensures { result.now ≡ about_of self }
     {
@@ -639,7 +640,7 @@ impl Choice {
         self.row().word
     }
 
-    // What stands after its word.
+    // What follows its word.
     pub(crate) fn values(self) -> &'static [Place]
         ensures { result.now ≡ values_of self }
     {
@@ -655,7 +656,7 @@ impl Choice {
 }
 
 impl NameList {
-    // What the page of `--help` calls its names.
+    // The name that the page of `--help` has for its names.
     pub(crate) fn name(self) -> &'static str
         ensures { result.now ≡ list_name self }
     {

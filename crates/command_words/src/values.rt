@@ -1,4 +1,4 @@
-// Looking for what the words say.
+// Finding what the words say.
 ghost use Rattle.std.specs.Prelude.{option_copied, slice_get, ◌+◌, ◌≡◌};
 ghost use Rattle.command_words.specs.Command.{answers_in, dumps_said, names_front, rest_after, said, said_at, said_for, value_of};
 ghost use Rattle.command_words.specs.Inner.Walk.{names_of};
@@ -16,7 +16,7 @@ pub(crate) fn word_at<'w>(words: &'w [String], place: usize) -> Option<&'w str>
     Some(word.as_str())
 }
 
-// The words after the first one that is this.
+// The words after the first one that equals this.
 fn rest_after<'w>(text: &str, words: &'w [String]) -> &'w [String]
     ensures { texts result.now ≡ rest_after text.now (texts words.now) }
 {
@@ -28,7 +28,7 @@ fn rest_after<'w>(text: &str, words: &'w [String]) -> &'w [String]
     &words[..0]
 }
 
-// The word after the first one that is this option's; a flag has none.
+// The word after the first one that is this option's word; a flag has none.
 pub(crate) fn word_after<'w>(choice: Choice, words: &'w [String]) -> Option<&'w str>
     ensures { option_copied result ≡ value_of (values_of choice) (rest_after (option_of choice) (texts words.now)) }
 {
@@ -38,7 +38,7 @@ pub(crate) fn word_after<'w>(choice: Choice, words: &'w [String]) -> Option<&'w 
     }
 }
 
-// The names after the first word that is this list's.
+// The names after the first word that is this list's word.
 pub(crate) fn names_of<'w>(list: NameList, words: &'w [String]) -> &'w [String]
     ensures { texts result.now ≡ names_of list (texts words.now) }
 {
@@ -56,7 +56,7 @@ fn names_front<'w>(words: &'w [String]) -> &'w [String]
     words
 }
 
-// The number that a word says; without it, the default.
+// The number of a word; without it, the default.
 fn said(kind: NumberKind, default: u32, word: Option<&str>) -> u32
     ensures { result ≡ said kind default (option_copied word.entry) }
 {
@@ -78,7 +78,7 @@ pub(crate) fn word_for<'w>(kind: CommandKind, words: &'w [String], place: u8) ->
     }
 }
 
-// The number that a word at a place says; a place for something else says none.
+// The number of a word at a place; a place for something else has none.
 pub(crate) fn said_at(place: Option<Place>, word: Option<&str>) -> u32
     ensures { result ≡ said_at place (option_copied word.entry) }
 {
@@ -88,7 +88,7 @@ pub(crate) fn said_at(place: Option<Place>, word: Option<&str>) -> u32
     }
 }
 
-// The number that the word after an option's says, by the option's places.
+// The number of the word after an option's, by the option's places.
 pub(crate) fn said_for(values: &[Place], default: u32, word: Option<&str>) -> u32
     ensures { result ≡ said_for values.now default (option_copied word.entry) }
 {
@@ -98,7 +98,7 @@ pub(crate) fn said_for(values: &[Place], default: u32, word: Option<&str>) -> u3
     }
 }
 
-// The dumps that a word asks for; without it there is none.
+// The dumps that a word requests; without it there are none.
 pub(crate) fn dumps_said<'w>(word: Option<&'w str>) -> DumpRounds<'w>
     ensures { plain_dumps result ≡ dumps_said (option_copied word.entry) }
 {

@@ -20,21 +20,21 @@ abbrev pub answer_text : Bool → List ℕ
 answer_text true = codes "met"
 answer_text false = codes "unmet"
 
--- an ant as it stands on a cell
+-- an ant on a cell
 abbrev pub standing_words : Pos → Ant → List ℕ
 standing_words p ant =
     ant_words (Some ant) +++ codes ": on " +++ place_words (Some p)
     +++ codes ", dir " +++ decimal (number_of ant.facing)
     +++ codes ", food " +++ decimal (one_if ant.laden) +++ codes ", state " +++ decimal ant.state
 
--- the line of a turn, without its LF: the ant as it stood before it, and what it executed
+-- the line of a turn, without its LF: the ant before the turn, and what it executed
 unfoldable pub act_line : Seen → List ℕ
 act_line seen =
     codes "round " +++ decimal seen.round +++ codes ", " +++ standing_words seen.place seen.ant +++ codes ": "
     +++ instruction_words seen.instruction
     +++ codes ": " +++ answer_text seen.met
 
--- whether the turns of an id are told: those of every ant, or of one
+-- whether the turns of an id are reported: those of every ant, or of one
 abbrev pub is_told : Option ℕ → ℕ → Bool
 is_told None id = true
 is_told (Some one) id = one == id
@@ -44,7 +44,7 @@ abbrev pub act_lines : Option ℕ → Seen → List (List ℕ)
 act_lines one seen = if is_told one seen.ant.id then act_line seen ∷ [] else []
 
 -- the text of what the ants execute from round `from` on: the line of the seed, and the lines of all turns, or of one
--- ant's; or that this one was never made
+-- ant's; or that no ant ever had this id
 unfoldable pub acts_text : Minds → ℕ → World → ℕ → Option ℕ → ℕ → List ℕ
 acts_text minds seed w rounds None from = report_text (act_lines None) from minds seed w rounds
 acts_text minds seed w rounds (Some one) from =

@@ -1,5 +1,5 @@
--- Who dies in a game, who takes and drops food, and how the score goes (this project's own; deaths are the task's
--- martial arts, food and the score its game play).
+-- The deaths, the food taken and dropped, and the scores of a game (this project's own; deaths are the task's martial
+-- arts, food and the score its game play).
 use Rattle.std.specs.Prelude.{ℕ, ◌==◌, ◌&&◌, Bool, true, false, if◌then◌else◌, List, [], ◌∷◌, ◌++◌, map, flat_map, Option, Some, None, codes, decimal}
 use Rattle.hex_geometry.specs.declared.position.Pos.{Pos}
 use Rattle.ant_base.specs.Layout.{◌+++◌}
@@ -38,11 +38,11 @@ death_words round w t killed = turn_words round w t +++ ant_words (ant_in w kill
 unfoldable pub score_words : ℕ → World → ℕ → Score → List ℕ
 score_words round w t score = turn_words round w t +++ codes "score: red " +++ decimal score.red +++ codes " black " +++ decimal score.black
 
--- whether two scores are the same
+-- whether two scores are equal
 abbrev pub same_score : Score → Score → Bool
 same_score one other = (one.red == other.red) && (one.black == other.black)
 
--- the scores that are told of a turn: the one after it, where it is another than before
+-- the scores that are reported of a turn: the one after it, if it has changed
 abbrev pub changed_score : Score → Score → List Score
 changed_score before after = if same_score before after then [] else after ∷ []
 
@@ -58,19 +58,19 @@ score_line round actor score =
     (codes "round " +++ decimal round +++ codes ", " +++ ant_words (Some actor) +++ codes ": ") +++ codes "score: red "
     +++ decimal score.red +++ codes " black " +++ decimal score.black
 
--- the hill of a cell, where it belongs to one
+-- the hill of a cell, if it belongs to one
 abbrev pub hill_words : Option Colour → List ℕ
 hill_words None = []
 hill_words (Some colour) = codes ", " +++ colour_text colour +++ codes " hill"
 
--- the line of a particle that goes from the ant's cell to it, or back, by the verb
+-- the line of a particle that goes from the ant's cell to it, or back, with this verb
 abbrev pub food_line : List ℕ → Seen → List ℕ
 food_line verb seen =
     (codes "round " +++ decimal seen.round +++ codes ", " +++ ant_words (Some seen.ant) +++ codes ": ")
     +++ codes "state " +++ decimal seen.ant.state +++ verb +++ codes " food on "
     +++ place_words (Some seen.place) +++ hill_words seen.hill
 
--- the lines of such particles, if they are asked for
+-- the lines of such particles, if they are requested
 abbrev pub food_lines : Bool → Seen → List (List ℕ)
 food_lines false seen = []
 food_lines true seen =
@@ -87,7 +87,7 @@ event_lines food seen =
 unfoldable pub deaths_in : Minds → ℕ → Moment → ℕ → List ℕ
 deaths_in minds seed m t = (turn minds seed m.world m.place t).killed
 
--- the score after a turn, where it is another than before
+-- the score after a turn, if it has changed
 unfoldable pub scores_in : Minds → ℕ → Moment → ℕ → List Score
 scores_in minds seed m t = changed_score (score_of m.world) (score_of (with_cells m.world (turn minds seed m.world m.place t).cells))
 
@@ -97,6 +97,6 @@ turn_lines minds seed round m t =
     map (death_words round m.world t) (deaths_in minds seed m t)
     ++ map (score_words round m.world t) (scores_in minds seed m t)
 
--- the text of all events of a game but those of food: the line of the seed, and the lines of all turns
+-- the text of all events of a game except those of food: the line of the seed, and the lines of all turns
 unfoldable pub events_text : Minds → ℕ → World → ℕ → List ℕ
 events_text minds seed w rounds = seed_text seed +++ flat_map (λ words. words +++ codes "\n") (told_in_rounds (turn_lines minds seed) minds seed (start_of w) rounds)

@@ -1,4 +1,4 @@
--- Stepping stones between the definitions and the code: no public clause cites them.
+-- Definitions between the public ones and the code; no public clause cites them.
 pub mod ActWords
 pub mod Broken
 pub mod Chunks

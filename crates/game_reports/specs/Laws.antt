@@ -1,4 +1,4 @@
--- What holds of all reports (this project's own).
+-- Laws of all reports (this project's own).
 use Rattle.std.specs.Prelude.{◌≡◌, ◌≢◌, ℕ, zero, suc, ◌+◌, ◌-◌, ◌≤◌, ◌==◌, ◌&&◌, Bool, false, List, [], ◌∷◌, ◌++◌, filter, length, map, Option, Some, None, IsSome, codes, decimal}
 use Rattle.std.specs.List.{AllPairs, Contains}
 use Rattle.hex_geometry.specs.declared.position.Pos.{Pos}
@@ -26,11 +26,11 @@ use Rattle.game_reports.specs.Report.{report_lines, report_text}
 use Rattle.game_reports.specs.Trace.{way_line}
 use Rattle.match_run.specs.Told.{from_round, told_in_rounds}
 
--- all ants that are killed in the rounds of a game, turn after turn: those of the lines
+-- all ants that are killed in the rounds of a game, turn after turn, as in the lines
 unfoldable pub all_deaths : Minds → ℕ → World → ℕ → List ℕ
 all_deaths minds seed w rounds = told_in_rounds (λ round. deaths_in minds seed) minds seed (start_of w) rounds
 
--- all scores that are told in them
+-- all scores that are reported in them
 unfoldable pub all_scores : Minds → ℕ → World → ℕ → List Score
 all_scores minds seed w rounds = told_in_rounds (λ round. scores_in minds seed) minds seed (start_of w) rounds
 
@@ -41,33 +41,33 @@ pub record AreTheDead (old new : World) (deaths : List ℕ) : Type 0 where
   pub all : (u : ℕ) → IsSome (place_in old u) → place_in new u ≡ None → Contains deaths u
   pub once : AllPairs ◌≢◌ deaths
 
--- the deaths that are told are the ants that live at the start and not at the end, each once
+-- the reported deaths are the ants that live at the start and not at the end, each once
 abbrev pub DeathsAreTheDead : Type 0
 DeathsAreTheDead =
     (minds : Minds) (seed : ℕ) (w : World) (rounds : ℕ) → AreSound minds → Valid w → Fits w minds
     → AreTheDead w (world_after minds seed w rounds) (all_deaths minds seed w rounds)
 
--- the last of some scores, or this one where there is none
+-- the last of some scores, or this one if there is none
 abbrev pub last_or : Score → List Score → Score
 last_or score [] = score
 last_or score (next ∷ scores) = last_or next scores
 
--- nothing lies on the hills
+-- no food on the hills
 abbrev pub nothing : Score
 nothing = record { red = 0; black = 0 }
 
--- the last score that is told, or 0 to 0 where none is, is the one after the last round, as a run prints it
+-- the last reported score, or 0 to 0 if there is none, is the one after the last round, as a run prints it
 abbrev pub LastScoreIsTheEnds : Type 0
 LastScoreIsTheEnds = (minds : Minds) (seed width height : ℕ) (kinds : List Kind) (rounds : ℕ) →
     let w = world_of (opening width height kinds) in
     last_or nothing (all_scores minds seed w rounds) ≡ score_of (world_after minds seed w rounds)
 
--- the id t, where its ant rests for no more turn
+-- the id t, if its ant doesn't rest any more
 abbrev pub up_for : ℕ → ℕ → List ℕ
 up_for t zero = t ∷ []
 up_for t (suc left) = []
 
--- the id t, where its ant is alive and doesn't rest
+-- the id t, if its ant is alive and doesn't rest
 abbrev pub up_by : ℕ → Option Ant → List ℕ
 up_by t None = []
 up_by t (Some ant) = up_for t ant.resting
@@ -82,7 +82,7 @@ abbrev pub sum_below : (ℕ → ℕ) → ℕ → ℕ
 sum_below f zero = 0
 sum_below f (suc n) = sum_below f n + f n
 
--- the counts of all states of both brains come to the number of those turns
+-- the counts of all states of both brains add up to the number of those turns
 abbrev pub CountsAddUp : Type 0
 CountsAddUp = (minds : Minds) (seed : ℕ) (w : World) (rounds : ℕ) → AreSound minds → Valid w → Fits w minds →
     let list = executed_in_rounds minds seed w rounds 0 in
@@ -105,15 +105,15 @@ unfoldable pub seen_in_rounds : Minds → ℕ → World → ℕ → ℕ → List
 seen_in_rounds minds seed w rounds from =
     told_in_rounds (from_round from (seen minds seed)) minds seed (start_of w) rounds
 
--- whether a turn is one of a colour's ant in a state, and whether its answer is the first too
+-- whether a turn is one of a colour's ant in a state, and whether its answer is also the first
 abbrev pub is_in : Colour → ℕ → Seen → Bool
 is_in colour state it = same_colour it.ant.colour colour && (it.ant.state == state)
 
 abbrev pub is_met_in : Colour → ℕ → Seen → Bool
 is_met_in colour state it = is_in colour state it && it.met
 
--- the lines of what every ant executes are those of these turns, one each; and these turns, counted by colour and
--- state, and by their answer, are the counts of a profile
+-- the lines of what every ant executes are those of these turns, one for each; and these turns, counted by colour,
+-- state and answer, are the counts of a profile
 pub record LinesAreCounted (minds : Minds) (seed : ℕ) (w : World) (rounds from : ℕ) : Type 0 where
   pub lines : report_lines (act_lines None) from minds seed w rounds
       ≡ map act_line (seen_in_rounds minds seed w rounds from)
@@ -133,14 +133,13 @@ AllEventsById =
     (minds : Minds) (seed : ℕ) (w : World) (rounds : ℕ)
     → report_text (event_lines false) 0 minds seed w rounds ≡ events_text minds seed w rounds
 
--- the line of a cell stands in the dump of a world, behind some of its lines and before others
+-- the line of a cell is in the dump of a world, after some of its lines and before others
 pub record StandsInDump (w : World) (round : ℕ) (line : List ℕ) : Type 0 where
   pub before : List ℕ
   pub behind : List ℕ
   pub whole : dump_text w round ≡ before ++ (line ++ behind)
 
--- the line of an ant that lives is the number of the round and a line of the dump of that round, that of the cell on
--- which it stands
+-- the line of a living ant is the number of the round and a line of the dump of that round, that of the ant's cell
 abbrev pub LinesAreOfDumps : Type 0
 LinesAreOfDumps = (w : World) (round id : ℕ) (p : Pos) → place_in w id ≡ Some p →
     (way_line round w (place_in w id)

@@ -19,7 +19,7 @@ use Rattle.game_reports.specs.declared.executed.Executed.{Executed}
 use Rattle.match_run.specs.Seen.{is_met}
 use Rattle.match_run.specs.Told.{from_round, told_in_rounds}
 
--- what the ant of p executes, which rests for so many more turns: its state, if it doesn't rest
+-- what the ant at p with this resting count executes: its state, if it doesn't rest
 abbrev pub executed_by : ℕ → Minds → ℕ → Cells → ℕ → Pos → Ant → List Executed
 executed_by zero minds seed cells place p ant =
     record {
@@ -52,7 +52,7 @@ executed_in_rounds minds seed w rounds from =
 abbrev pub is_of : Colour → ℕ → Executed → Bool
 is_of colour state executed = same_colour executed.colour colour && (executed.state == state)
 
--- in how many turns it was
+-- in how many turns it was executed
 unfoldable pub times_of : List Executed → Colour → ℕ → ℕ
 times_of list colour state = length (filter (is_of colour state) list)
 
@@ -60,7 +60,7 @@ times_of list colour state = length (filter (is_of colour state) list)
 unfoldable pub met_of : List Executed → Colour → ℕ → ℕ
 met_of list colour state = length (filter (λ executed. is_of colour state executed && executed.met) list)
 
--- in how many turns the answer was the first, where the instruction has two
+-- in how many turns the answer was the first, if the instruction has two
 abbrev pub met_text : Instr → ℕ → List ℕ
 met_text (Sense sight met unmet condition) many = codes ", " +++ decimal many +++ codes " met"
 met_text (Mark i next) many = []

@@ -8,7 +8,7 @@ use Rattle.dump_print.specs.Texts.{seed_text}
 use Rattle.match_run.specs.Seen.{Seen, seen}
 use Rattle.match_run.specs.Told.{Telling, from_round, told_in_rounds}
 
--- what a report tells of a turn, from what is seen of it
+-- the lines of a report for a turn, from what is seen of it
 abbrev pub told_of : (Seen → List (List ℕ)) → Minds → ℕ → ℕ → Telling (List ℕ)
 told_of lines minds seed round m t = flat_map lines (seen minds seed round m t)
 

@@ -8,18 +8,17 @@ use Rattle.cell_world.specs.World.{World, place_in}
 use Rattle.dump_print.specs.Texts.{cell_line, seed_text}
 use Rattle.match_run.specs.Run.{world_after}
 
--- the line of an ant after a round, in the world as it is then: the line of the cell on which it stands, or that it is
--- dead
+-- the line of an ant after a round, in the world after it: the line of its cell, or that it is dead
 abbrev pub way_line : ℕ → World → Option Pos → List ℕ
 way_line round w None = codes "round " +++ decimal round +++ codes ": dead\n"
 way_line round w (Some p) = codes "round " +++ decimal round +++ codes ": " +++ cell_line p.x p.y (w.cells p)
 
--- whether the ant lives in each of the first n of some worlds
+-- whether the ant is alive in each of the first n of some worlds
 abbrev pub lives_in_first : (ℕ → World) → ℕ → ℕ → Bool
 lives_in_first worlds id zero = true
 lives_in_first worlds id (suc n) = lives_in_first worlds id n && is_some (place_in (worlds n) id)
 
--- what is told of the ant in world i of these, which is that after i rounds more than `from`: its line, if it lives in
+-- the report of the ant in world i of these, which is that after i rounds more than `from`: its line, if it is alive in
 -- each world before
 unfoldable pub told_line : (ℕ → World) → ℕ → ℕ → ℕ → List ℕ
 told_line worlds id from i =
@@ -29,12 +28,12 @@ told_line worlds id from i =
 unfoldable pub way_text : (ℕ → World) → ℕ → ℕ → ℕ → List ℕ
 way_text worlds id from n = numbered (told_line worlds id from) n
 
--- that no ant of an id was made
+-- that no ant ever had an id
 unfoldable pub unmade_text : ℕ → List ℕ
 unmade_text id = codes "no ant of id " +++ decimal id +++ codes "\n"
 
 -- the text of a trace: the line of the seed, and then the lines of the ant in the rounds from `from` to the last one;
--- or that none was made
+-- or that no ant ever had this id
 unfoldable pub trace_text : Minds → ℕ → World → ℕ → ℕ → ℕ → List ℕ
 trace_text minds seed w rounds id from =
     seed_text seed

@@ -25,7 +25,7 @@ pub(crate) struct Executed {
     pub met: bool,
 }
 
-// What this ant executes in its turn, which doesn't rest. `ahead` may be any stream: it only spares looking numbers up.
+// What this ant, which doesn't rest, executes in its turn. `ahead` may be any stream: it only saves looking numbers up.
 #[inline(always)]
 pub(crate) fn executed_by(
     world: &mut World,
@@ -80,8 +80,8 @@ pub(crate) fn is_met(
     }
 }
 
-// Whether the next number below this bound is 0. The stream stays; the other one draws, and so it stands at the next
-// Flip where the stream does.
+// Whether the next number below this bound is 0. The stream is unchanged; the other one draws, so that it is at the
+// same place at the next Flip.
 #[inline(always)]
 fn is_zero_next(stream: &Stream, ahead: &mut Stream, bound: u32) -> bool
     requires some { 1 ≤ bound }
@@ -92,7 +92,7 @@ fn is_zero_next(stream: &Stream, ahead: &mut Stream, bound: u32) -> bool
     ahead.draw(bound) == 0
 }
 
-// Takes a stream to where the other one is, if it isn't there.
+// Moves a stream to the place of the other one, if it isn't there.
 #[inline(always)]
 fn catch_up(ahead: &mut Stream, stream: &Stream)
     requires place { stream.now.place < 2 ^ 63 }

@@ -1,26 +1,26 @@
-// What holds of all reports, as laws of their definitions.
+// Laws of all reports.
 ghost use Rattle.game_reports.specs.Laws.{ActsAreCounted, AllEventsById, CountsAddUp, DeathsAreTheDead, LastScoreIsTheEnds, LinesAreOfDumps, ProfilesAddUp};
 
-/// A law: the ants that are killed in a game, as its events tell them, are those that live at the start and not at the
-/// end, each once (the task's martial arts and biology). The call does nothing: its clause is the law, as of all of
-/// these.
+/// A law: the ants that are killed in a game, according to its events, are those that live at the start and not at the
+/// end, each once (the task's martial arts and biology). The call does nothing, like all of these: its clause is the
+/// law.
 pub fn deaths_are_the_dead()
     ensures { DeathsAreTheDead }
 {}
 
-/// A law: the last score that is told of a game, or 0 to 0 where none is, is the one after the last round, which a run
-/// prints (the task's game play).
+/// A law: the last score that the events of a game report, or 0 to 0 if there is none, is the one after the last round,
+/// which a run prints (the task's game play).
 pub fn last_score_is_the_ends()
     ensures { LastScoreIsTheEnds }
 {}
 
-/// A law: the counts of all states of both brains come to the number of turns of ants that are alive and don't rest
-/// (the task's kinetics).
+/// A law: the counts of all states of both brains add up to the number of turns of living ants that don't rest (the
+/// task's kinetics).
 pub fn counts_add_up()
     ensures { CountsAddUp }
 {}
 
-/// The line that is told of an ant that lives is `round R: ` and a line of the dump of that round (this project's
+/// A law: the line of a trace for a living ant is `round R: ` and a line of the dump of that round (this project's
 /// own). The call does nothing: its clause is the law.
 pub fn lines_are_of_dumps()
     ensures { LinesAreOfDumps }

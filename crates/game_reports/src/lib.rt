@@ -1,13 +1,15 @@
-//! Reports of a game, each a text of lines: its events, its profile, what its ants execute, one ant's trace.
+//! Reports of a game, each a text of lines: its events, its profile, what its ants execute, and one ant's trace.
 //!
 //! All of it is this project's own; deaths are the task's martial arts, the score its game play, states its neurology,
-//! ids its biology, and turns and rounds its kinetics. [`events`] plays a game and pushes the line of the seed, and
-//! then a line for each ant that is killed and for each turn that changes the score; on request also one for each
-//! particle that an ant takes or drops. [`profile`] plays one, and then pushes a line for each state of both brains: in
-//! how many turns an ant executed it, and in how many of these its answer was the first. [`acts`] plays one and pushes
-//! a line for each turn in which an ant executes an instruction, or for those of one ant. [`trace`] plays one and
-//! pushes a line for each round: the line that a dump of that round has of the ant's cell, or that it is dead, which is
-//! the last one. This crate stands on `match_run`, `ant_turn` and `dump_print`.
+//! ids its biology, and turns and rounds its kinetics. Each report begins with the line of the seed.
+//!
+//! [`events`] plays a game and pushes a line for each ant that is killed and for each turn that changes the score; on
+//! request also one for each particle that an ant takes or drops. [`profile`] plays a game, and then pushes a line for
+//! each state of both brains: in how many turns an ant executed it, and in how many of these its answer was the first.
+//! [`acts`] plays a game and pushes a line for each turn in which an ant executes an instruction, or only for those of
+//! one ant. [`trace`] plays a game and pushes a line for each round: the line of the ant's cell in a dump of that
+//! round, or that the ant is dead, which is the last line. This crate depends on `match_run`, `ant_turn` and
+//! `dump_print`.
 #![tactic(auto)]
 
 mod executed;

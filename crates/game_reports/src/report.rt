@@ -20,14 +20,14 @@ use dump_print::SeedWords;
 use match_run::{Board, Watch, watch_rounds};
 use std::marker::PhantomData;
 
-/// What a report of a game is asked to do: which game is played, and which of its rounds are told.
+/// What a report of a game has to do: which game is played, and which of its rounds are reported.
 #[derive(Clone, Copy, Debug, PartialEq, Eq)]
 pub struct ReportPlan {
     /// The seed of the random numbers, from 0 to 4,294,967,295.
     pub seed: u32,
     /// How many rounds are played, from 0 to 1,000,000. Rounds are counted from 1.
     pub rounds: u32,
-    /// The first round that is told; 0 and 1 tell all. If it is above the last one, none is told.
+    /// The first round that is reported; 0 and 1 mean all. If it is above the last one, none is.
     pub from: u32,
 }
 
@@ -83,8 +83,8 @@ pub(crate) fn push_report<R: Report, K: Sink>(
     "\n".push_to(sink)
 }
 
-// Pushes the lines of the rounds. Each has its LF before it instead of after it, since the sinks of streams are
-// flushed at each piece that ends in LF.
+// Pushes the lines of the rounds. Each has its LF before it instead of after it, since the sinks of streams are flushed
+// after each piece that ends in LF.
 fn push_rounds<R: Report, K: Sink>(
     report: &R,
     plan: ReportPlan,

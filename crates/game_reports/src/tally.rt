@@ -25,7 +25,7 @@ pub(crate) struct Tallies {
 }
 
 impl Tallies {
-    // Those of both brains, of which nothing was executed yet.
+    // The tallies of both brains, with nothing executed yet.
     pub(crate) fn new(alloc: Global, brains: Brains<'_>) -> Result<Tallies, OutOfMemory>
         ensures { IfOk result (λ tallies. AreTallied (minds_of brains.entry) [] tallies) }
     {
@@ -34,7 +34,7 @@ impl Tallies {
         Ok(Tallies { red, black })
     }
 
-    // Those of this colour.
+    // The tallies of this colour.
     pub(crate) fn of(&self, colour: Colour) -> &[Tally]
         ensures { result.now ≡ tallies_of self.now colour }
     {
@@ -44,7 +44,7 @@ impl Tallies {
         }
     }
 
-    // Counts one more. Its state is one of its colour's brain, and no count is at its last value.
+    // Counts one more. Its state is one of its colour's brain, and no count is the largest `u64`.
     #[inline]
     pub(crate) fn count(&mut self, executed: Executed)
         requires state { executed.state < length (tallies_of self.old executed.colour) }
@@ -60,7 +60,7 @@ impl Tallies {
     }
 }
 
-// A tally for each of so many states, of which none was executed.
+// A tally for each of this many states, with nothing executed.
 fn none_counted(alloc: Global, states: u32) -> Result<Vec<Tally>, OutOfMemory>
     ensures { IfOk result (λ tallies. (colour : Colour) → IsTallied colour states [] tallies.items) }
 {
@@ -71,7 +71,7 @@ fn none_counted(alloc: Global, states: u32) -> Result<Vec<Tally>, OutOfMemory>
     Ok(tallies)
 }
 
-// Counts one more of one colour.
+// Counts one more for one colour.
 #[inline]
 fn count(tallies: &mut [Tally], executed: Executed)
     requires state { executed.state < length tallies.old }

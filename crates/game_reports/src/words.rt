@@ -1,4 +1,4 @@
-// Words that several reports have.
+// Words that several reports use.
 
 use ant_base::{Failed, Layout, Sink, layout};
 use cell_world::{Ant, Colour};
@@ -35,7 +35,7 @@ impl Layout for PlaceWords {
     }
 }
 
-// The hill of a cell, where it belongs to one.
+// The hill of a cell, if it belongs to one.
 #[derive(Clone, Copy)]
 pub(crate) struct HillWords(pub Option<Colour>);
 

@@ -1,4 +1,4 @@
--- What is said of a text that is not opened (this project's own).
+-- The texts for a text that is not opened (this project's own).
 use Rattle.std.specs.Prelude.{ℕ, List}
 use Rattle.ant_asm.specs.FaultText.{asm_fault_text}
 use Rattle.ant_base.specs.FaultText.{fetch_fault_text, memory_text}
@@ -11,7 +11,7 @@ use Rattle.text_fault.specs.declared.stop.TextStop.{TextStop}
 use Rattle.text_fault.specs.declared.stop.TextStop.TheVariants.{OutOfMemory, Refused}
 use Rattle.world_read.specs.FaultText.{world_fault_text}
 
--- what a text's fault says: of a long one what a shelf says, else what its reader says
+-- the text of a text's fault: if it is too long, the shell's, and otherwise its reader's
 abbrev pub text_fault_text : TextFault → List ℕ
 text_fault_text TooLong = fetch_fault_text fetch.TooLong
 text_fault_text (World fault) = world_fault_text fault

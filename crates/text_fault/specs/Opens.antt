@@ -1,4 +1,4 @@
--- What the opening of a text answers (this project's own).
+-- The result of opening a text (this project's own).
 use Rattle.std.specs.Prelude.{ℕ, ◌≤◌, List, length, Result, Ok, Err}
 use Rattle.ant_asm.specs.Answers.{IsAssembledText}
 use Rattle.ant_asm.specs.declared.assembly.Assembled.{Assembled}
@@ -13,28 +13,27 @@ use Rattle.text_fault.specs.declared.stop.TextStop.{TextStop}
 use Rattle.text_fault.specs.declared.stop.TextStop.TheVariants.{OutOfMemory, Refused}
 use Rattle.text_fault.specs.Refusals.{IsRefusal}
 
--- a text that is not too long to be read is such a text of this value
+-- a text that isn't too long is one of this value
 pub record Gives {V : Type 0} (Is : List ℕ → V → Type 0) (text : List ℕ) (value : V) : Type 0 where
   pub short : length text ≤ longest
   pub is : Is text value
 
--- it is a world's as a game begins with it, or a brain's
+-- it is the text of an opening world, or of a brain
 abbrev pub GivesWorld : List ℕ → Grid → Type 0
 GivesWorld = Gives OpensAs
 
 abbrev pub GivesBrain : List ℕ → List Instr → Type 0
 GivesBrain = Gives IsBrainText
 
--- a text is a labelled program's that becomes this brain, with these places
+-- a text is that of a labelled program with this brain and these places
 abbrev pub IsProgramOf : List ℕ → Assembled → Type 0
 IsProgramOf text made = IsAssembledText text made.brain made.places
 
--- a text is that of this save, of which at most so many rounds are done
+-- a text is that of this save, of which at most this many rounds are done
 abbrev pub IsSaveWithin : ℕ → List ℕ → SavedValue → Type 0
 IsSaveWithin rounds text saved = IsSaveText text saved × (saved.round ≤ rounds)
 
--- what the opening of a text answers: its value, or a fault for which it is refused; out of memory says nothing of the
--- text
+-- the result of opening a text: its value, or a fault for which it is refused; out of memory says nothing of the text
 abbrev pub Opens : {V : Type 0} → (List ℕ → V → Type 0) → (List ℕ → TextFault → Type 0) → List ℕ → Result V TextStop
     → Type 0
 Opens Is Wrong text (Ok value) = Gives Is text value

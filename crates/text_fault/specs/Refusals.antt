@@ -1,4 +1,4 @@
--- For what a text is refused (this project's own).
+-- Why a text is refused (this project's own).
 use Rattle.std.specs.Prelude.{◌≡◌, ℕ, ◌<◌, ◌≤◌, ◌⊎◌, List, length}
 use Rattle.ant_asm.specs.Text.{IsAsmFault}
 use Rattle.ant_base.specs.Shelf.{longest}
@@ -9,14 +9,14 @@ use Rattle.world_read.specs.Faulty.{IsWorldFault}
 use Rattle.text_fault.specs.declared.fault.TextFault.{TextFault}
 use Rattle.text_fault.specs.declared.fault.TextFault.TheVariants.{TooLong, World, Brain, Labelled, Save, AlreadyAt}
 
--- the fault is one that the text's reader tells
+-- the fault is one of the text's reader
 pub record IsReadersFault {F : Type 0} (wrap : F → TextFault) (IsFault : List ℕ → F → Type 0) (text : List ℕ)
     (fault : TextFault) : Type 0 where
   pub why : F
   pub is : IsFault text why
   pub told : fault ≡ wrap why
 
--- a text is no world's, no brain's, no labelled program's
+-- a text is not a world, not a brain, not a labelled program
 abbrev pub IsNoWorld : List ℕ → TextFault → Type 0
 IsNoWorld = IsReadersFault World IsWorldFault
 
@@ -26,18 +26,18 @@ IsNoBrain = IsReadersFault Brain IsBrainFault
 abbrev pub IsNoProgram : List ℕ → TextFault → Type 0
 IsNoProgram = IsReadersFault Labelled IsAsmFault
 
--- a text is a save's of which this many rounds are done, more than these
+-- a text is that of a save of which this many rounds are done, more than allowed
 pub record IsPast (rounds : ℕ) (text : List ℕ) (fault : TextFault) : Type 0 where
   pub saved : SavedValue
   pub is : IsSaveText text saved
   pub past : rounds < saved.round
   pub told : fault ≡ AlreadyAt saved.round
 
--- a text is no save's, or that of a save of which more rounds are done than these
+-- a text is not a save, or is a save of which more rounds are done than allowed
 abbrev pub IsNoSave : ℕ → List ℕ → TextFault → Type 0
 IsNoSave rounds text fault = IsReadersFault Save IsSaveFault text fault ⊎ IsPast rounds text fault
 
--- a text is refused for this fault: it is too long to be read, or it is not and this is wrong with it
+-- a text is refused for this fault: it is too long to be read, or it isn't and this is wrong with it
 pub data IsRefusal (Wrong : List ℕ → TextFault → Type 0) (text : List ℕ) (fault : TextFault) : Type 0 where
   Long : longest < length text → fault ≡ TooLong → IsRefusal Wrong text fault
   Bad : length text ≤ longest → Wrong text fault → IsRefusal Wrong text fault

@@ -1,4 +1,4 @@
--- That each text is read in one way, or refused in one way (this project's own).
+-- Each text is read in one way, or refused in one way (this project's own).
 use Rattle.std.specs.Prelude.{◌≡◌, ◌⊎◌, ℕ, List}
 use Rattle.ant_asm.specs.Source.{IsSourceOf}
 use Rattle.brain_read.specs.Grammar.{IsBrainText}
@@ -15,8 +15,8 @@ pub record HasOneVerdict {V : Type 0} (Is : List ℕ → V → Type 0) (Wrong : 
   pub one_fault : (a b : TextFault) → Wrong text a → Wrong text b → a ≡ b
   pub never_both : (value : V) (fault : TextFault) → Is text value → Wrong text fault → ⊥
 
--- as a world's, a brain's, a labelled program's with its brain or with where its labels and states stand, and as that
--- of a save of which at most so many rounds are done
+-- this holds for worlds, for brains, for labelled programs with their brain or with their labels and states, and for
+-- saves of which at most this many rounds are done
 pub record EveryTextHasOneVerdict : Type 0 where
   pub of_world : (text : List ℕ) → HasOneVerdict OpensAs IsNoWorld text
   pub of_brain : (text : List ℕ) → HasOneVerdict IsBrainText IsNoBrain text

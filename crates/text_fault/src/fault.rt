@@ -5,20 +5,20 @@ use brain_read::BrainFault;
 use match_save::{AlreadyAt, SaveFault};
 use world_read::WorldFault;
 
-/// What is wrong with a text, by what it was to be. The reader's `OutOfMemory` is in none of them.
+/// What is wrong with a text, by what it should be. None of these is the reader's `OutOfMemory`.
 #[derive(Clone, Copy, Debug, PartialEq, Eq)]
 pub enum TextFault {
     /// It has more than 4,194,304 bytes.
     TooLong,
-    /// It is no world.
+    /// It is not a world.
     World(WorldFault),
-    /// It is no brain.
+    /// It is not a brain.
     Brain(BrainFault),
-    /// It is no labelled program.
+    /// It is not a labelled program.
     Labelled(AsmFault),
-    /// It is no save.
+    /// It is not a save.
     Save(SaveFault),
-    /// It is a save with this many rounds done, more than are to be played in all.
+    /// It is a save with this many rounds done, more than are requested in total.
     AlreadyAt(u32),
 }
 

@@ -19,7 +19,7 @@ use match_save::{SaveFault, Saved, read_saved};
 use std::alloc::Global;
 use world_read::{WorldFault, read_world};
 
-// Nothing, where a text is not too long.
+// Ok if a text isn't too long.
 fn check_length(text: &[u8]) -> Result<(), TextStop>
     ensures short { IfOk result (λ _. length text.now ≤ longest) }
     ensures long { IfErr result (λ stop. (longest < length text.now) × (stop ≡ Refused TooLong)) }
@@ -30,8 +30,8 @@ fn check_length(text: &[u8]) -> Result<(), TextStop>
     Ok(())
 }
 
-/// The world of a text, as a game begins with it (the task's world files). Rows and columns of a fault are counted from
-/// 0.
+/// The opening world of a text (the task's world files), or the text's fault, or `OutOfMemory`. Rows and columns of a
+/// fault are counted from 0.
 pub fn open_world(alloc: Global, text: &[u8]) -> Result<World, TextStop>
     ensures opening { IfOk result IsOpeningWorld }
     ensures opens { Opens OpensAs IsNoWorld text.now result }
@@ -44,7 +44,8 @@ pub fn open_world(alloc: Global, text: &[u8]) -> Result<World, TextStop>
     }
 }
 
-/// The brain of a text (the task's neurology). Lines of a fault are counted from 1.
+/// The brain of a text (the task's neurology), or the text's fault, or `OutOfMemory`. Lines of a fault are counted from
+/// 1.
 pub fn open_brain(alloc: Global, text: &[u8]) -> Result<Brain, TextStop>
     ensures { Opens IsBrainText IsNoBrain text.now result }
 {
@@ -56,8 +57,8 @@ pub fn open_brain(alloc: Global, text: &[u8]) -> Result<Brain, TextStop>
     }
 }
 
-/// The brain that a labelled program becomes, with the address of each of its instructions. Lines of a fault are
-/// counted from 1.
+/// The brain of a labelled program, with the address of each of its instructions, or the text's fault, or
+/// `OutOfMemory`. Lines of a fault are counted from 1.
 pub fn open_program(alloc: Global, text: &[u8]) -> Result<Assembled, TextStop>
     ensures { Opens IsProgramOf IsNoProgram text.now result }
 {
@@ -69,7 +70,7 @@ pub fn open_program(alloc: Global, text: &[u8]) -> Result<Assembled, TextStop>
     }
 }
 
-/// Where the labels and the states of a labelled program stand; it has the faults of `open_program`.
+/// The labels and the states of a labelled program; it has the faults of `open_program`.
 pub fn open_source(alloc: Global, text: &[u8]) -> Result<Source, TextStop>
     ensures { Opens IsSourceOf IsNoProgram text.now result }
 {
@@ -81,8 +82,8 @@ pub fn open_source(alloc: Global, text: &[u8]) -> Result<Source, TextStop>
     }
 }
 
-/// The save of a text, with at most this number of rounds done. Lines of a fault are counted from 1. A save with more
-/// rounds done is `AlreadyAt` with their number.
+/// The save of a text, with at most this number of rounds done, or the text's fault, or `OutOfMemory`. Lines of a fault
+/// are counted from 1. The fault of a save with more rounds done is `AlreadyAt` with their number.
 pub fn open_save(alloc: Global, text: &[u8], rounds: u32) -> Result<Saved, TextStop>
     ensures { Opens (IsSaveWithin rounds) (IsNoSave rounds) text.now result }
 {

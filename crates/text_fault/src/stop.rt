@@ -7,7 +7,7 @@ use std::fmt;
 /// Why a text was not opened.
 #[derive(Clone, Copy, Debug, PartialEq, Eq)]
 pub enum TextStop {
-    /// Memory could not be had, which says nothing of the text.
+    /// Memory ran out. This says nothing of the text.
     OutOfMemory,
     /// The text is refused.
     Refused(TextFault),

@@ -1,10 +1,10 @@
--- A law of cups beside the laws that say how a standing is: there is one.
+-- A law beside those that say what a standing is: there is one.
 use Rattle.std.specs.Prelude.{ℕ, Bool, List}
 use Rattle.cell_world.specs.declared.score.Score.{Score}
 use Rattle.tournament.specs.Standing.{IsStandingOf}
 use Rattle.tournament.specs.declared.standing.Line.{Line}
 
--- each cup has a standing, whatever its scores are
+-- each cup has a standing, whatever its scores
 abbrev pub HasStanding : Type 0
 HasStanding =
     (gauntlet : Bool) (players worlds : ℕ) (score : ℕ → ℕ → ℕ → Score)

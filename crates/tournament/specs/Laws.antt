@@ -34,7 +34,7 @@ WorldsInOrder =
     (gauntlet : Bool) (players worlds : ℕ) (score : ℕ → ℕ → ℕ → Score) → all_played gauntlet players worlds score
     ≡ flat_map (λ world. world_played gauntlet players world score) (below worlds)
 
--- two lines of a player, added up
+-- two lines of a player, added
 abbrev pub added_up : Line → Line → Line
 added_up x y = record {
   player = x.player;
@@ -46,7 +46,7 @@ added_up x y = record {
   food_against = x.food_against + y.food_against;
 }
 
--- a player's line after some games and then more is the line after the former and that after the latter, added up
+-- a player's line after some games and then more is the sum of the line after the first and the line after the rest
 abbrev pub GamesAddUp : Type 0
 GamesAddUp =
     (games more : List Played) (p : ℕ) → line_of (games ++ more) p ≡ added_up (line_of games p) (line_of more p)

@@ -6,7 +6,7 @@ use Rattle.ant_base.specs.Names.{has_name}
 abbrev pub texts_of : {A : Type 0} → List (String A) → List (List ℕ)
 texts_of names = map string_bytes names
 
--- the names with this one: last where it wasn't there
+-- the names with this one, added last if it wasn't there
 abbrev pub with_name : List (List ℕ) → List ℕ → List (List ℕ)
 with_name names name = if has_name names name then names else names ++ name ∷ []
 

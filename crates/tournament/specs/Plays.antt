@@ -8,7 +8,7 @@ use Rattle.tournament.specs.declared.games.Pairing.{Pairing}
 use Rattle.tournament.specs.declared.games.Played.{Played}
 use Rattle.tournament.specs.Games.{played_by}
 
--- what a referee knows of games holds of each game of the list
+-- the referee knows each game of the list
 abbrev pub AreKnown : (ℕ → ℕ → ℕ → Type 0) → List Pairing → Type 0
 AreKnown knows games = All (λ game. knows game.world game.red game.black) games
 
@@ -26,7 +26,7 @@ ArePlayed score games result = IfOk result (λ played. played.items ≡ map (pla
 module _ {P F A : Type 0}
     (g : Shared P (Bor F × (Bor (List Pairing) × (ℕ × Unit {0}))) (Result (Vec Played A) OutOfMemory))
     (knows : F → ℕ → ℕ → ℕ → Type 0) (score : F → ℕ → ℕ → ℕ → Score) where
-  -- a function may be asked for all games that can be played by so many workers, and each answer has them with their
+  -- a function may be called for any games that can be played by this many workers, and each result has them with their
   -- scores
   pub record PlaysGames (play : P) : Type 0 where
     pub may : (referee : Bor F) (games : Bor (List Pairing)) (workers : ℕ)

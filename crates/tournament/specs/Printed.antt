@@ -1,4 +1,4 @@
--- Cups whose games are printed, a line each (this project's own).
+-- Cups whose games are printed, one line for each (this project's own).
 use Rattle.std.specs.Prelude.{◌≡◌, ℕ, suc, ◌*◌, ◌≤◌, Bool, true, false, List, [], ◌∷◌, ◌++◌, codes, decimal, length, Result, Ok, Err}
 use Rattle.ant_base.specs.Layout.{◌+++◌}
 use Rattle.ant_base.specs.Sink.{SinkState, PushedAll, PushedFront}
@@ -15,13 +15,13 @@ use Rattle.tournament.specs.Seeds.{seed_at, world_at}
 use Rattle.tournament.specs.Standing.{IsStandingOf}
 use Rattle.tournament.specs.Text.{standing_text}
 
--- the part of a game's line that says its seed, if it is printed
+-- the part of a game's line with its seed, if it is printed
 abbrev pub seed_part : Bool → Seeds → ℕ → List ℕ
 seed_part false seeds n = []
 seed_part true seeds n = codes "seed " +++ decimal (seed_at seeds n) +++ codes ", "
 
--- the line of the game of this number: its score, its seed, and the names of its world, its red player and its black
--- player, as `game 17: red 3 black 0, w, a, b` or `game 17: red 3 black 0, seed 5, w, a, b`
+-- the line of the game with this number: its score, its seed, and the names of its world, its red player and its black
+-- player, such as `game 17: red 3 black 0, w, a, b` or `game 17: red 3 black 0, seed 5, w, a, b`
 unfoldable pub game_line_text : Format → List (List ℕ) → List (List ℕ) → ℕ → Played → List ℕ
 game_line_text format worlds players number it =
     codes "game " +++ decimal number +++ codes ": red " +++ decimal it.score.red +++ codes " black " +++ decimal it.score.black +++ codes ", "
@@ -39,7 +39,7 @@ abbrev pub first_played : Format → List (List ℕ) → ℕ → (ℕ → ℕ �
 first_played format players worlds score =
     all_played format.gauntlet (length players) (worlds * format.seeds.count) score
 
--- the games of a cup of players and worlds of these names, with their scores
+-- the games of a cup with players and worlds of these names, with their scores
 abbrev pub cup_played : Format → List (List ℕ) → List (List ℕ) → (ℕ → ℕ → ℕ → Score) → List Played
 cup_played format worlds players score = first_played format players (length worlds) score
 
@@ -71,20 +71,20 @@ abbrev pub HasPrinted : SinkState → SinkState → Format → List (List ℕ) �
 HasPrinted old new format worlds players score printed =
     PushedAll old new (games_text format worlds players (first_played format players printed score) 1)
 
--- so were those on some of them
+-- the lines of all games on some of them were pushed, and nothing else
 pub record PrintedWorlds (old new : SinkState) (format : Format) (worlds players : List (List ℕ))
     (score : ℕ → ℕ → ℕ → Score) : Type 0 where
   pub printed : ℕ
   pub some : printed ≤ length worlds
   pub pushed : HasPrinted old new format worlds players score printed
 
--- why the printing stopped: the sink failed, or out of memory
+-- why the printing stopped: the sink failed, or memory ran out
 abbrev pub PrintedBy : SinkState → SinkState → Format → List (List ℕ) → List (List ℕ) → (ℕ → ℕ → ℕ → Score) → PushFault
     → Type 0
 PrintedBy old new format worlds players score WriteFault = PrintedFront old new format worlds players score
 PrintedBy old new format worlds players score OutOfMemory = PrintedWorlds old new format worlds players score
 
--- what was printed of a cup: at Ok all of it
+-- what was printed of a cup; at Ok it is everything
 abbrev pub Printed : SinkState → SinkState → Format → List (List ℕ) → List (List ℕ) → (ℕ → ℕ → ℕ → Score)
     → Result (Unit {0}) PushFault → Type 0
 Printed old new format worlds players score (Ok _) = PrintedAll old new format worlds players score

@@ -2,11 +2,11 @@
 use Rattle.std.specs.Prelude.{ℕ, ◌+◌, ◌/◌, ◌%◌, ◌^◌}
 use Rattle.tournament.specs.declared.format.Seeds.{Seeds}
 
--- A world with a seed counts as a world of its own, world by world, and within a world seed by seed. So number n is
+-- Each pair of a world and a seed counts as a world, world by world, and within a world seed by seed. So number n is
 -- this world with this seed.
 abbrev pub world_at : Seeds → ℕ → ℕ
 world_at seeds n = n / seeds.count
 
--- 0 follows 4,294,967,295
+-- the seed of number n; 0 follows 4,294,967,295
 abbrev pub seed_at : Seeds → ℕ → ℕ
 seed_at seeds n = (seeds.first + n % seeds.count) % 2 ^ 32

@@ -39,17 +39,18 @@ line_of games p = record {
   food_against = sum_by (food_against p) games;
 }
 
--- line x may stand right above line y: it has more points, or as many and no higher player number
+-- line x may be directly above line y: it has more points, or equally many and no higher player number
 pub record StandsAbove (x y : Line) : Type 0 where
   pub points : y.points ≤ x.points
   pub ties : x.points ≡ y.points → x.player ≤ y.player
 
--- the lines are those of all players after these games, by points falling, equal points by player number rising
+-- the lines are those of all players after these games, in order of falling points, and for equal points in order of
+-- rising player numbers
 pub record Ranks (players : ℕ) (games : List Played) (lines : List Line) : Type 0 where
   pub each : IsPermutation (map (line_of games) (below players)) lines
   pub order : AllAdjacentBelow StandsAbove lines (length lines)
 
--- the standing of a cup, or of a gauntlet, of so many players and worlds, where the scores are given by world, red
+-- the standing of a cup, or of a gauntlet, with this many players and worlds, if the scores are given by world, red
 -- player and black player
 abbrev pub IsStandingOf : Bool → ℕ → ℕ → (ℕ → ℕ → ℕ → Score) → List Line → Type 0
 IsStandingOf gauntlet players worlds score lines = Ranks players (all_played gauntlet players worlds score) lines

@@ -12,13 +12,13 @@ use Rattle.tournament.specs.Standing.{IsStandingOf}
 abbrev pub lead_text : Line → List ℕ
 lead_text line = if nat_lt line.food_for line.food_against then codes "-" +++ decimal (line.food_against - line.food_for) else decimal (line.food_for - line.food_against)
 
--- the end of a player's line, if leads are printed and if they aren't
+-- the end of a player's line, with leads or without
 abbrev pub lead_part : Bool → Line → List ℕ
 lead_part false line = codes "\n"
 lead_part true line = codes ", lead " +++ lead_text line +++ codes "\n"
 
--- a player's line, as `3 points: b (1 won, 1 drawn, 0 lost)` or `3 points: b (1 won, 1 drawn, 0 lost), lead 3`; the
--- word `points` stands for every number
+-- a player's line, such as `3 points: b (1 won, 1 drawn, 0 lost)` or `3 points: b (1 won, 1 drawn, 0 lost), lead 3`;
+-- the word `points` is printed even for 1
 unfoldable pub table_line_text : Bool → List (List ℕ) → Line → List ℕ
 table_line_text leads names line =
     decimal line.points +++ codes " points: " +++ name_of names line.player +++ codes " (" +++ decimal line.won

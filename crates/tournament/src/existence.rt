@@ -1,7 +1,7 @@
-// That each cup has a standing, as a law of its definition.
+// A law: each cup has a standing.
 ghost use Rattle.tournament.specs.Existence.{HasStanding};
 
-/// A law: each cup has a standing, whatever its scores are.
+/// A law: each cup has a standing, whatever its scores.
 pub fn has_standing()
     ensures { HasStanding }
 {}

@@ -12,7 +12,7 @@ use std::alloc::Global;
 use std::thread;
 use std::thread::Threads;
 
-// The games of all pieces with their scores, each piece played in a thread; refused where a game was.
+// The games of all pieces with their scores, each piece played in a thread; it fails if a game did.
 pub fn play_together<R: Threads + Sync, F: Referee>(
     rt: &R,
     alloc: Global,
@@ -28,7 +28,7 @@ pub fn play_together<R: Threads + Sync, F: Referee>(
     gather(alloc, pieces)
 }
 
-// Plays each piece, in at most so many threads.
+// Plays each piece, in at most this many threads.
 fn play_pieces<R: Threads + Sync, F: Referee>(
     rt: &R,
     alloc: Global,

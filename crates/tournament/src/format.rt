@@ -1,19 +1,19 @@
-// What a cup is made of beside its players and worlds, and what is printed of it.
+// The settings of a cup besides its players and worlds, and what is printed.
 ghost use Rattle.std.specs.Prelude.{◌≡◌, ◌<◌};
 ghost use Rattle.tournament.specs.Seeds.{seed_at, world_at};
 
-/// The seeds with which each game of a cup is played. A world with a seed counts as a world of its own: world by world,
-/// and within a world seed by seed.
+/// The seeds with which each game of a cup is played. Each pair of a world and a seed counts as a world: world by
+/// world, and within a world seed by seed.
 #[derive(Clone, Copy, Debug, PartialEq, Eq)]
 pub struct Seeds {
     /// The first seed.
     pub first: u32,
-    /// How many seeds there are, from 1 to 1000. They follow one another, and 0 follows 4,294,967,295.
+    /// How many seeds there are, from 1 to 1000. They are consecutive, and 0 follows 4,294,967,295.
     pub count: u32,
 }
 
 impl Seeds {
-    /// The world of a world with a seed. It takes no memory.
+    /// The number of the world, given the number of a pair of a world and a seed. It takes no memory.
     #[inline]
     pub fn world_at(&self, n: u32) -> u32
         requires { 0 < self.now.count }
@@ -22,7 +22,7 @@ impl Seeds {
         n / self.count
     }
 
-    /// The seed of a world with a seed. It takes no memory.
+    /// The seed, given the number of a pair of a world and a seed. It takes no memory.
     #[inline]
     pub fn seed_at(&self, n: u32) -> u32
         requires { 0 < self.now.count }
@@ -32,12 +32,12 @@ impl Seeds {
     }
 }
 
-/// Which games a cup has, and what is printed of them.
+/// Which games a cup has, and what is printed about them.
 #[derive(Clone, Copy, Debug, PartialEq, Eq)]
 pub struct Format {
     /// Whether only the games of the first player are played.
     pub gauntlet: bool,
-    /// Whether each line of the standing ends in the player's lead.
+    /// Whether each line of the standing ends with the player's lead.
     pub leads: bool,
     /// The seeds of each game.
     pub seeds: Seeds,

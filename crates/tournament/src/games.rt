@@ -26,7 +26,7 @@ pub struct Played {
     pub score: Score,
 }
 
-// The games on so many worlds from this one on; in a gauntlet those of player 0 alone.
+// The games on this many worlds from this one on; in a gauntlet only those of player 0.
 #[tactic(auto, using(crate::proofs::GamesLemmas::between_more))]
 pub fn games_between(
     alloc: Global,
@@ -46,7 +46,7 @@ pub fn games_between(
     Ok(games)
 }
 
-// Adds the games on one world. In a gauntlet player 0 alone meets those of higher numbers.
+// Adds the games on one world. In a gauntlet only player 0 plays, against all others.
 #[tactic(auto, using(crate::proofs::GamesLemmas::gauntlet_all, crate::proofs::GamesLemmas::each_all))]
 fn add_world(
     games: &mut Vec<Pairing>,
@@ -74,7 +74,7 @@ fn add_each_pair(games: &mut Vec<Pairing>, players: u32, world: u32) -> Result<(
     Ok(())
 }
 
-// Adds the games on one world of a player with those of a higher number.
+// Adds the games on one world of a player against those with a higher number.
 #[tactic(auto, using(crate::proofs::GamesLemmas::pairs_none, crate::proofs::GamesLemmas::pairs_more, crate::proofs::GamesLemmas::pairs_all))]
 fn add_pairs(
     games: &mut Vec<Pairing>,

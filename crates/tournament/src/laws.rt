@@ -1,4 +1,4 @@
-// What holds of all cups, as laws of their definitions.
+// Laws of all cups.
 ghost use Rattle.tournament.specs.Laws.{GamesAddUp, OneStanding, PointsAddUp, WinsAreLosses, WorldsInOrder};
 
 /// A law: the points of a cup's players add up to twice its games.
@@ -11,13 +11,13 @@ pub fn wins_are_losses()
     ensures { WinsAreLosses }
 {}
 
-/// A law: a cup has one standing; its scores leave no choice.
+/// A law: a cup has one standing, which its scores determine.
 pub fn one_standing()
     ensures { OneStanding }
 {}
 
 /// Two laws: the games of a cup are those on its worlds, one world after another; and a player's line after some games
-/// and then more is the line after the former and that after the latter, added up. So the standing is the sum of the
+/// and then more is the sum of the line after the first and the line after the rest. So the standing is the sum of the
 /// games.
 #[tactic(auto, using(crate::proofs::PrintedLemmas::games_added_up, crate::proofs::PrintedLemmas::worlds_in_order))]
 pub fn games_add_up()

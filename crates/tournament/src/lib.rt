@@ -5,15 +5,15 @@
 //! Players and worlds are numbered from 0. On each world, in rising order, each pair of players i below j plays twice:
 //! i as red against j, and then j as red against i. The side with the greater score wins a game and gets 2 points;
 //! equal scores are a draw, which gives 1 point to each side (the task's game play). The standing has a line for each
-//! player, by points falling, equal points by player number rising.
+//! player, in order of falling points, and for equal points in order of rising player numbers.
 //!
-//! What makes a game's score is a [`Referee`], so that this crate knows no brain and no world. [`play_all`] plays all
-//! games at once by workers: it cuts the list of games into contiguous pieces and plays each piece in a thread of its
-//! own. [`play_all_by`] takes the function that plays the games, over [`play_games`] or over [`play_games_alone`],
-//! which needs no threads; [`play_and_print`] takes one too, plays world by world, and pushes the games' lines after
-//! each, as a [`Format`] says. The standing is always that of the referee's scores. [`push_standing`] prints it with
-//! the players' [`Names`]. Pieces, texts and names are this project's own. It stands on `cell_world` for the score, on
-//! `ant_base` for texts, and on no rule of the game.
+//! A [`Referee`] returns the score of a game, so this crate knows no brain and no world. [`play_all`] plays all games
+//! with several workers: it cuts the list of games into contiguous pieces and plays each piece in its own thread.
+//! [`play_all_by`] takes the function that plays the games, such as [`play_games`] or [`play_games_alone`], which needs
+//! no threads. [`play_and_print`] takes such a function too, plays world by world, and pushes the lines of a world's
+//! games after playing them, as a [`Format`] says. The standing is always that of the referee's scores.
+//! [`push_standing`] prints it with the players' [`Names`]. Pieces, texts and names are this project's own. The crate
+//! depends on `cell_world` for the score and on `ant_base` for texts, and on no rule of the game.
 #![tactic(auto)]
 
 mod existence;

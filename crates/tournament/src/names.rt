@@ -8,16 +8,16 @@ use hex_geometry::OutOfMemory;
 use std::alloc::Global;
 use std::marker::Model;
 
-/// What became of a name that was to be added.
+/// The result of adding a name.
 #[derive(Clone, Copy, Debug, PartialEq, Eq)]
 pub enum Added {
-    /// It wasn't there, and stands last now.
+    /// The list didn't have it. It is the last name now.
     New,
-    /// It was there, and keeps its place.
+    /// The list has it already. It keeps its place.
     Known,
 }
 
-/// A list of different names, that of player 0 first. Contracts see the list of the texts.
+/// A list of different names, beginning with that of player 0. Contracts see the list of the texts.
 #[derive(Drop)]
 pub struct Names {
     alloc: Global,
@@ -34,7 +34,7 @@ impl Model for Names {
 }
 
 impl Names {
-    /// The empty list. It takes no memory, and keeps the allocator for what is added.
+    /// The empty list. It takes no memory, and keeps the allocator for the names that are added.
     pub fn new(alloc: Global) -> Names
         ensures { result ≡ [] }
     {
@@ -44,8 +44,8 @@ impl Names {
         }
     }
 
-    /// Adds a name at the end. If the name is there already, it returns `Known` and changes nothing. It fails only if
-    /// memory runs out, and then changes nothing.
+    /// Adds a name at the end and returns `New`. If the list has the name already, it returns `Known` and changes
+    /// nothing. It fails only if memory runs out, and then changes nothing.
     pub fn add(&mut self, name: &str) -> Result<Added, OutOfMemory>
         ensures answer { IfOk result (λ added. added ≡ (if has_name self.old name.now then Known else New)) }
         ensures names { OnOk result (self.new ≡ with_name self.old name.now) }
@@ -59,7 +59,7 @@ impl Names {
         Ok(Added::New)
     }
 
-    /// How many names there are. It takes no memory.
+    /// The number of names. It takes no memory.
     pub fn len(&self) -> usize
         ensures { result ≡ length self.now }
     {

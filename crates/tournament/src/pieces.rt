@@ -10,7 +10,7 @@ use hex_geometry::OutOfMemory;
 use std::alloc::Global;
 use work_share::border;
 
-// A worker's games, rooms for what is played, and whether a game was refused.
+// A worker's games, room for their scores, and whether a game failed.
 #[derive(Drop)]
 pub struct Piece {
     pub games: Vec<Pairing>,
@@ -19,7 +19,7 @@ pub struct Piece {
 }
 
 impl Piece {
-    // The piece of these games, with a room for each.
+    // The piece of these games, with room for each score.
     fn of_games(alloc: Global, games: &[Pairing]) -> Result<Piece, OutOfMemory>
         ensures games { IfOk result (λ piece. piece.games.items ≡ games.now) }
         ensures fresh { IfOk result (λ piece. piece.played.items ≡ []) }
@@ -31,7 +31,7 @@ impl Piece {
         })
     }
 
-    // Plays the games in their order, up to the first that is refused.
+    // Plays the games in their order, up to the first that fails.
     pub fn play<F: Referee>(&mut self, alloc: Global, referee: &F)
         requires { IsPieceReady (F.knows referee.now) self.old }
         ensures { IsPieceDone (F.score referee.now) self.old self.new }
@@ -40,7 +40,7 @@ impl Piece {
     }
 }
 
-// Adds these games with their scores, up to the first that is refused.
+// Adds these games with their scores, up to the first that fails.
 #[tactic(auto, using(crate::proofs::PiecesLemmas::played_push))]
 pub fn add_played<F: Referee>(
     alloc: Global,
@@ -58,7 +58,7 @@ pub fn add_played<F: Referee>(
     Ok(())
 }
 
-// The games in as many pieces as there are workers, piece k from game k * n / workers on, where n is the number of
+// The games in as many pieces as there are workers: piece k begins with game k * n / workers, where n is the number of
 // games. Pieces without a game are left out.
 pub fn deal(alloc: Global, games: &[Pairing], workers: usize) -> Result<Vec<Piece>, OutOfMemory>
     requires workers { (0 < workers) × (workers ≤ 16) }
@@ -90,7 +90,7 @@ fn add_piece(pieces: &mut Vec<Piece>, alloc: Global, games: &[Pairing]) -> Resul
     Ok(())
 }
 
-// The played games of all pieces, in their order; refused where a game of a piece was.
+// The played games of all pieces, in their order; it fails if a game of a piece did.
 pub fn gather(alloc: Global, pieces: &[Piece]) -> Result<Vec<Played>, OutOfMemory>
     ensures played { IfOk result (λ played. played.items ≡ played_games pieces.now) }
     ensures whole { OnOk result (All (λ piece. piece.refused ≡ false) pieces.now) }

@@ -8,21 +8,21 @@ use std::marker::Model;
 pub struct Line {
     /// The player's number, from 0.
     pub player: u32,
-    /// 2 for each game won and 1 for each game drawn (the task's game play).
+    /// 2 for each win and 1 for each draw (the task's game play).
     pub points: u32,
-    /// The games won.
+    /// How many games it won.
     pub won: u32,
-    /// The games drawn.
+    /// How many games it drew.
     pub drawn: u32,
-    /// The games lost.
+    /// How many games it lost.
     pub lost: u32,
-    /// The player's own food, over all its games.
+    /// The player's food, over all its games.
     pub food_for: u64,
     /// Its opponents' food, over the same games.
     pub food_against: u64,
 }
 
-/// The lines of a cup's players, the best first. Contracts see the list of the lines.
+/// The lines of a cup's players, best first. Contracts see the list of the lines.
 #[derive(Drop)]
 pub struct Standing {
     lines: Vec<Line>,
@@ -44,7 +44,7 @@ impl Standing {
         Standing { lines }
     }
 
-    /// How many lines there are, one for each player. It takes no memory.
+    /// The number of lines, one for each player. It takes no memory.
     #[inline]
     pub fn len(&self) -> usize
         ensures { result ≡ length self.now }

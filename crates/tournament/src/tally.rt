@@ -11,9 +11,9 @@ use hex_geometry::OutOfMemory;
 use std::alloc::Global;
 use std::cmp::Reverse;
 
-/// The standing of the players of the numbers below `players` after these games, fewer than 2^30, in whatever order
-/// they are: a line for each player, by points falling, equal points by player number rising (the task's game play).
-/// After all games of a cup it is the cup's. It is refused only when out of memory.
+/// The standing of the players with numbers below `players` after these games, in any order and fewer than 2^30: a line
+/// for each player, in order of falling points, and for equal points in order of rising player numbers (the task's game
+/// play). After all games of a cup it is the cup's standing. It fails only if memory runs out.
 pub fn standing_of(alloc: Global, players: u32, games: &[Played]) -> Result<Standing, OutOfMemory>
     requires few { length games.now < 2 ^ 30 }
     ensures { IfOk result (λ standing. Ranks players games.now standing) }
@@ -23,7 +23,7 @@ pub fn standing_of(alloc: Global, players: u32, games: &[Played]) -> Result<Stan
     Ok(tally.standing())
 }
 
-// The lines of all players after the games so far, by player number, and how many games these are.
+// The lines of all players after the games so far, by player number, and the number of these games.
 #[derive(Drop)]
 pub struct Tally {
     pub lines: Vec<Line>,
@@ -64,7 +64,7 @@ impl Tally {
     }
 }
 
-// The lines with some games more, where they are those after so many.
+// The lines with some more games, given the lines after this many.
 #[tactic(auto, using(crate::proofs::TallyLemmas::with_more, crate::proofs::TallyLemmas::small_more))]
 fn lines_with(
     alloc: Global,
@@ -84,7 +84,7 @@ fn lines_with(
     Ok(more)
 }
 
-// A line with some games more, where it is that after so many.
+// A line with some more games, given the line after this many.
 fn line_with(line: Line, before: u32, games: &[Played]) -> Line
     requires few { before + length games.now < 2 ^ 30 }
     requires small { IsSmall before line }

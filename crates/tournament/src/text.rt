@@ -8,7 +8,7 @@ use crate::names::Names;
 use crate::standing::{Line, Standing};
 use ant_base::{Each, Failed, Layout, NumberedTexts, Sink, layout};
 
-// The lines of a standing, whose players all have names.
+// The lines of a standing; all its players have names.
 #[derive(Clone, Copy)]
 struct TableLines<'s> {
     standing: &'s Standing,
@@ -93,10 +93,10 @@ impl Layout for Lead {
     }
 }
 
-/// Pushes a line for each player, the best first, as `3 points: b (1 won, 1 drawn, 0 lost)`; with leads as `3 points: b
-/// (1 won, 1 drawn, 0 lost), lead 3`, the player's own food minus its opponents', as a whole number. Each player of the
-/// standing has a name. Where the sink failed, a prefix of the lines was pushed, and its count of faults rose. It takes
-/// no memory.
+/// Pushes a line for each player, best first, such as `3 points: b (1 won, 1 drawn, 0 lost)`. With leads it is `3
+/// points: b (1 won, 1 drawn, 0 lost), lead 3`, where the lead is the player's food minus its opponents', as a whole
+/// number. Each player of the standing has a name. At `Failed` a prefix of the lines was pushed, and the sink's count
+/// of faults rose. It takes no memory.
 pub fn push_standing<K: Sink>(
     standing: &Standing,
     leads: bool,

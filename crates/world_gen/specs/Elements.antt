@@ -18,13 +18,13 @@ use Rattle.world_gen.specs.declared.spot.Spot.{Spot}
 abbrev pub count_of : Shape → ℕ
 count_of shape = 2 + shape.rocks + shape.blobs
 
--- the element of a number, counted from 0: the red hill, the black hill, then the rocks, then the blobs
+-- the element with a number, counted from 0: the red hill, the black hill, then the rocks, then the blobs
 abbrev pub element_of : Shape → ℕ → Element
 element_of shape zero = element.Hill Red
 element_of shape (suc zero) = element.Hill Black
 element_of shape (suc (suc n)) = if nat_lt n shape.rocks then element.Rock else element.Blob
 
--- so many steps in one direction
+-- this many steps in one direction
 unfoldable pub point_after : ℕ → Dir → Point → Point
 point_after zero d p = p
 point_after (suc n) d p = adjacent_point (point_after n d p) d

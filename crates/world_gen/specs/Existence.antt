@@ -1,4 +1,4 @@
--- A law beside the one that a seed and a shape have at most one outcome: they have one.
+-- A law beside the one that a seed and a shape have at most one outcome: they have at least one.
 use Rattle.std.specs.Prelude.{ℕ, ◌⊎◌}
 use Rattle.cell_world.specs.Grid.{Grid}
 use Rattle.world_gen.specs.Generated.{IsGenerated, IsShape}

@@ -1,4 +1,4 @@
--- What is said where no world was generated (this project's own).
+-- The texts of the faults if no world was generated (this project's own).
 use Rattle.std.specs.Prelude.{ℕ, List, codes, decimal}
 use Rattle.ant_base.specs.Layout.{◌+++◌}
 use Rattle.ant_base.specs.FaultText.{memory_text}

@@ -1,4 +1,4 @@
--- Where an element may be placed.
+-- The places where an element may be put.
 use Rattle.std.specs.Prelude.{◌≡◌, ℕ, List, Contains, ◌⊎◌}
 use Rattle.hex_geometry.specs.Distance.{IsAdjacent}
 use Rattle.hex_geometry.specs.Position.{IsInner, Point, point_of}

@@ -23,13 +23,13 @@ abbrev pub hill_kind : Colour → Kind
 hill_kind Red = kind.RedHill
 hill_kind Black = kind.BlackHill
 
--- what an element's cells are: a blob's have 5 food particles each
+-- the kind of an element's cells: a blob's have 5 food particles each
 abbrev pub paint_of : Figure → Kind
 paint_of (Hill colour) = hill_kind colour
 paint_of (Rock radius) = kind.Rock
 paint_of (Blob first) = kind.Food 5
 
--- the kinds in row order: rock on the rim, the elements' cells as they are painted, and all else clear
+-- the kinds in row order: rock on the rim, the elements' cells as they are painted, and everything else clear
 pub record IsPainted (width height : ℕ) (placed : List Spot) (kinds : List Kind) : Type 0 where
   pub full : length kinds ≡ width * height
   pub rim : (p : Pos) → IsInside width height p → (IsInner width height p → ⊥) → kind_at width kinds p ≡ kind.Rock
@@ -45,7 +45,7 @@ pub record IsShape (shape : Shape) : Type 0 where
   pub tall : least_size ≤ shape.height
   pub low : shape.height ≤ most_size
 
--- the world of a seed and a shape: the opening world of its elements, placed and painted, which are a plan
+-- the world of a seed and a shape: the opening world of its elements, placed and painted, which form a plan
 pub record IsGenerated (seed : ℕ) (shape : Shape) (world : Grid) : Type 0 where
   pub placed : List Spot
   pub placing : IsPlacing seed shape placed
@@ -54,12 +54,12 @@ pub record IsGenerated (seed : ℕ) (shape : Shape) (world : Grid) : Type 0 wher
   pub plan : IsPlan shape.width shape.height kinds
   pub is : world ≡ opening shape.width shape.height kinds
 
--- what is refused: an element has no room, or there is no memory
+-- why there is no world: an element has no room, or memory ran out
 abbrev pub IsRefusal : ℕ → Shape → GenFault → Type 0
 IsRefusal seed shape (NoRoom number) = HasNoRoom seed shape number
 IsRefusal seed shape OutOfMemory = Unit {0}
 
--- what is answered: the world of the seed and the shape, or the element that has no room
+-- the result: the world of the seed and the shape, or why there is none
 abbrev pub IsAnswer : ℕ → Shape → Result Grid GenFault → Type 0
 IsAnswer seed shape (Ok world) = IsGenerated seed shape world
 IsAnswer seed shape (Err fault) = IsRefusal seed shape fault

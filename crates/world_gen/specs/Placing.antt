@@ -53,7 +53,7 @@ tried_at seed width height figure i = record {
 abbrev pub try_of : ℕ → ℕ → ℕ → Figure → ℕ → ℕ → Spot
 try_of seed width height figure g k = tried_at seed width height figure (g + k * draws_of figure)
 
--- the spot at a place of the grid, where nothing is drawn: a blob has direction 0
+-- the spot at a place of the grid, for which nothing is drawn: a blob has direction 0
 abbrev pub spot_at : Figure → Pos → Spot
 spot_at figure p = record { figure = figure; place = p }
 
@@ -71,7 +71,7 @@ pub record IsChosenSpot (fits : Spot → Type 0) (seed width height : ℕ) (figu
   pub first : NoTryFits fits seed width height figure g try
   pub drew : after ≡ g + (try + 1) * draws_of figure
 
--- none of 50 tries fits, and the place is the first of the grid, in row order, at which it fits
+-- none of 50 tries fits, and the place is the first in row order at which it fits
 pub record IsFound (fits : Spot → Type 0) (seed width height : ℕ) (figure : Figure) (g : ℕ) (spot : Spot)
     (after : ℕ) : Type 0 where
   pub no_try : NoTryFits fits seed width height figure g 50
@@ -87,7 +87,7 @@ pub record IsBarred (fits : Spot → Type 0) (seed width height : ℕ) (figure :
   pub no_try : NoTryFits fits seed width height figure g 50
   pub no_place : (p : Pos) → IsInside width height p → fits (spot_at figure p) → ⊥
 
--- where an element that is begun at place g goes, and the place of the stream after it
+-- the spot of an element that is begun at place g, and the place of the stream after it
 abbrev pub Goes : (Spot → Type 0) → ℕ → ℕ → ℕ → Element → ℕ → Spot → ℕ → Type 0
 Goes fits seed width height element g spot after =
     IsChosenSpot fits seed width height (figure_begun seed g element) (after_begun g element) spot after
@@ -106,13 +106,13 @@ Follow seed shape placed g (spot ∷ rest) after =
     (element_of shape (length placed)) g spot next
     × Follow seed shape (placed ++ spot ∷ []) next rest after
 
--- all elements are placed so, one after another
+-- all elements are placed in this way, one after another
 pub record IsPlacing (seed : ℕ) (shape : Shape) (placed : List Spot) : Type 0 where
   pub after : ℕ
   pub follow : Follow seed shape [] 0 placed after
   pub all : length placed ≡ count_of shape
 
--- the elements before this one are placed so, and it has no room
+-- the elements before this one are placed in this way, and it has no room
 pub record HasNoRoom (seed : ℕ) (shape : Shape) (number : ℕ) : Type 0 where
   pub placed : List Spot
   pub after : ℕ

@@ -1,4 +1,4 @@
--- What holds of placed elements.
+-- Laws of placed elements.
 use Rattle.std.specs.Prelude.{◌≡◌, ℕ, List, Contains, AllPairs}
 use Rattle.cell_world.specs.Grid.{Grid}
 use Rattle.hex_geometry.specs.Position.{Point}
@@ -9,7 +9,7 @@ use Rattle.world_gen.specs.Placing.{HasNoRoom, IsPlacing}
 use Rattle.world_gen.specs.declared.shape.Shape.{Shape}
 use Rattle.world_gen.specs.declared.spot.Spot.{Spot}
 
--- no cell of the one element is equal or adjacent to one of the other
+-- no cell of one element is equal or adjacent to one of the other
 abbrev pub AreApart : Spot → Spot → Type 0
 AreApart one other = (q r : Point) → IsCell one q → IsCell other r → IsTouching q r → ⊥
 
@@ -26,13 +26,13 @@ ElementsLieApart =
 
 -- a seed and a shape have one outcome
 pub record PlacingIsOne : Type 0 where
-  -- there is one placing at most
+  -- there is at most one placing
   pub one : (seed : ℕ) (shape : Shape) (first second : List Spot) → IsPlacing seed shape first
       → IsPlacing seed shape second → first ≡ second
-  -- none where an element has no room
+  -- there is none if an element has no room
   pub none : (seed : ℕ) (shape : Shape) (placed : List Spot) (number : ℕ) → IsPlacing seed shape placed
       → HasNoRoom seed shape number → ⊥
-  -- and no more than one element has none
+  -- at most one element has no room
   pub number : (seed : ℕ) (shape : Shape) (first second : ℕ) → HasNoRoom seed shape first → HasNoRoom seed shape second
       → first ≡ second
   -- a seed and a shape have one world

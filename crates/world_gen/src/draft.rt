@@ -1,4 +1,4 @@
-// A world in the making: what each cell is, and where nothing may be placed.
+// A world in the making: the kind of each cell, and where nothing may be placed.
 ghost use Rattle.hex_geometry.specs.RowOrder.{index_of, pos_at};
 ghost use Rattle.cell_world.specs.Limits.{most_size};
 ghost use Rattle.hex_geometry.specs.Position.{IsInner, is_on_rim};
@@ -11,7 +11,7 @@ use cell_world::Kind;
 use hex_geometry::{Dir, OutOfMemory, Pos, adjacent, index_of, is_on_rim, pos_at};
 use std::alloc::Global;
 
-// The kinds in row order, and beside each whether its cell is on the rim or touched by an element.
+// The kinds in row order, and for each whether its cell is on the rim or touched by an element.
 #[derive(Drop)]
 pub struct Draft {
     pub width: u16,
@@ -44,7 +44,7 @@ impl Draft {
         Ok(draft)
     }
 
-    // Adds the cell of this number in row order: rock on the rim, which is blocked, and clear inside.
+    // Adds the cell with this number in row order: rock on the rim, which is blocked, and clear inside.
     fn add(&mut self, number: u32) -> Result<(), OutOfMemory>
         requires { number < self.old.width * self.old.height }
         ensures width { self.new.width ≡ self.old.width }

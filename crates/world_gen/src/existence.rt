@@ -1,4 +1,4 @@
-// That each seed and shape has an outcome, as a law of its definition.
+// A law: each seed and shape has an outcome.
 ghost use Rattle.world_gen.specs.Existence.{HasOutcome};
 
 /// A law: each seed and shape has a world, whose elements are all placed, or an element without room.

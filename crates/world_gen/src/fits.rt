@@ -50,7 +50,7 @@ impl Draft {
             && y + reach + 1 < self.height as u32
     }
 
-    // Whether those positions of a row that are in the ball are open. The ball ends before the rim.
+    // Whether the positions of a row that are in the ball are open. The ball ends before the rim.
     fn row_is_open(&self, centre: Pos, radius: u16, y: u16) -> bool
         requires fence { IsFenced self.now.width self.now.height self.now.blocked.items }
         requires within { IsBallWithin self.now.width self.now.height centre radius }

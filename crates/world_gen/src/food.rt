@@ -7,7 +7,7 @@ use cell_world::World;
 use hex_geometry::Pos;
 
 /// The food particles on all cells of a world, at most 2,340,900; carried food isn't counted (the task's geography). At
-/// the start of a game this is all food there is.
+/// the start of a game this is all food.
 pub fn food_on_cells(world: &World) -> u32
     ensures { result ≡ food_on (world_of world.now) }
 {

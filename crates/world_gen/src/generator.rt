@@ -19,13 +19,12 @@ use std::fmt;
 /// Why no world was generated.
 #[derive(Clone, Copy, Debug, PartialEq, Eq)]
 pub enum GenFault {
-    /// This element fits at no place of the grid: 0 is the red hill, 1 the black hill, then come the rocks, then the
-    /// blobs.
+    /// This element fits nowhere on the grid: 0 is the red hill, 1 the black hill, then come the rocks, then the blobs.
     NoRoom {
         /// The number of the element.
         element: u32,
     },
-    /// There was no memory.
+    /// Memory ran out.
     OutOfMemory,
 }
 
@@ -71,8 +70,8 @@ impl From<OutOfMemory> for GenFault {
 /// that fits in row order. `NoRoom` is returned exactly if an element has no place, and names the first such element.
 /// Otherwise it fails only if memory runs out.
 ///
-/// Given seed 12345 and 64 by 64 cells without rocks and with one blob it returns the world whose red hill is around
-/// (25, 52) and whose black hill is around (18, 7), with the blob's corner at (36, 40). Given 12 by 12 cells it returns
+/// For seed 12345 and 64 by 64 cells without rocks and with one blob it returns the world whose red hill is around (25,
+/// 52) and whose black hill is around (18, 7), with the blob's corner at (36, 40). For 12 by 12 cells it returns
 /// `NoRoom { element: 0 }` with every seed, since a hill is 13 cells wide.
 pub fn generate(alloc: Global, seed: u32, shape: Shape) -> Result<World, GenFault>
     requires { IsShape shape }
@@ -98,7 +97,7 @@ impl Draft {
         Ok(draft)
     }
 
-    // Places the element of this number.
+    // Places the element with this number.
     fn put(
         &mut self,
         alloc: Global,

@@ -3,7 +3,7 @@
 //! The generator works in the manner of the contest's: two hills, then rocks, then blobs of food, each placed at random
 //! where it touches neither the rim nor anything placed before. [`generate`] returns the opening world of exactly the
 //! placed elements, or the element that has no room. The laws say that placed elements lie apart, and that a seed and a
-//! shape have one outcome. Trying a place takes no memory. What names no section of the contest's task is this
+//! shape have one outcome. Trying a place takes no memory. Whatever names no section of the contest's task is this
 //! project's own. This crate depends on `hex_geometry`, `ant_random` and `cell_world`.
 #![tactic(auto)]
 

@@ -1,4 +1,4 @@
-// What a generated world is to be like.
+// The shape of a generated world.
 ghost use Rattle.std.specs.Prelude.{◌≡◌, ◌<◌};
 ghost use Rattle.world_gen.specs.Elements.{count_of, element_of};
 
@@ -42,7 +42,7 @@ impl Shape {
         2 + self.rocks as u32 + self.blobs as u32
     }
 
-    // The element of this number.
+    // The element with this number.
     pub(crate) fn element(self, number: u32) -> Element
         ensures { result ≡ element_of self number }
     {

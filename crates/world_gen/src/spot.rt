@@ -7,14 +7,14 @@ use hex_geometry::{Dir, Pos};
 
 pub const HILL_RADIUS: u16 = 6;
 
-// An element with all that is drawn of it but its place.
+// An element with everything that is drawn for it except its place.
 #[derive(Clone, Copy, Debug, PartialEq, Eq)]
 pub enum Figure {
     // The hill of a colour.
     Hill(Colour),
     // A rock of a radius, from 1 to 4.
     Rock(u8),
-    // A blob whose one side goes in a direction, and the other in the next direction with the clock.
+    // A blob: one side goes in this direction, and the other in the next direction clockwise.
     Blob(Dir),
 }
 
@@ -26,7 +26,7 @@ pub struct Spot {
 }
 
 impl Figure {
-    // What its cells are painted as.
+    // The kind of its cells.
     pub fn kind(self) -> Kind
         ensures { result ≡ paint_of self }
     {

@@ -1,4 +1,4 @@
-// Where an element goes. Nothing here takes memory.
+// The place of an element. Nothing here takes memory.
 ghost use Rattle.std.specs.Prelude.{◌≡◌, ◌+◌, ◌<◌, ◌≤◌};
 ghost use Rattle.hex_geometry.specs.Position.{IsInside};
 ghost use Rattle.world_gen.specs.Inner.Answers.{IsChosen, IsInRow, IsSearched, IsTried};
@@ -11,11 +11,11 @@ use crate::spot::{Figure, Spot};
 use ant_random::Stream;
 use hex_geometry::{Dir, Pos};
 
-// How many random places an element is tried at.
+// The number of random places at which an element is tried.
 const TRIES: u32 = 50;
 
 impl Draft {
-    // The first of 50 tries that fits, or else the first place of the grid.
+    // The first of 50 tries that fits, or otherwise the first place of the grid.
     pub fn choose(&self, stream: &mut Stream, element: Element) -> Option<Spot>
         requires fence { IsFenced self.now.width self.now.height self.now.blocked.items }
         requires wide { 1 ≤ self.now.width }

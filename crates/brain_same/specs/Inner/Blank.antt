@@ -1,4 +1,4 @@
--- A step that stands where a list has none.
+-- A default step after the end of a list.
 use Rattle.std.specs.Prelude.{[], true}
 use Rattle.brain_same.specs.declared.way.Step.{Step}
 use Rattle.brain_same.specs.Way.{step_of}

@@ -19,7 +19,7 @@ pair_after first second pair met =
     (next_by (instruction_at second pair.second) met))
     (next_by (instruction_at first pair.first) met)
 
--- its states were of one class and nothing changed, or their classes were joined and the pairs that follow it wait
+-- its states were in one class and nothing changed, or their classes were joined and the pairs that follow it wait
 pub data IsFollowed (first second : List Instr) (pair : Pair) (old new : List ℕ)
     (waiting after : List Pair) : Type 0 where
   PassedOver : slice_index old pair.first ≡ slice_index old (length first + pair.second) → new ≡ old → after ≡ waiting

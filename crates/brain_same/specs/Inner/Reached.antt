@@ -1,4 +1,4 @@
--- Pairs of states, each kept with how the search came to it.
+-- Pairs of states, each kept with how the search reached it.
 use Rattle.std.specs.Prelude.{◌≡◌, ℕ, ◌+◌, ◌<◌, Bool, true, false, List, [], ◌∷◌, ◌++◌, length, slice_get, slice_index, Option, Some, None, option_map, option_to_list}
 use Rattle.brain_read.specs.declared.instr.Instr.{Instr}
 use Rattle.brain_same.specs.declared.search.Pair.{Pair}
@@ -10,14 +10,14 @@ use Rattle.brain_same.specs.Inner.Classes.{AreJoined}
 use Rattle.brain_same.specs.Inner.Pairs.{pair_after}
 use Rattle.brain_same.specs.Way.{way_by}
 
--- how the search came to the pair of a place: the first stands at the start, and another follows an earlier one by an
+-- how the search reached the pair at a place: the first is at the start, and any other follows an earlier one by an
 -- answer
 pub data IsFrom (ways : List (List Bool)) (place : ℕ) (it : Reached) (way : List Bool) : Type 0 where
   Starts : place ≡ 0 → way ≡ [] → IsFrom ways place it way
   Follows : it.from < place → (before : List Bool) → slice_get ways it.from ≡ Some before → way ≡ before ++ it.met ∷ []
       → IsFrom ways place it way
 
--- these answers lead to the pair of a place
+-- these answers lead to the pair at a place
 pub record IsReached (first second : List Instr) (ways : List (List Bool)) (place : ℕ) (it : Reached)
     (way : List Bool) : Type 0 where
   pub one : led_to first way 0 ≡ Some it.pair.first
@@ -42,7 +42,7 @@ AreStepsTo first second reached place steps =
     (ways : List (List Bool)) (way : List Bool) → AreReached first second reached ways → slice_get ways place ≡ Some way
     → steps ≡ way_by first second way 0 0
 
--- a pair that follows that of a place by an answer
+-- a pair that follows the one at a place by an answer
 abbrev pub kept_from : ℕ → Bool → Pair → Reached
 kept_from place met pair = record { pair = pair; from = place; met = met }
 
@@ -54,7 +54,7 @@ start_kept = kept_from 0 true (record { first = 0; second = 0; answers = 0 })
 abbrev pub reached_after : List Instr → List Instr → ℕ → Pair → Bool → Option Reached
 reached_after first second place pair met = option_map (kept_from place met) (pair_after first second pair met)
 
--- its states were of one class and nothing changed, or their classes were joined and the pairs that follow it are kept
+-- its states were in one class and nothing changed, or their classes were joined and the pairs that follow it are kept
 pub data IsKept (first second : List Instr) (place : ℕ) (pair : Pair) (old new : List ℕ)
     (reached after : List Reached) : Type 0 where
   PassedOver : slice_index old pair.first ≡ slice_index old (length first + pair.second) → new ≡ old → after ≡ reached
@@ -64,7 +64,7 @@ pub data IsKept (first second : List Instr) (place : ℕ) (pair : Pair) (old new
       ++ option_to_list (reached_after first second place pair false)
       → IsKept first second place pair old new reached after
 
--- what the search comes to: no pair differs, or the place of the first that does
+-- the result of the search: no pair differs, or the place of the first that does
 pub data EndsAt (first second : List Instr) (reached : List Reached) : Option ℕ → Type 0 where
   NoneDiffers : AreSame first second → EndsAt first second reached None
   DiffersAt : (place : ℕ) (ways : List (List Bool)) (way : List Bool) (it : Reached)

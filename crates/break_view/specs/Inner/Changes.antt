@@ -11,7 +11,7 @@ use Rattle.break_view.specs.declared.breaks.Break.{Break}
 use Rattle.break_view.specs.declared.breaks.Break.TheVariants.{Round, State, Stand, Food, Killed, Score}
 use Rattle.break_view.specs.Met.{ant_at, first_met, is_met}
 
--- whether a break asks for a state: such a break alone depends on the ant whose turn it was
+-- whether a break is one of a state: only such a break depends on the ant whose turn it was
 abbrev pub is_state : Break → Bool
 is_state (Round round) = false
 is_state (State colour state) = true
@@ -24,22 +24,22 @@ is_state (Score colour least) = false
 abbrev pub LooksSame : World → World → Type 0
 LooksSame w v = (item : Break) (r t u : ℕ) → is_state item ≡ false → is_met item v r u ≡ is_met item w r t
 
--- the food on a cell, where there is a cell
+-- the food on a cell, if there is a cell
 abbrev pub food_in : Option Cell → ℕ
 food_in None = 0
 food_in (Some cell) = cell.food
 
--- whether an ant stands on a cell with so much food; without a cell there is nothing to ask
+-- whether an ant is on a cell with this much food; true without a cell
 abbrev pub is_left : Option Cell → ℕ → Bool
 is_left None food = true
 is_left (Some cell) food = has_ant cell.ant && (cell.food == food)
 
--- whether the tables of both colours name a state: beyond its length a table names every state
+-- whether the tables of both colours name a state; after its end a table names every state
 abbrev pub names : List Bool → List Bool → Colour → ℕ → Bool
 names red black Red state = slice_index_or red state true
 names red black Black state = slice_index_or black state true
 
--- the tables name the state of a break that asks for one
+-- the tables name the state of a break, if it is one of a state
 abbrev pub IsNamed : List Bool → List Bool → Break → Type 0
 IsNamed red black (Round round) = Unit {0}
 IsNamed red black (State colour state) = names red black colour state ≡ true
@@ -53,7 +53,7 @@ abbrev pub names_ant : List Bool → List Bool → Option Ant → Bool
 names_ant red black None = false
 names_ant red black (Some ant) = names red black ant.colour ant.state
 
--- no break holds after this turn, unless one of a state
+-- no break holds after this turn, except perhaps one of a state
 abbrev pub IsQuietButStates : List Break → World → ℕ → ℕ → Type 0
 IsQuietButStates items w r t = (red black : List Bool) → AllByRecursion (IsNamed red black) items
     → names_ant red black (ant_at w (place_in w t)) ≡ false → first_met 1 items w r t ≡ None

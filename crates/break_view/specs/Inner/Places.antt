@@ -1,4 +1,4 @@
--- The tables of words, and what stands at each place of them.
+-- The tables of words, and the meaning of each place in them.
 use Rattle.std.specs.Prelude.{ℕ, if◌then◌else◌, ◌==◌, List, map}
 use Rattle.cell_world.specs.declared.ant.Colour.{Colour}
 use Rattle.cell_world.specs.declared.ant.Colour.TheVariants.{Red, Black}

@@ -1,4 +1,4 @@
--- What is read of the tokens of a line, form by form.
+-- What is read from the tokens of a line, form by form.
 use Rattle.std.specs.Prelude.{ℕ, List, Ok}
 use Rattle.cell_world.specs.declared.ant.Colour.{Colour}
 use Rattle.line_tokens.specs.Steps.{Read, ◌>>=◌, take_word, take_end}
@@ -8,14 +8,14 @@ use Rattle.break_view.specs.declared.words.BreakWord.{BreakWord}
 use Rattle.break_view.specs.Inner.Places.{break_words, break_at}
 use Rattle.break_view.specs.Inner.Steps.{take_colour, take_any}
 
--- what stands after `Round` and `Killed`: a number
+-- what follows `Round` and `Killed`: a number
 unfoldable pub read_number : (ℕ → Break) → List (List ℕ) → Read Break
 read_number make tokens = do
   number ← take_any tokens
   end ← take_end number.1
   Ok (make number.0)
 
--- what stands after `State` and `Score`: a colour and a number
+-- what follows `State` and `Score`: a colour and a number
 unfoldable pub read_coloured : (Colour → ℕ → Break) → List (List ℕ) → Read Break
 read_coloured make tokens = do
   colour ← take_colour tokens
@@ -23,7 +23,7 @@ read_coloured make tokens = do
   end ← take_end number.1
   Ok (make colour.0 number.0)
 
--- what stands after `Stand`: a colour and a position
+-- what follows `Stand`: a colour and a position
 unfoldable pub read_stand : List (List ℕ) → Read Break
 read_stand tokens = do
   colour ← take_colour tokens
@@ -32,7 +32,7 @@ read_stand tokens = do
   end ← take_end y.1
   Ok (Stand colour.0 x.0 y.0)
 
--- what stands after `Food`: a position and a number
+-- what follows `Food`: a position and a number
 unfoldable pub read_food : List (List ℕ) → Read Break
 read_food tokens = do
   x ← take_any tokens
@@ -41,7 +41,7 @@ read_food tokens = do
   end ← take_end least.1
   Ok (Food x.0 y.0 least.0)
 
--- what stands after the word of a break
+-- what follows the word of a break
 abbrev pub read_form : BreakWord → List (List ℕ) → Read Break
 read_form BreakWord.Round tokens = read_number Round tokens
 read_form BreakWord.State tokens = read_coloured State tokens

@@ -1,4 +1,4 @@
--- What one round of a game comes to while it is watched.
+-- The result of one round of a game that is watched.
 use Rattle.std.specs.Prelude.{◌≡◌, ℕ, ◌+◌, ◌<◌, List, Option, Some, None}
 use Rattle.ant_turn.specs.Minds.{Minds}
 use Rattle.ant_turn.specs.Rounds.{Moment, after_round, after_turns}

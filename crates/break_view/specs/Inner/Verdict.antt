@@ -10,11 +10,11 @@ use Rattle.break_view.specs.declared.fault.BreakFault.TheVariants.{UnknownWord, 
 use Rattle.break_view.specs.Grammar.{most_breaks}
 use Rattle.break_view.specs.Inner.Reading.{read_line}
 
--- what is read of a text, or its fault
+-- what is read from a text, or its fault
 abbrev pub Judgement : Type 0 → Type 0
 Judgement A = Result A BreakFault
 
--- the fault of a line that is refused, whatever bytes its token has
+-- the fault of a refused line, regardless of bad bytes
 abbrev pub fault_at : ℕ → LineFault → BreakFault
 fault_at line LineFault.UnknownWord = UnknownWord line
 fault_at line LineFault.MissingToken = MissingToken line
@@ -24,7 +24,7 @@ fault_at line LineFault.ExtraToken = ExtraToken line
 abbrev pub refusal_at : ℕ → Refusal → BreakFault
 refusal_at line refusal = fault_at line refusal.fault
 
--- how the lines of breaks are read: of each its break is kept
+-- how the lines of breaks are read: the break of each line is kept
 abbrev pub break_reader : Reader Break Break BreakFault
 break_reader = record {
   most = most_breaks;

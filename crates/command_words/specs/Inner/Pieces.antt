@@ -7,7 +7,7 @@ abbrev pub pieces_left : Option (List ℕ) → List (List ℕ)
 pieces_left None = []
 pieces_left (Some text) = pieces_of text
 
--- what stands after the first byte, if there is one
+-- what follows the first byte, if there is one
 abbrev pub after_byte : List ℕ → Option (List ℕ)
 after_byte [] = None
 after_byte (byte ∷ rest) = Some rest

@@ -1,4 +1,4 @@
--- The lines of a report as they are pushed: each after the LF of the line before, and without its own.
+-- The lines of a report as they are pushed: each after the LF of the previous line, and without its own.
 use Rattle.std.specs.Prelude.{ℕ, List, flat_map, codes}
 use Rattle.ant_base.specs.Layout.{◌+++◌}
 

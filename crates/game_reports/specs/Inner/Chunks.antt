@@ -1,9 +1,9 @@
--- Turns of which nothing is told.
+-- Turns that are not reported.
 use Rattle.std.specs.Prelude.{Bool, true, false}
 use Rattle.brain_read.specs.declared.instr.Instr.{Instr}
 use Rattle.brain_read.specs.declared.instr.Instr.TheVariants.{Sense, Mark, Unmark, PickUp, Drop, Turn, Move, Flip}
 
--- whether an instruction kills nobody and moves no food, whatever comes of it
+-- whether an instruction never kills and never moves food
 abbrev pub is_quiet : Instr → Bool
 is_quiet (Sense sight met unmet condition) = true
 is_quiet (Mark i next) = true

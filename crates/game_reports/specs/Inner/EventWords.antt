@@ -1,4 +1,4 @@
--- The lines of a game's events as they are pushed: each after the LF of the line before, and without its own.
+-- The lines of a game's events as they are pushed: each after the LF of the previous line, and without its own.
 use Rattle.std.specs.Prelude.{ℕ, ◌==◌, ◌||◌, Bool, true, false, if◌then◌else◌, List, Option, Some, None, codes, decimal, option_map}
 use Rattle.hex_geometry.specs.declared.position.Pos.{Pos}
 use Rattle.ant_base.specs.Layout.{text_of_option, ◌+++◌}
@@ -13,7 +13,7 @@ use Rattle.game_reports.specs.declared.reports.events.Carry.TheVariants.{Drops, 
 use Rattle.game_reports.specs.declared.reports.events.MovedFood.{MovedFood}
 use Rattle.game_reports.specs.Events.{ant_words, hill_words, place_words}
 
--- the words of the round and of this ant, whose turn it is, behind an LF
+-- the words of the round and of this ant, whose turn it is, after an LF
 abbrev pub broken_turn : ℕ → Ant → List ℕ
 broken_turn round actor = codes "\nround " +++ decimal round +++ codes ", " +++ ant_words (Some actor) +++ codes ": "
 
@@ -27,7 +27,7 @@ abbrev pub broken_score : ℕ → Ant → Score → List ℕ
 broken_score round actor score =
     broken_turn round actor +++ codes "score: red " +++ decimal score.red +++ codes " black " +++ decimal score.black
 
--- which way a particle goes, by the ant's load, its cell's food and its instruction
+-- the direction in which a particle goes, by the ant's load, its cell's food and its instruction
 abbrev pub carry_of : Bool → ℕ → Instr → Option Carry
 carry_of laden food (Sense sight met unmet condition) = None
 carry_of laden food (Mark i next) = None
@@ -38,7 +38,7 @@ carry_of laden food (Turn side next) = None
 carry_of laden food (Move met unmet) = None
 carry_of laden food (Flip bound met unmet) = None
 
--- the particle that goes, if food is asked for
+-- the particle that moves, if food is requested
 abbrev pub moved_by : Bool → Cell → Ant → Instr → Option MovedFood
 moved_by false cell ant instruction = None
 moved_by true cell ant instruction =

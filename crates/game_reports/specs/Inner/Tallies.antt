@@ -16,11 +16,11 @@ use Rattle.game_reports.specs.Profile.{met_of, tally_line, times_of}
 abbrev pub no_tally : Tally
 no_tally = record { times = 0; met = 0 }
 
--- what is counted of a state
+-- what is counted for a state
 abbrev pub tally_of : List Executed → Colour → ℕ → Tally
 tally_of list colour state = record { times = times_of list colour state; met = met_of list colour state }
 
--- each state of a colour's brain, of so many, is counted
+-- each of this many states of a colour's brain is counted
 pub record IsTallied (colour : Colour) (states : ℕ) (list : List Executed) (tallies : List Tally) : Type 0 where
   pub each : length tallies ≡ states
   pub are : (state : ℕ) → state < states → slice_index_or tallies state no_tally ≡ tally_of list colour state
@@ -41,7 +41,7 @@ counted_on tallies executed =
     let tally = slice_index_or tallies executed.state no_tally in
     slice_set tallies executed.state (record { times = tally.times + 1; met = tally.met + one_if executed.met })
 
--- so many turns more may be counted: no count is near its last value
+-- this many more turns may be counted: no count is near its largest value
 pub record AreFew (tallies : Tallies) (left : ℕ) : Type 0 where
   pub times : (colour : Colour) (state : ℕ)
       → (slice_index_or (tallies_of tallies colour) state no_tally).times + left < 2 ^ 64
@@ -52,13 +52,13 @@ pub record AreFew (tallies : Tallies) (left : ℕ) : Type 0 where
 abbrev pub HaveStates : Minds → Tallies → Type 0
 HaveStates minds tallies = (colour : Colour) → length (tallies_of tallies colour) ≡ length (mind_of minds colour)
 
--- these were counted, in so many turns, besides what was counted before
+-- these were counted, in this many turns, in addition to what was counted before
 pub record CountsOn (minds : Minds) (more : List Executed) (turns : ℕ) (old new : Tallies) : Type 0 where
   pub on : (list : List Executed) → AreTallied minds list old → AreTallied minds (list ++ more) new
   pub few : (left : ℕ) → AreFew old (left + turns) → AreFew new left
   pub states : HaveStates minds old → HaveStates minds new
 
--- these were counted besides what was counted before
+-- these were counted in addition to what was counted before
 abbrev pub CountsMore : List Executed → Tallies → Tallies → Type 0
 CountsMore more old new =
     (minds : Minds) (list : List Executed) → AreTallied minds list old → AreTallied minds (list ++ more) new

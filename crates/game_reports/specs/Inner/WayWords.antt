@@ -1,4 +1,4 @@
--- The lines of a trace as they are pushed: each without its LF, but with the LF of the line before.
+-- The lines of a trace as they are pushed: each without its LF, after the LF of the previous line.
 use Rattle.std.specs.Prelude.{ℕ, ◌+◌, ◌-◌, List, [], Option, Some, None, codes, decimal, if◌then◌else◌, nat_lt, option_map}
 use Rattle.hex_geometry.specs.declared.position.Pos.{Pos}
 use Rattle.ant_base.specs.Layout.{numbered, ◌+++◌}
@@ -12,7 +12,7 @@ use Rattle.match_run.specs.Alone.{GameAloneValue, standing}
 use Rattle.game_reports.specs.declared.reports.trace.ToldRound.{ToldRound}
 use Rattle.game_reports.specs.Trace.{lives_in_first}
 
--- what is told of an ant after a round, from where it stands
+-- the report of an ant after a round, from its place
 abbrev pub told_of : World → ℕ → Option Pos → ToldRound
 told_of w round place = record {
   round = round;
@@ -24,20 +24,20 @@ abbrev pub told_words : Option CellWords → List ℕ
 told_words None = codes ": dead"
 told_words (Some line) = codes ": " +++ cell_words line.at.x line.at.y line.cell
 
--- the line without its LF, behind that of the line before
+-- the line without its LF, after the LF of the previous line
 abbrev pub words_of : ToldRound → List ℕ
 words_of told = codes "\nround " +++ decimal told.round +++ told_words told.cell
 
--- what is told in world i, behind an LF
+-- the report in world i, after an LF
 unfoldable pub broken_line : (ℕ → World) → ℕ → ℕ → ℕ → List ℕ
 broken_line worlds id from i =
     if lives_in_first worlds id i then words_of (told_of (worlds i) (from + i) (place_in (worlds i) id)) else []
 
--- the worlds of a game from where it stands on, a round after another
+-- the worlds of a game from its current round on, one for each round
 unfoldable pub worlds_from : GameAloneValue → ℕ → World
 worlds_from game i = (after_rounds game.minds game.seed (standing game) i).world
 
--- what stands behind the words of the seed, but for the last LF
+-- what follows the words of the seed, without the last LF
 unfoldable pub broken_end : Minds → ℕ → World → ℕ → ℕ → ℕ → List ℕ
 broken_end minds seed w rounds id from =
     if nat_lt id w.ids

@@ -23,18 +23,18 @@ use brain_read::{Draft, Instr, InstructionWords};
 use cell_world::{PlacedAnt, World};
 use dump_print::push_seed;
 
-/// Plays a game and pushes what its ants execute: the line of the seed, and then a line for each turn of an ant that is
-/// alive and doesn't rest, as `round 3, red ant 0: on (2, 2), dir 0, food 1, state 7: Move 8 6: met`. Place, direction,
-/// food and state are those before the turn. The canonical text of the instruction comes next, and then `met` if the
-/// answer was the first, as in a profile, or `unmet`; an instruction with one answer is met (the task's neurology and
-/// kinetics; the lines are this project's own). Turns before the plan's first round have no lines. If `one` is the id
-/// of an ant, only its turns have lines. If no ant of this id was ever made, there is one line after that of the seed,
-/// as `no ant of id 99`, whatever the first round is, and no round is played.
+/// Plays a game and pushes what its ants execute: the line of the seed, and then a line for each turn of a living ant
+/// that doesn't rest, such as `round 3, red ant 0: on (2, 2), dir 0, food 1, state 7: Move 8 6: met`. Position,
+/// direction, food and state are those before the turn. The canonical text of the instruction follows, and then `met`
+/// if the answer was the first, as in a profile, or `unmet`; an instruction with one answer is met (the task's
+/// neurology and kinetics; the lines are this project's own). Turns before the plan's first round have no lines. If
+/// `one` is the id of an ant, only its turns have lines. If no ant ever had this id, there is one line after that of
+/// the seed, such as `no ant of id 99`, whatever the first round is, and no round is played.
 ///
 /// Each ant's state is below the length of its colour's brain, as in every opening world, and the plan has at most
-/// 1,000,000 rounds. The turns are those of a run. Each line is pushed after its turn and before the next one. It
-/// fails only if the sink failed, whose count of faults rose then: a prefix of the text was pushed. It makes no looks
-/// and takes no memory.
+/// 1,000,000 rounds. The turns are those of a run. Each line is pushed after its turn and before the next one. It fails
+/// only if the sink failed and its count of faults rose; then a prefix of the text was pushed. It makes no looks and
+/// takes no memory.
 pub fn acts<K: Sink>(
     world: World,
     brains: Brains<'_>,
@@ -54,7 +54,7 @@ pub fn acts<K: Sink>(
     push_report(&ActReport { one }, plan, &mut world, brains, sink)
 }
 
-// The id that is asked for, if no ant of it was made, of so many.
+// The requested id, if there is one and no ant ever had it; `ids` is the number of ids.
 fn unmade(one: Option<u32>, ids: u32) -> Option<u32>
     ensures { result ≡ unmade_of one ids }
 {
@@ -65,7 +65,7 @@ fn unmade(one: Option<u32>, ids: u32) -> Option<u32>
     Some(id)
 }
 
-// Pushes that no ant of this id was made.
+// Pushes that no ant ever had this id.
 fn push_unmade<K: Sink>(seed: u32, id: u32, sink: &mut K) -> Result<(), Failed>
     ensures { Pushed (K.state sink.old) (K.state sink.new) (seed_text seed +++ unmade_text id) result }
 {
@@ -129,7 +129,7 @@ struct ActWords {
 }
 
 impl ActWords {
-    // What this ant executes in its turn, which doesn't rest.
+    // What this ant, which doesn't rest, executes in its turn.
     #[inline(always)]
     fn of(
         world: &mut World,
@@ -157,7 +157,7 @@ impl ActWords {
     }
 }
 
-// Its line, behind an LF.
+// Its line, after an LF.
 impl Layout for ActWords {
     ghost text = { λ words. broken_act words.round words.standing words.instruction words.met };
 
@@ -176,7 +176,7 @@ impl Layout for ActWords {
     }
 }
 
-// An ant and where it stands.
+// An ant and its position.
 #[derive(Clone, Copy)]
 struct StandingWords(PlacedAnt);
 

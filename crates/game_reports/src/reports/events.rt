@@ -30,18 +30,18 @@ use hex_geometry::Pos;
 use match_run::ScoredWorld;
 
 /// Plays a game and pushes its events: the line of the seed, and then the lines of each turn. Each ant that is killed
-/// in the turn has a line, as `round 1, black ant 1: red ant 2 dies on (3, 3)`: the acting ant, the killed ant and the
-/// place of its death, which is the new cell of an ant that dies by its own Move. These lines are in the order of the
-/// checks. A turn that changes the score has a line with the new score after them, as `round 1, black ant 1: score:
-/// red 3 black 0`. With `food`, a turn in which the ant takes a particle, or drops the one that it carries, has a line
-/// before that of the score, as `round 7, red ant 3: state 4 drops food on (3, 3), red hill`: the state that the ant
-/// executes, its cell, and the hill to which the cell belongs, if it does (the task's martial arts and game play; the
-/// lines are this project's own). Turns before the plan's first round have no lines.
+/// in the turn has a line, such as `round 1, black ant 1: red ant 2 dies on (3, 3)`: the acting ant, the killed ant and
+/// the place of its death, which is the new cell of an ant that dies by its own Move. These lines are in the order of
+/// the checks. A turn that changes the score has a line with the new score after them, such as `round 1, black ant 1:
+/// score: red 3 black 0`. With `food`, a turn in which the ant takes a particle, or drops the one that it carries, has
+/// a line before that of the score, such as `round 7, red ant 3: state 4 drops food on (3, 3), red hill`: the state
+/// that the ant executes, its cell, and the hill to which the cell belongs, if any (the task's martial arts and game
+/// play; the lines are this project's own). Turns before the plan's first round have no lines.
 ///
 /// Each ant's state is below the length of its colour's brain, as in every opening world, and the plan has at most
-/// 1,000,000 rounds. The turns are those of a run. Each line is pushed after its turn and before the next
-/// one. It fails only if the sink failed, whose count of faults rose then: a prefix of the text was pushed. It makes
-/// no looks and takes no memory. The score is counted over the cells once, at the start.
+/// 1,000,000 rounds. The turns are those of a run. Each line is pushed after its turn and before the next one. It fails
+/// only if the sink failed and its count of faults rose; then a prefix of the text was pushed. It makes no looks and
+/// takes no memory. The score is counted over the cells once, at the start.
 pub fn events<K: Sink>(
     world: World,
     brains: Brains<'_>,
@@ -104,7 +104,7 @@ impl Report for EventReport {
     }
 }
 
-// Whether an instruction kills nobody and moves no food, whatever comes of it.
+// Whether an instruction never kills and never moves food.
 #[inline(always)]
 fn is_quiet(instruction: &Instr) -> bool
     ensures { result ≡ is_quiet instruction.now }
@@ -126,9 +126,9 @@ fn moves_food(instruction: &Instr) -> bool
     }
 }
 
-// Takes the turn of an ant that doesn't rest, if it is alive, and pushes its lines but those of food: one that may
-// kill or move food. It stands alone, so that what is noted costs no other turn, and takes the brains lent and the ant
-// by its id, since copies of them would be made in each.
+// Takes the turn of an ant that doesn't rest, if it is alive, and pushes its lines except those of food. Its
+// instruction may kill or move food. It is a function of its own, so that the notes cost other turns nothing. It takes
+// the brains borrowed and the ant by its id, since copies of them would be made in each turn.
 #[inline(never)]
 fn push_deed<K: Sink>(
     ground: &mut ScoredWorld,
@@ -165,7 +165,7 @@ fn push_deed<K: Sink>(
     push_score(turn, before, ground.score(), sink)
 }
 
-// The same with the line of food: of a turn that may move food, if it is asked for. So it costs no other turn.
+// The same with the line of food, for a turn that may move food, if it is requested. So it costs other turns nothing.
 #[inline(never)]
 fn push_carried<K: Sink>(
     ground: &mut ScoredWorld,
@@ -204,7 +204,7 @@ fn push_carried<K: Sink>(
     push_score(turn, before, ground.score(), sink)
 }
 
-// Which way a particle goes in a turn.
+// The direction in which a particle goes in a turn.
 #[derive(Clone, Copy)]
 enum Carry {
     Takes,
@@ -253,7 +253,7 @@ fn food_moved(
     })
 }
 
-// Which way a particle goes, by the ant's load and its cell's food.
+// The direction in which a particle goes, by the ant's load and its cell's food.
 #[inline]
 fn carry_of(laden: bool, food: u32, instruction: Instr) -> Option<Carry>
     ensures { result ≡ carry_of laden food instruction }
@@ -327,7 +327,7 @@ fn death(turn: TurnWords, killed: &Option<PlacedAnt>) -> Option<DeathWords>
     })
 }
 
-// Pushes the line of the score, where it is another than before.
+// Pushes the line of the score, if it has changed.
 #[inline]
 fn push_score<K: Sink>(
     turn: TurnWords,
@@ -351,7 +351,7 @@ fn push_new_score<K: Sink>(turn: TurnWords, score: Score, sink: &mut K) -> Resul
     layout!(turn, "score: red ", score.red, " black ", score.black).push_to(sink)
 }
 
-// The round and the ant whose turn it is, behind an LF.
+// The round and the ant whose turn it is, after an LF.
 #[derive(Clone, Copy)]
 struct TurnWords {
     round: u32,

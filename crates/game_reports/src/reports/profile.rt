@@ -25,7 +25,7 @@ use match_run::{Watch, watch_rounds};
 use std::alloc::Global;
 
 /// Plays a game and then pushes how often each state was executed: the line of the seed, a line for each state of the
-/// red brain, from 0, and then one for each state of the black brain, as `red 7: 120 times: Drop 0`, or `red 8: 91
+/// red brain, from 0, and then one for each state of the black brain, such as `red 7: 120 times: Drop 0`, or `red 8: 91
 /// times, 13 met: Move 9 3` if the instruction has two answers. The first number counts the turns in which an ant of
 /// that colour was alive, didn't rest and was in this state. The second one counts those in which the answer was the
 /// first: the condition held, a particle was taken, the ant moved, the number drawn was 0. The canonical text of the
@@ -33,9 +33,9 @@ use std::alloc::Global;
 /// plan's first round aren't counted.
 ///
 /// Each ant's state is below the length of its colour's brain, as in every opening world, and the plan has at most
-/// 1,000,000 rounds. The turns are those of a run. It makes no looks, and takes memory for two counts a state. If there
-/// is none, nothing was pushed and no turn was played. If the sink failed, its count of faults rose then, and a prefix
-/// of the text was pushed.
+/// 1,000,000 rounds. The turns are those of a run. It makes no looks, and takes memory for two counts for each state.
+/// If memory runs out, nothing was pushed and no turn was played. If the sink failed, its count of faults rose, and a
+/// prefix of the text was pushed.
 pub fn profile<K: Sink>(
     alloc: Global,
     world: World,
@@ -53,7 +53,7 @@ pub fn profile<K: Sink>(
     Ok(push_profile(brains, plan.seed, &tallies, sink)?)
 }
 
-// Plays the rounds of a plan, and counts what is executed from its first one on.
+// Plays the rounds of a plan, and counts what is executed from its first round on.
 fn count_rounds(world: World, brains: Brains<'_>, plan: ReportPlan, tallies: Tallies) -> Tallies
     requires fit { Fits (world_of world) (minds_of brains) }
     requires few_rounds { plan.rounds ≤ most_rounds }
@@ -83,7 +83,7 @@ fn count_rounds(world: World, brains: Brains<'_>, plan: ReportPlan, tallies: Tal
     tallies
 }
 
-// What was counted, and a stream that may be any: it only spares looking numbers up.
+// The counts, and any stream, which only saves looking numbers up.
 #[derive(Drop)]
 struct Counting {
     tallies: Tallies,
@@ -237,7 +237,7 @@ impl Layout for StateLine {
     }
 }
 
-// In how many turns the answer was the first, where the instruction has two.
+// In how many turns the answer was the first, if the instruction has two.
 #[derive(Clone, Copy)]
 struct MetWords {
     instruction: Instr,

@@ -15,27 +15,27 @@ use cell_world::World;
 use dump_print::{CellWords, SeedWords};
 use match_run::GameAlone;
 
-/// What a trace is asked to do: whose way is told, in which rounds of which game.
+/// What a trace has to do: which ant is reported, in which rounds of which game.
 #[derive(Clone, Copy, Debug, PartialEq, Eq)]
 pub struct TracePlan {
-    /// The id of the ant, from 0. It may be one that was never made.
+    /// The id of the ant, from 0. There may be no ant with this id.
     pub id: u32,
     /// The seed of the random numbers, from 0 to 4,294,967,295.
     pub seed: u32,
     /// How many rounds are played, from 0 to 1,000,000. Rounds are counted from 1; round 0 is the start.
     pub rounds: u32,
-    /// The first round that is told. Where it is above the last one, none is.
+    /// The first round that is reported. If it is above the last one, none is.
     pub from: u32,
 }
 
-/// Plays a game and pushes where one ant is: the line of the seed, and then a line for each round from the plan's
-/// first to its last, as `round 17: cell (3, 4): 1 food; red ant of id 2, dir 0, food 0, state 12, resting 0`. After
-/// `round R: ` it is the line that a dump of that round has of the ant's cell. If the ant is dead by then, the line is
-/// `round R: dead`, and it is the last one. If no ant of this id was ever made, there is one line after that of the
-/// seed, as `no ant of id 99`, whatever the first round is.
+/// Plays a game and pushes where one ant is: the line of the seed, and then a line for each round from the plan's first
+/// to its last, such as `round 17: cell (3, 4): 1 food; red ant of id 2, dir 0, food 0, state 12, resting 0`. After
+/// `round R: ` it is the line of the ant's cell in a dump of that round. If the ant is dead by then, the line is `round
+/// R: dead`, and it is the last one. If no ant ever had this id, there is one line after that of the seed, such as `no
+/// ant of id 99`, whatever the first round is.
 ///
 /// Each ant's state is below the length of its colour's brain, as in every opening world, and the plan has at most
-/// 1,000,000 rounds. The turns are those of a run. It fails only if the sink failed, whose count of faults rose then:
+/// 1,000,000 rounds. The turns are those of a run. It fails only if the sink failed and its count of faults rose; then
 /// a prefix of the text was pushed. No round is played after the last one that has a line, and none if none has. It
 /// makes no looks and takes no memory.
 pub fn trace<K: Sink>(
@@ -54,8 +54,8 @@ pub fn trace<K: Sink>(
     "\n".push_to(sink)
 }
 
-// Pushes what stands behind the words of the seed, but for the last LF: each line behind an LF in place of before one,
-// since the sinks of streams are flushed at each piece that ends in LF.
+// Pushes what follows the words of the seed, without the last LF. Each line has its LF before it instead of after it,
+// since the sinks of streams are flushed after each piece that ends in LF.
 fn push_end<K: Sink>(
     world: World,
     brains: Brains<'_>,
@@ -78,14 +78,14 @@ fn push_end<K: Sink>(
     push_lines(&mut game, plan.id, plan.rounds, sink)
 }
 
-// Pushes that no ant of this id was made.
+// Pushes that no ant ever had this id.
 fn push_unmade<K: Sink>(id: u32, sink: &mut K) -> Result<(), Failed>
     ensures { Pushed (K.state sink.old) (K.state sink.new) (codes "\nno ant of id " +++ decimal id) result }
 {
     layout!("\nno ant of id ", id).push_to(sink)
 }
 
-// Pushes the lines of an ant from the round that is done on, each behind an LF, and plays the rounds between them.
+// Pushes the lines of an ant from the current round on, each after an LF, and plays the rounds between them.
 fn push_lines<K: Sink>(
     game: &mut GameAlone<'_>,
     id: u32,
@@ -109,7 +109,7 @@ fn push_lines<K: Sink>(
     ToldRound::of(game.world(), game.done(), id).push_to(sink)
 }
 
-// A round, and the cell on which the ant stands then, while it lives.
+// A round, and the cell of the ant after it, if it is alive.
 #[derive(Clone, Copy)]
 struct ToldRound {
     round: u32,
@@ -117,7 +117,7 @@ struct ToldRound {
 }
 
 impl ToldRound {
-    // What is told of an ant after a round, which led to this world.
+    // The report of an ant after a round, which led to this world.
     fn of(world: &World, round: u32, id: u32) -> ToldRound
         ensures { result ≡ told_of (world_of world.now) round (place_in (world_of world.now) id) }
     {
@@ -131,7 +131,7 @@ impl ToldRound {
         ToldRound { round, cell }
     }
 
-    // Whether no later round is told.
+    // Whether no later round is reported.
     fn is_last(self) -> bool
         ensures { result ≡ is_none self.cell }
     {
@@ -139,7 +139,7 @@ impl ToldRound {
     }
 }
 
-// Its line without the LF, and the LF of the line before in front of it.
+// Its line without the LF, after the LF of the previous line.
 impl Layout for ToldRound {
     ghost text = { words_of };
 

@@ -1,4 +1,4 @@
--- A line of no player, for places past the end.
+-- A line of no player, for places after the end.
 use Rattle.tournament.specs.declared.standing.Line.{Line}
 
 abbrev pub blank : Line

@@ -1,4 +1,4 @@
--- The games of a cup cut into pieces, and what a piece is after a worker has played it.
+-- The games of a cup cut into pieces, and a piece after a worker has played it.
 use Rattle.std.specs.Prelude.{◌≡◌, ℕ, List, [], map}
 use Rattle.std.specs.Bool.{OnFalse}
 use Rattle.std.specs.List.{flat_map}
@@ -22,6 +22,6 @@ pub record IsPieceReady (knows : ℕ → ℕ → ℕ → Type 0) (piece : Piece)
   pub fresh : piece.played.items ≡ []
   pub known : AreKnown knows piece.games.items
 
--- all games of the old piece were played, unless one was refused
+-- all games of the old piece were played, unless one failed
 abbrev pub IsPieceDone : (ℕ → ℕ → ℕ → Score) → Piece → Piece → Type 0
 IsPieceDone score old new = OnFalse new.refused (new.played.items ≡ map (played_by score) old.games.items)

@@ -4,7 +4,7 @@ use Rattle.ant_base.specs.Sink.{SinkState, PushedAll, PushedFront}
 use Rattle.ant_base.specs.declared.push_fault.PushFault.{PushFault}
 use Rattle.ant_base.specs.declared.push_fault.PushFault.TheVariants.{WriteFault, OutOfMemory}
 
--- so many players, worlds, seeds and workers make a cup, and the referee knows each game on this world with each seed
+-- this many players, worlds, seeds and workers make a cup, and the referee knows each game on this world with each seed
 pub record CanBePrinted (knows : ℕ → ℕ → ℕ → Type 0) (players worlds seeds workers world : ℕ) : Type 0 where
   pub pair : 2 ≤ players
   pub few_players : players ≤ 16
@@ -16,8 +16,8 @@ pub record CanBePrinted (knows : ℕ → ℕ → ℕ → Type 0) (players worlds
   pub early : world < worlds
   pub known : (n red black : ℕ) → n / seeds ≡ world → red < players → black < players → red ≢ black → knows n red black
 
--- why the lines of a world weren't pushed: the sink failed, after a prefix of them; or memory was wanting, and the sink
--- is as it was
+-- why the lines of a world weren't pushed: the sink failed, after a prefix of them; or memory ran out, and the sink is
+-- unchanged
 abbrev pub WorldStops : SinkState → SinkState → List ℕ → PushFault → Type 0
 WorldStops old new text WriteFault = PushedFront old new text
 WorldStops old new text OutOfMemory = new ≡ old

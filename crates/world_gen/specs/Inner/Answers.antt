@@ -1,4 +1,4 @@
--- What the steps of placing an element answer.
+-- The results of the steps of placing an element.
 use Rattle.std.specs.Prelude.{◌≡◌, ℕ, ◌+◌, ◌*◌, ◌<◌, ◌≤◌, Option, Some, None, Bool, List, length, Result, Ok, Err}
 use Rattle.hex_geometry.specs.RowOrder.{IsBefore}
 use Rattle.hex_geometry.specs.declared.position.Pos.{Pos}
@@ -17,13 +17,13 @@ use Rattle.world_gen.specs.declared.shape.Shape.{Shape}
 use Rattle.world_gen.specs.declared.spot.Figure.{Figure}
 use Rattle.world_gen.specs.declared.spot.Spot.{Spot}
 
--- of 50 tries: the first that fits, or none
+-- the first of 50 tries that fits, or none
 abbrev pub IsTried : (Spot → Type 0) → ℕ → ℕ → ℕ → Figure → ℕ → Option Spot → ℕ → Type 0
 IsTried fits seed width height figure g (Some spot) after = IsChosenSpot fits seed width height figure g spot after
 IsTried fits seed width height figure g None after =
     NoTryFits fits seed width height figure g 50 × (after ≡ g + 50 * draws_of figure)
 
--- the first of the places at which it fits, among those before which and from which on tell
+-- the first place at which it fits, among the given ones
 pub record IsFirstSpot (fits : Spot → Type 0) (figure : Figure) (IsAmong : Pos → Type 0) (spot : Spot) : Type 0 where
   pub place : Pos
   pub among : IsAmong place
@@ -41,12 +41,12 @@ pub record IsInRow (width y : ℕ) (p : Pos) : Type 0 where
   pub row : p.y ≡ y
   pub column : p.x < width
 
--- where an element goes, or that it has no room
+-- the place of an element, or that it has no room
 abbrev pub IsChosen : (Spot → Type 0) → ℕ → ℕ → ℕ → Element → ℕ → Option Spot → ℕ → Type 0
 IsChosen fits seed width height element g (Some spot) after = Goes fits seed width height element g spot after
 IsChosen fits seed width height element g None after = HasNone fits seed width height element g
 
--- what the cells of a spot are set to
+-- the new values of a spot's cells
 pub record IsElementPut (spot : Spot) (width height : ℕ) (blocked blocked_now : List Bool)
     (kinds kinds_now : List Kind) : Type 0 where
   pub cells : List Pos
@@ -54,7 +54,7 @@ pub record IsElementPut (spot : Spot) (width height : ℕ) (blocked blocked_now 
   pub stamped : IsStamped width height cells (paint_of spot.figure) blocked blocked_now kinds kinds_now
   pub few : one_if (is_hill (paint_of spot.figure)) * length cells ≤ 127
 
--- what comes of an element: it goes to its spot, or has no room
+-- the result for an element: it is put at its spot, or has no room
 abbrev pub IsStep : ℕ → ℕ → ℕ → Element → ℕ → ℕ → ℕ → List Bool → List Bool → List Kind → List Kind
     → Result Unit GenFault → Type 0
 IsStep seed width height element number g after blocked blocked_now kinds kinds_now (Ok _) =

@@ -27,7 +27,7 @@ unfoldable pub bare_blocked : ℕ → ℕ → ℕ → List Bool
 bare_blocked width height zero = []
 bare_blocked width height (suc n) = bare_blocked width height n ++ is_on_rim width height (pos_at width n) ∷ []
 
--- and what each is without elements
+-- the kind of each without elements
 unfoldable pub bare_kinds : ℕ → ℕ → ℕ → List Kind
 bare_kinds width height zero = []
 bare_kinds width height (suc n) = bare_kinds width height n ++ bare_kind (is_on_rim width height (pos_at width n)) ∷ []
@@ -46,8 +46,8 @@ pub record IsTouched (spot : Spot) (p : Pos) : Type 0 where
   pub of : IsCell spot cell
   pub touching : IsTouching cell (point_of p)
 
--- what a world in the making keeps: where something stands or touches it is blocked, and nowhere else inside; each cell
--- is painted
+-- what holds of a world in the making: inside, exactly those cells are blocked that belong to an element or touch one;
+-- each cell is painted
 pub record IsDraft (width height : ℕ) (placed : List Spot) (blocked : List Bool) (kinds : List Kind) : Type 0 where
   pub fenced : IsFenced width height blocked
   pub shut : (p : Pos) (other : Spot) → IsInside width height p → Contains placed other → IsTouched other p

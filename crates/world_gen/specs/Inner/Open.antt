@@ -1,4 +1,4 @@
--- Which cells are open: not on the rim, and touched by no element so far.
+-- Open cells: those not on the rim, and not touched by an element so far.
 use Rattle.std.specs.Prelude.{◌≡◌, ℕ, zero, suc, ◌+◌, ◌-◌, ◌*◌, ◌<◌, ◌≤◌, [], ◌∷◌, ◌++◌, Bool, true, false, not, ◌&&◌, nat_lt, List, length, slice_index_or, Contains}
 use Rattle.hex_geometry.specs.RowOrder.{index_of}
 use Rattle.cell_world.specs.Limits.{most_size}
@@ -17,7 +17,7 @@ abbrev pub is_unblocked : ℕ → ℕ → List Bool → Pos → Bool
 is_unblocked width height blocked p =
     nat_lt p.x width && (nat_lt p.y height && not (slice_index_or blocked (index_of width p) true))
 
--- one entry a cell, and the rim is blocked
+-- there is one entry for each cell, and the rim is blocked
 pub record IsFenced (width height : ℕ) (blocked : List Bool) : Type 0 where
   pub full : length blocked ≡ width * height
   pub narrow : width ≤ most_size
@@ -52,7 +52,7 @@ IsShut width height blocked centre radius p =
 abbrev pub in_row : Pos → ℕ → ℕ → ℕ → Pos
 in_row centre radius y j = record { x = centre.x - radius + j; y = y }
 
--- of the first n positions of a row, those in the ball are open
+-- those of the first n positions of a row that are in the ball are open
 abbrev pub RowIsOpen : ℕ → ℕ → List Bool → Pos → ℕ → ℕ → ℕ → Type 0
 RowIsOpen width height blocked centre radius y n =
     (j : ℕ) → j < n → IsShut width height blocked centre radius (in_row centre radius y j) → ⊥
@@ -70,7 +70,7 @@ LinesAreOpen width height blocked corner first n =
 abbrev pub BlobIsOpen : ℕ → ℕ → List Bool → Point → Dir → Type 0
 BlobIsOpen width height blocked corner first = (q : Point) → IsInBlob corner first q → IsOpen width height blocked q
 
--- the positions of a spot's cells, and no others
+-- exactly the positions of a spot's cells
 pub record ListsCells (spot : Spot) (cells : List Pos) : Type 0 where
   pub each : (p : Pos) → Contains cells p → IsCell spot (point_of p)
   pub every : (q : Point) → IsCell spot q → (p : Pos) × (point_of p ≡ q) × Contains cells p
@@ -79,7 +79,7 @@ pub record ListsCells (spot : Spot) (cells : List Pos) : Type 0 where
 abbrev pub AllHaveNeighbours : Spot → Type 0
 AllHaveNeighbours spot = (q : Point) → IsCell spot q → (p : Pos) × (point_of p ≡ q) × HasNeighbours p
 
--- so many steps in one direction, over positions
+-- this many steps in one direction, over positions
 unfoldable pub walked : ℕ → Dir → Pos → Pos
 walked zero d p = p
 walked (suc n) d p = adjacent_pos (walked n d p) d

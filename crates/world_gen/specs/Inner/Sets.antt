@@ -1,4 +1,4 @@
--- Lists with an entry for each cell, in which those of some cells are set to one value.
+-- Lists with an entry for each cell, in which the entries of some cells are set to one value.
 use Rattle.std.specs.Prelude.{◌≡◌, ℕ, ◌<◌, List, length, slice_index_or, ◌⊎◌, Contains}
 use Rattle.hex_geometry.specs.RowOrder.{index_of}
 use Rattle.hex_geometry.specs.Direction.{dir_of}
@@ -6,7 +6,7 @@ use Rattle.hex_geometry.specs.Neighbourhood.{adjacent_pos, neighbours_of}
 use Rattle.hex_geometry.specs.Position.{IsInside}
 use Rattle.hex_geometry.specs.declared.position.Pos.{Pos}
 
--- the entries of the cells at which S holds are v now, and the others are as before
+-- the entries of the cells for which S holds are v now, and the others are unchanged
 pub record SetsWhere {X : Type 0} (width height : ℕ) (v : X) (S : Pos → Type 0) (old new : List X) : Type 0 where
   pub same_length : length new ≡ length old
   pub on : (p : Pos) (d : X) → IsInside width height p → S p → slice_index_or new (index_of width p) d ≡ v
