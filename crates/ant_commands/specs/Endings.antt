@@ -56,14 +56,14 @@ pub record IsCrowded (command : Job) (before after : Outside) (fetches : List Fe
   pub lacks : LacksRoom command element
   pub unwritten : after.out ≡ before.out
 
--- memory could not be had before the text was begun; no fetch failed or was too long, each file that was fetched, but
--- perhaps the last, was accepted, and nothing was written
+-- memory ran out before the text was begun; no fetch failed or was too long, each fetched file, except perhaps the
+-- last, was accepted, and nothing was written
 pub record IsUnbegun (command : Job) (before after : Outside) (fetches : List Fetched) : Type 0 where
   pub begun : AreBegun (files_of command) fetches
   pub unwritten : after.out ≡ before.out
 
--- all files were accepted, and a proper prefix of the text was written before memory could not be had; only a command
--- that writes while it plays ends so
+-- all files were accepted, and a proper prefix of the text was written before memory ran out; only a command that
+-- writes while it plays can end in this way
 pub record IsBrokenOff (command : Job) (before after : Outside) (fetches : List Fetched) : Type 0 where
   pub contents : List FileContent
   pub accepted : AreAccepted (files_of command) fetches contents
@@ -72,7 +72,7 @@ pub record IsBrokenOff (command : Job) (before after : Outside) (fetches : List 
   pub broken : PushedProperPrefix before.out after.out text
   pub in_play : WritesInPlay command contents broken.front
 
--- memory could not be had
+-- memory ran out
 abbrev pub WantsMemory : Job → Outside → Outside → List Fetched → Type 0
 WantsMemory command before after fetches =
     IsUnbegun command before after fetches ⊎ IsBrokenOff command before after fetches

@@ -17,8 +17,8 @@ use Rattle.ant_commands.specs.declared.stop.CommandStop.TheVariants as stop
 use Rattle.ant_commands.specs.declared.stop.Ended.{Ended}
 use Rattle.ant_commands.specs.declared.stop.Ended.TheVariants as ended
 
--- why a command stopped: at a file that was not read, at the output, at a file that was refused, at an element of a
--- generated world that has no room, or out of memory
+-- why a command stopped: a file was not read, the output failed, a file was refused, an element of a generated world
+-- has no room, or memory ran out
 pub data Reason : Type 0 where
   AtFile : List ℕ → Reason
   AtOutput : Reason
@@ -26,7 +26,7 @@ pub data Reason : Type 0 where
   AtRoom : ℕ → Reason
   AtMemory : Reason
 
--- how a run ended: with its whole text, at a word that is refused, or as its command stopped
+-- how a run ended: with its whole text, at a word that is refused, or because its command stopped
 pub data Ending : Type 0 where
   Done : Ending
   RefusedWord : ℕ → Ending
@@ -51,7 +51,7 @@ plain_ending ended.Done = Done
 plain_ending (ended.RefusedWord word) = RefusedWord word
 plain_ending (ended.Stopped why) = Stopped (reason_of why)
 
--- the status of a command that stopped so
+-- the status of a command that stopped for a reason
 abbrev pub status_of : Reason → Status
 status_of (AtFile name) = status.Read
 status_of AtOutput = status.Write
@@ -65,12 +65,12 @@ ending_status Done = status.Done
 ending_status (RefusedWord word) = status.Words
 ending_status (Stopped reason) = status_of reason
 
--- what a file's fault says
+-- the text of a file's fault
 abbrev pub file_fault_text : FileFault → List ℕ
 file_fault_text (Text fault) = text_fault_text fault
 file_fault_text (Breaks fault) = break_fault_text fault
 
--- what a reason says
+-- the text of a reason
 abbrev pub reason_text : Reason → List ℕ
 reason_text (AtFile name) = name +++ codes ": " +++ fetch_fault_text fetch.Failed
 reason_text AtOutput = failed_text

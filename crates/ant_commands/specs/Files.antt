@@ -1,4 +1,4 @@
--- The files of a command, and what is accepted of them.
+-- The files of a command, and how they are accepted.
 use Rattle.std.specs.Prelude.{◌≡◌, ℕ, Bool, true, false, List, [], ◌∷◌, ◌++◌, map, Ok, Err, ◌⊎◌}
 use Rattle.ant_asm.specs.Answers.{IsAssembledText}
 use Rattle.ant_asm.specs.Places.{Address}
@@ -19,8 +19,8 @@ use Rattle.world_read.specs.Opened.{OpensAs}
 use Rattle.ant_commands.specs.declared.stop.FileFault.{FileFault}
 use Rattle.ant_commands.specs.declared.stop.FileFault.TheVariants.{Breaks, Text}
 
--- what a file is read as; of a labelled program the brain is wanted, or else where its labels and states stand; a save
--- is one of which at most so many rounds are done
+-- what a file is read as. A labelled program is read for its brain, or for its labels and states. A save must have at
+-- most this many rounds done
 pub data FileKind : Type 0 where
   WorldFile : FileKind
   BrainFile : FileKind
@@ -33,14 +33,14 @@ pub record File : Type 0 where
   pub name : List ℕ
   pub kind : FileKind
 
--- what was read of a file
+-- what was read from a file
 pub data FileContent : Type 0 where
   WorldContent : Grid → FileContent
   BrainContent : List Instr → FileContent
   BreakContent : List Break → FileContent
-  -- of a labelled program: its brain, and the address of each of the brain's instructions
+  -- a labelled program: its brain, and the address of each of the brain's instructions
   LabelledContent : (brain : List Instr) → (places : List Address) → FileContent
-  -- or its labels, each with the state to which it leads, and the line of each state
+  -- a labelled program: its labels, each with the state to which it leads, and the line of each state
   SourceContent : ReadSource → FileContent
   SaveContent : SavedValue → FileContent
 
@@ -75,7 +75,7 @@ pub record IsNoText (file : File) (fetch : Fetched) (fault : FileFault) : Type 0
   pub got : fetch ≡ record { name = file.name; answer = Ok bytes }
   pub refuses : Refuses file.kind bytes fault
 
--- the file was fetched, and is refused with this fault: it is too long, or no such text
+-- the file was fetched, and is refused with this fault: it is too long, or isn't such a text
 abbrev pub IsRefused : File → Fetched → FileFault → Type 0
 IsRefused file fetch fault =
     ((fault ≡ Text TooLong) × (fetch ≡ record { name = file.name; answer = Err answer.TooLong }))
@@ -89,8 +89,8 @@ AreAccepted (file ∷ files) (fetch ∷ fetches) [] = ⊥
 AreAccepted (file ∷ files) (fetch ∷ fetches) (content ∷ contents) =
     IsAccepted file fetch content × AreAccepted files fetches contents
 
--- the files were fetched, each once and in order, up to one at which this came about; each before it was accepted, and
--- none after it was fetched
+-- the files were fetched, each once and in order, up to one for which this holds; each before it was accepted, and none
+-- after it was fetched
 abbrev pub StopsAt : (File → Fetched → Type 0) → List File → List Fetched → Type 0
 StopsAt IsSuch [] fetches = ⊥
 StopsAt IsSuch (file ∷ files) [] = ⊥
@@ -98,14 +98,14 @@ StopsAt IsSuch (file ∷ files) (fetch ∷ fetches) =
     (IsSuch file fetch × (fetches ≡ []))
     ⊎ ((content : FileContent) × IsAccepted file fetch content × StopsAt IsSuch files fetches)
 
--- the file was fetched: its bytes came, or memory could not be had for them
+-- the file was fetched: its bytes were returned, or memory ran out
 abbrev pub IsFetched : File → Fetched → Type 0
 IsFetched file fetch =
     ((bytes : List ℕ) × (fetch ≡ record { name = file.name; answer = Ok bytes }))
     ⊎ (fetch ≡ record { name = file.name; answer = Err answer.OutOfMemory })
 
--- the first of the files were fetched, each once and in order: each but perhaps the last was accepted, and none failed
--- or was too long
+-- the first of the files were fetched, each once and in order: each, except perhaps the last, was accepted, and none
+-- failed or was too long
 abbrev pub AreBegun : List File → List Fetched → Type 0
 AreBegun [] fetches = fetches ≡ []
 AreBegun (file ∷ files) [] = Unit {0}
@@ -113,7 +113,7 @@ AreBegun (file ∷ files) (fetch ∷ fetches) =
     (IsFetched file fetch × (fetches ≡ []))
     ⊎ ((content : FileContent) × IsAccepted file fetch content × AreBegun files fetches)
 
--- the names that were fetched are those of the first of these files, in order and each once
+-- the fetched names are those of the first of these files, in order and each once
 pub record AreInOrder (files : List File) (fetches : List Fetched) : Type 0 where
   pub left : List (List ℕ)
   pub in_order : map (λ (file : File). file.name) files ≡ map (λ (fetch : Fetched). fetch.name) fetches ++ left

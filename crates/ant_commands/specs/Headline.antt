@@ -1,6 +1,6 @@
 -- The promise on one page, to be read from the top down. Each run of `run_to_exit` ends with one of six statuses, and
 -- each status says what was fetched, accepted and written (this project's own). `IsRunTo` is what the call that `main`
--- makes ensures; the law `headline` says that all below follows from it.
+-- makes ensures; the law `headline` says that everything below follows from it.
 use Rattle.std.specs.Prelude.{◌≡◌, ◌≢◌, ◌⊎◌, ℕ, ◌+◌, false, List, [], ◌∷◌, Ok}
 use Rattle.ant_base.specs.Fetched.{Fetched}
 use Rattle.ant_base.specs.Layout.{◌+++◌}
@@ -44,7 +44,8 @@ pub record PrintsItsOutput (words : List (List ℕ)) (before after : Outside) : 
   pub text : List ℕ
   pub is_text : IsJobText (job_of command) contents text
   pub written : PushedAll before.out after.out text
-  -- where the output can tell, all of it was flushed; and where the text has no bytes, nothing waits that didn't before
+  -- if the output reports what waits, all of it was flushed; and if the text has no bytes, nothing waits that didn't
+  -- before
   pub flushed : text ≢ [] → NothingWaits after.out.waiting
   pub kept : NothingWaits before.out.waiting → NothingWaits after.out.waiting
   -- the errors got nothing
@@ -67,7 +68,7 @@ pub record PrintsTheGame (world red black : List ℕ) (setup : RunSetup) (before
   pub black_brain : List Instr
   pub is_black : IsBrainText black_bytes black_brain
   -- the output got the line of the seed, the dump of the world after each chosen round from 0 to the last, the score of
-  -- the world after the last, and nothing else but the counts, of which there are none where they aren't asked for
+  -- the world after the last, and nothing else except the counts, if they are requested
   pub counts : List ℕ
   pub uncounted : setup.stats ≡ false → counts ≡ []
   pub written : PushedAll before.out after.out (
@@ -86,7 +87,7 @@ pub record TellsItsCounts (world red black : List ℕ) (setup : RunSetup) (befor
   pub told : game.counts ≡ counts_text setup.stats
       (totals_of (minds_named setup game.red_brain game.black_brain) setup.seed setup.window (start_of (world_of game.start)) setup.rounds)
 
--- status 2: the words are no command, and the errors got the line of the first word that is refused; nothing was
+-- status 2: the words are not a command, and the errors got the line of the first word that is refused; nothing was
 -- fetched or written
 pub record NamesTheWord (words : List (List ℕ)) (before after : Outside) : Type 0 where
   pub none : IsNoCommand words
@@ -105,7 +106,7 @@ pub record NamesTheReason (words : List (List ℕ)) (before after : Outside) (re
   pub stopped : StopsFor (job_of command) before after fetches reason
   pub line : GotLine before.err after.err (fault_line reason)
 
--- what a status says, and that there is no other
+-- what a status means, and that there is no other
 pub record KeepsPromise (words : List (List ℕ)) (before after : Outside) (number : ℕ) : Type 0 where
   pub printed : number ≡ 0 → PrintsItsOutput words before after
   pub game : number ≡ 0 → (asked : PlainAsked) → IsCommand words asked → asked.kind ≡ Run

@@ -1,5 +1,5 @@
--- The pages of `--help` and `--version` (this project's own). What a page says of commands and options is made of the
--- table of words, with their limits; each line has at most 80 columns (proofs/HelpWorked.antt).
+-- The pages of `--help` and `--version` (this project's own). What a page says about commands and options is built from
+-- the table of words, with their limits; each line has at most 80 columns (proofs/HelpWorked.antt).
 use Rattle.std.specs.Prelude.{ℕ, List, codes}
 use Rattle.ant_base.specs.Layout.{◌+++◌}
 use Rattle.command_words.specs.Help.{table_text}
@@ -33,7 +33,7 @@ tail_lines =
     +++ codes "\n"
     +++ codes "docs/RULES.md has the rules and the files, docs/COMMANDS.md the commands.\n"
 
--- the output of `--help`: a page that is made from the table of words
+-- the output of `--help`: a page that is built from the table of words
 unfoldable pub help_text : List ℕ
 help_text = head_lines +++ table_text +++ tail_lines
 

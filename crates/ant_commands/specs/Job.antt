@@ -6,13 +6,13 @@ use Rattle.ant_commands.specs.Files.{File, FileContent}
 pub record Job : Type 1 where
   -- its files, in the order in which they are fetched
   pub files : List File
-  -- a text is its output where its files were accepted as these contents
+  -- a text is its output if its files were accepted as these contents
   pub IsText : List FileContent → List ℕ → Type 0
   -- this element of the world that it generates has no room
   pub Lacks : ℕ → Type 0
-  -- it writes while it plays, and this may be what it has written by then
+  -- it writes while it plays, and this may be what it has written so far
   pub InPlay : List FileContent → List ℕ → Type 0
-  -- how many workers it names for its windows; one where it plays none
+  -- how many workers it names for its windows; one if it plays none
   pub workers : ℕ
 
 -- a job that generates no world, has all memory that it needs before it writes, and plays no windows

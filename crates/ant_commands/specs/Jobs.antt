@@ -99,7 +99,7 @@ abbrev pub profile_job : List ℕ → List ℕ → List ℕ → ReportSetup → 
 profile_job world red black setup =
     plain_job (game_files world red black) (Tells game_contents (is_text_of (profile_output setup)))
 
--- the job of a command line, a row a command
+-- the job of a command line, one row for each command
 abbrev pub job_by : CommandKind → PlainAsked → Job
 job_by Show a = show_job (a.file 0) (a.number 1)
 job_by Brain a = brain_job (a.file 0)

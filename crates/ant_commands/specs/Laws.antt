@@ -1,4 +1,4 @@
--- Laws on the texts of the commands.
+-- Laws of the texts of the commands.
 use Rattle.std.specs.Prelude.{◌≡◌, ◌≢◌, ◌⊎◌, ℕ, ◌+◌, ◌≤◌, true, false, List, [], ◌∷◌, ◌++◌, Option, Some, slice_get, slice_index_or}
 use Rattle.ant_asm.specs.Assembled.{IsAssembled}
 use Rattle.ant_asm.specs.Match.{label_game, numbered_moment}
@@ -50,7 +50,7 @@ pub record TellsNoLabel (command : PlainAsked) (text : List ℕ) : Type 0 where
   pub empty : text ≡ []
 
 -- each output of a command whose numbers and names are within the limits, and whose files were accepted, ends in LF, or
--- tells no label
+-- reports no label
 abbrev pub TextsEndInLf : Type 0
 TextsEndInLf =
     (command : PlainAsked) (fetches : List Fetched) (contents : List FileContent) (text : List ℕ) → AskedWithin command
@@ -63,7 +63,7 @@ OneText =
     (command : PlainAsked) (contents : List FileContent) (text other : List ℕ)
     → IsJobText (job_of command) contents text → IsJobText (job_of command) contents other → text ≡ other
 
--- two command lines ask for the same, but for how many workers play, and for whether they stand by
+-- two command lines request the same, except for how many workers play and whether they stay ready
 pub record AreAlikeButForWorkers (a b : PlainAsked) : Type 0 where
   pub kind : a.kind ≡ b.kind
   pub file : (place : ℕ) → a.file place ≡ b.file place
@@ -80,7 +80,7 @@ pub record WorkersChangeNothing : Type 0 where
   pub text : (a b : PlainAsked) → AreAlikeButForWorkers a b → (contents : List FileContent) (text : List ℕ)
       → IsJobText (job_of a) contents text → IsJobText (job_of b) contents text
 
--- without its counts the output of `run` is the same for every number of turns that a window has
+-- without its counts the output of `run` is the same for every number of turns in a window
 abbrev pub WindowsChangeCountsAlone : Type 0
 WindowsChangeCountsAlone =
     (world red black : List ℕ) (setup : RunSetup) (window : ℕ) (contents : List FileContent) (text : List ℕ)
@@ -89,7 +89,7 @@ WindowsChangeCountsAlone =
     → IsJobText (run_job world red black (record setup { window = window })) contents text
 
 -- the score of a game of a cup, between two players of a list on a world of a list with one of the cup's seeds, is the
--- one that `run` prints of the same world, brains, seed and rounds by the contest's rules
+-- one that `run` prints for the same world, brains, seed and rounds by the contest's rules
 abbrev pub CupGamesAreRuns : Type 0
 CupGamesAreRuns =
     (worlds : List Grid) (players : List (List Instr)) (seeds : Seeds) (setup : RunSetup) (n red black : ℕ)
@@ -108,18 +108,18 @@ HasOutput =
     → AreAccepted (files_of (job_of command)) fetches contents → HasRoom (job_of command)
     → (text : List ℕ) × IsJobText (job_of command) contents text
 
--- the brain of a labelled program, minimised, plays the labelled game, whatever the opening world, the other brain, the
--- numbers of the rules, the seed, the side and the number of rounds
+-- the brain of a labelled program, minimised, plays the labelled game, for any opening world, other brain, numbers of
+-- the rules, seed, side and number of rounds
 pub record MinimisedPlaysLabelled (main : Items) (brain new : List Instr) (list : List Address)
     (numbers : List (Option ℕ)) : Type 0 where
-  -- with the number of its place for each address, and then that of the minimised brain's state, at an equal place of
-  -- the stream
+  -- with each address replaced by the number of its place, and then by the minimised brain's state, at the same place
+  -- of the stream
   pub plays : (side : Colour) (minds : Minds) (seed width height : ℕ) (kinds : List Kind) (r : ℕ)
       → AreSound (with_mind minds side brain) → Valid (world_of (opening width height kinds)) →
       game (with_mind minds side new) seed width height kinds r
       ≡ renumbered_moment (new_number numbers) side
       (numbered_moment list side (label_game main side minds seed width height kinds r))
-  -- so with the same score
+  -- with the same score
   pub scores : (side : Colour) (minds : Minds) (seed width height : ℕ) (kinds : List Kind) (r : ℕ)
       → AreSound (with_mind minds side brain) → Valid (world_of (opening width height kinds)) →
       score_of (game (with_mind minds side new) seed width height kinds r).world
@@ -131,11 +131,11 @@ AssembledAndMinimised =
     → IsAssembled main brain list → IsMinimised brain new numbers
     → MinimisedPlaysLabelled main brain new list numbers
 
--- what `save` says of a game of `run`: its numbers, but this round and these workers, and no dumps and counts
+-- the settings of `save` for a game of `run`: its numbers, but this round and these workers, and no dumps and counts
 abbrev pub saved_setup : RunSetup → ℕ → ℕ → RunSetup
 saved_setup setup round workers = record setup { rounds = round; dumps = NoDump; workers = workers; stats = false }
 
--- what `resume` says of it: its rounds, its dumps and its counts, and these workers
+-- the settings of `resume` for it: its rounds, its dumps and its counts, and these workers
 abbrev pub resumed_setup : RunSetup → ℕ → ResumeSetup
 resumed_setup setup workers = record {
   rounds = setup.rounds;
@@ -156,8 +156,8 @@ pub record IsGameOf (world red black : List ℕ) (setup : RunSetup) (game : Read
   pub fetches : List Fetched
   pub accepted : AreAccepted (game_files world red black) fetches (game_contents game)
 
--- such a game was saved after a round by so many workers, and what was printed is accepted where at most so many rounds
--- are to be played in all
+-- such a game was saved after a round by this many workers, and what was printed is accepted if at most this many
+-- rounds are to be played in total
 pub record IsSavedAs (world red black : List ℕ) (setup : RunSetup) (game : ReadGame) (round : ℕ)
     (saved : SavedValue) : Type 0 where
   pub early : round ≤ setup.rounds
@@ -166,15 +166,15 @@ pub record IsSavedAs (world red black : List ℕ) (setup : RunSetup) (game : Rea
   pub is_text : IsJobText (save_job world red black (saved_setup setup round workers)) (game_contents game) text
   pub reads : Reads (SaveFile setup.rounds) text (SaveContent saved)
 
--- games are saved and gone on with, whoever plays before the save and after it
+-- games are saved and continued, with any workers before the save and after it
 pub record SavesAreResumed : Type 0 where
   -- what `save` prints up to the last round is accepted
   pub accepted : (world red black : List ℕ) (setup : RunSetup) (game : ReadGame) (round workers : ℕ) (text : List ℕ)
       → IsGameOf world red black setup game → round ≤ setup.rounds
       → IsJobText (save_job world red black (saved_setup setup round workers)) (game_contents game) text
       → (saved : SavedValue) × Reads (SaveFile setup.rounds) text (SaveContent saved)
-  -- and it is no longer than a file may be: where it lies under the name of the save, `resume` accepts that file,
-  -- whoever plays on
+  -- it is no longer than a file may be: if it is the file under the name of the save, `resume` accepts that file, with
+  -- any workers
   pub fetched : (world red black save : List ℕ) (setup : RunSetup) (game : ReadGame) (round workers others : ℕ)
       (text : List ℕ) (at : List ℕ → Option (List ℕ))
       → IsGameOf world red black setup game → round ≤ setup.rounds
@@ -189,8 +189,8 @@ pub record SavesAreResumed : Type 0 where
       → IsJobText (run_job world red black setup) (game_contents game) text
       → IsJobText (resume_job save (resumed_setup setup workers)) (save_contents saved) rest
       → text ≡ front_output setup round game ++ rest
-  -- what `advance` prints of the save up to a round is what `save` prints of the game after that round, so all of this
-  -- holds of it too
+  -- what `advance` prints for the save up to a round is what `save` prints of the game after that round, so all of this
+  -- holds for it too
   pub advanced : (world red black save : List ℕ) (setup : RunSetup) (game : ReadGame)
       (round later workers others : ℕ) (saved : SavedValue) (text : List ℕ)
       → IsGameOf world red black setup game → IsSavedAs world red black setup game round saved

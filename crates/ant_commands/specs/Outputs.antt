@@ -1,4 +1,4 @@
--- What each command reads and writes: one equation a command.
+-- What each command reads and writes: one equation for each command.
 use Rattle.std.specs.Prelude.{◌≡◌, ℕ, ◌≤◌, ◌*◌, Bool, true, false, List, [], ◌∷◌, ◌++◌, length, map, nat_eq, slice_index_or, codes, decimal, Option, if◌then◌else◌}
 use Rattle.std.specs.List.{list_any}
 use Rattle.ant_base.specs.Layout.{◌+++◌}
@@ -69,11 +69,11 @@ brain_file name = record { name = name; kind = BrainFile }
 abbrev pub break_file : List ℕ → File
 break_file name = record { name = name; kind = BreakFile }
 
--- a file with a labelled program, of which the brain is wanted, or else where its labels and states stand
+-- a file with a labelled program, which is read for its brain, or for its labels and states
 abbrev pub labelled_file : Bool → List ℕ → File
 labelled_file source name = record { name = name; kind = LabelledFile source }
 
--- a file with a save of which at most so many rounds are done
+-- a file with a save of which at most this many rounds are done
 abbrev pub save_file : List ℕ → ℕ → File
 save_file name rounds = record { name = name; kind = SaveFile rounds }
 
@@ -81,32 +81,32 @@ save_file name rounds = record { name = name; kind = SaveFile rounds }
 abbrev pub game_files : List ℕ → List ℕ → List ℕ → List File
 game_files world red black = world_file world ∷ brain_file red ∷ brain_file black ∷ []
 
--- the files of a cup: its worlds, and then its brains; a name that stands twice is fetched twice
+-- the files of a cup: its worlds, and then its brains; a name that is given twice is fetched twice
 abbrev pub cup_files : List (List ℕ) → List (List ℕ) → List File
 cup_files worlds brains = map world_file worlds ++ map brain_file brains
 
--- what was read of the files of a game
+-- what was read from the files of a game
 pub record ReadGame : Type 0 where
   pub world : Grid
   pub red : List Instr
   pub black : List Instr
 
--- of a game and its breaks
+-- what was read from the files of a game and its breaks
 pub record ReadView : Type 0 where
   pub game : ReadGame
   pub breaks : List Break
 
--- of a cup
+-- what was read from the files of a cup
 pub record ReadCup : Type 0 where
   pub worlds : List Grid
   pub players : List (List Instr)
 
--- of two brains
+-- what was read from the files of two brains
 pub record ReadPair : Type 0 where
   pub first : List Instr
   pub second : List Instr
 
--- of a labelled program
+-- what was read from the file of a labelled program
 pub record ReadProgram : Type 0 where
   pub brain : List Instr
   pub places : List Address
@@ -145,7 +145,7 @@ cup_contents worlds players = map WorldContent worlds ++ map BrainContent player
 abbrev pub roster_contents : ReadCup → List FileContent
 roster_contents cup = cup_contents cup.worlds cup.players
 
--- these contents are those of some value, of which this text tells
+-- these contents are those of some value, and the text is one of that value
 pub record Tells {A : Type 0} (contents_of : A → List FileContent) (IsText : A → List ℕ → Type 0)
     (contents : List FileContent) (text : List ℕ) : Type 0 where
   pub value : A
@@ -217,24 +217,24 @@ events_output food setup game =
     (world_of game.world) setup.told.rounds
 
 -- the output of `acts`: the line of the seed, and a line for each turn from round `--from` on in which an ant executes
--- an instruction; with `--ant` those of this ant alone
+-- an instruction; with `--ant` only those of this ant
 unfoldable pub acts_output : Option ℕ → ReportSetup → ReadGame → List ℕ
 acts_output one setup game =
     acts_text (told_minds setup.told game) setup.told.seed (world_of game.world) setup.told.rounds one setup.from
 
 -- the output of `profile`: the line of the seed, and a line for each state of the red brain and then of the black one,
--- of the turns from round `--from` on
+-- counting the turns from round `--from` on
 unfoldable pub profile_output : ReportSetup → ReadGame → List ℕ
 profile_output setup game =
     profile_text (told_minds setup.told game) setup.told.seed (world_of game.world) setup.told.rounds setup.from
 
--- what the two brains come to
+-- the comparison of the two brains
 pub record TellsComparison (pair : ReadPair) (text : List ℕ) : Type 0 where
   pub comparison : Comparison
   pub is : IsComparison pair.first pair.second comparison
   pub told : text ≡ comparison_text comparison
 
--- that, with the way there
+-- the comparison, with the way to the difference
 pub record TellsWay (pair : ReadPair) (text : List ℕ) : Type 0 where
   pub comparison : Comparison
   pub steps : List Step
@@ -247,7 +247,7 @@ abbrev pub TellsSame : Bool → ReadPair → List ℕ → Type 0
 TellsSame false = TellsComparison
 TellsSame true = TellsWay
 
--- what `minimise` tells: the brain after a line of comment, or else what became of each old state
+-- what `minimise` prints: the brain after a comment line, or the new number of each old state
 abbrev pub minimise_output : Bool → List Instr → List Instr → List (Option ℕ) → List ℕ
 minimise_output false old new numbers = minimised_text old new
 minimise_output true old new numbers = states_text numbers
@@ -266,7 +266,7 @@ IsViewOutput seed rounds from view text =
     IsViewText (contest_minds view.game.red view.game.black) seed rounds from
     (world_of view.game.world) view.breaks text
 
--- no cells, for places past the end of a list
+-- no cells, for places after the end of a list
 abbrev pub nowhere : Grid
 nowhere = record { width = 0; height = 0; ids = 0; cells = [] }
 
@@ -275,13 +275,13 @@ nowhere = record { width = 0; height = 0; ids = 0; cells = [] }
 abbrev pub minds_between : List (List Instr) → ℕ → ℕ → Minds
 minds_between players red black = contest_minds (slice_index_or players red []) (slice_index_or players black [])
 
--- the score of a game of so many rounds on a world of a list, counted from 0, between two players
+-- the score of a game of this many rounds on a world of a list, counted from 0, between two players
 unfoldable pub score_between : List Grid → List (List Instr) → ℕ → ℕ → ℕ → ℕ → ℕ → Score
 score_between worlds players seed rounds world red black =
     score_of
     (world_after (minds_between players red black) seed (world_of (slice_index_or worlds world nowhere)) rounds)
 
--- the score of a game of a cup, where n is a world with one of the seeds
+-- the score of a game of a cup, if n is a pair of a world and a seed
 abbrev pub score_in_cup : List Grid → List (List Instr) → Seeds → ℕ → ℕ → ℕ → ℕ → Score
 score_in_cup worlds players seeds rounds n red black =
     score_between worlds players (seed_at seeds n) rounds (world_at seeds n) red black
@@ -314,7 +314,7 @@ pub record TellsGenerated (seed : ℕ) (shape : Shape) (text : List ℕ) : Type 
   pub generated : IsGenerated seed shape world
   pub told : text ≡ canonical_text world.width world.height (kinds_of world)
 
--- the shape of a world of the contest: what `gen` makes without options
+-- the shape of a world of the contest: the one that `gen` uses without options
 abbrev pub contest_shape : Shape
 contest_shape = record {
   width = default_of Width;
@@ -327,8 +327,8 @@ contest_shape = record {
 abbrev pub sample_minds : Minds
 sample_minds = contest_minds sample_brain sample_brain
 
--- what a workload tells of its game: how many ants there are, and the food on all cells at the start; how many are
--- alive, the score and what came of the turns after so many rounds, which are played in windows of the default size
+-- the result of a workload: how many ants there are, and the food on all cells at the start; how many are alive, the
+-- score and the counts of the turns after this many rounds, which are played in windows of the default size
 unfoldable pub summary_of : ℕ → ℕ → World → Summary
 summary_of seed rounds w = record {
   ants = w.ids;
@@ -359,8 +359,8 @@ pub record TellsWorkload (seed rounds : ℕ) (text : List ℕ) : Type 0 where
   pub generated : IsGenerated seed contest_shape world
   pub told : text ≡ workload_text seed rounds (summary_of seed rounds (world_of world))
 
--- what `asm` prints in place of the brain: the labels where they are asked for, and after them the line of each state
--- where those are
+-- what `asm` prints instead of the brain: the labels if they are requested, and then the line of each state if those
+-- are
 abbrev pub source_text : Bool → Bool → ReadSource → List ℕ
 source_text labels lines source =
     (if labels then labels_text source.labels else []) +++ (if lines then state_lines_text source.lines else [])
@@ -371,7 +371,7 @@ abbrev pub IsAsmOutput : Bool → Bool → List FileContent → List ℕ → Typ
 IsAsmOutput false false = Tells program_contents (is_text_of (λ program. brain_text program.brain))
 IsAsmOutput labels lines = Tells source_contents (is_text_of (source_text labels lines))
 
--- what a `cup` has written that tells its games: the lines of all games on its first worlds
+-- what a `cup` with `--games` has written so far: the lines of all games on its first worlds
 abbrev pub CupInPlay : Bool → List (List ℕ) → List (List ℕ) → Format → ℕ → List FileContent → List ℕ → Type 0
 CupInPlay false worlds brains format rounds contents front = ⊥
 CupInPlay true worlds brains format rounds contents front = Tells roster_contents (TellsFirstWorlds worlds brains format rounds) contents front

@@ -1,8 +1,8 @@
--- What the program stands in (this project's own).
+-- The surroundings of the program (this project's own).
 use Rattle.ant_base.specs.Shelf.{ShelfState}
 use Rattle.ant_base.specs.Sink.{SinkState}
 
--- the shelf of its files, its output, and the place for its errors, which is standard error for `main`
+-- the shelf of its files, its output, and where its errors are written, which is standard error for `main`
 pub record Outside : Type 0 where
   pub shelf : ShelfState
   pub out : SinkState

@@ -20,8 +20,8 @@ use Rattle.ant_commands.specs.Status.{status_number}
 use Rattle.ant_commands.specs.FaultLines.{Ending, Reason, ending_status, fault_line, word_line}
 use Rattle.ant_commands.specs.FaultLines.Ending.{Done, RefusedWord, Stopped}
 
--- the words are a command, which is done; where the output can tell, nothing waits to be flushed behind a text, and a
--- text without bytes leaves nothing to wait
+-- the words are a command, which is done; if the output reports what waits, nothing waits to be flushed after the text,
+-- and an empty text makes nothing wait
 pub record IsFinished (words : List (List ℕ)) (before after : Outside) (fetches : List Fetched) : Type 0 where
   pub command : PlainAsked
   pub is_command : IsCommand words command
@@ -36,7 +36,7 @@ pub record IsStopped (words : List (List ℕ)) (before after : Outside) (fetches
   pub is_command : IsCommand words command
   pub stopped : StopsFor (job_of command) before after fetches reason
 
--- the words are no command, of which this word is the refused one; nothing was fetched or written
+-- the words are not a command, and this is the refused word; nothing was fetched or written
 pub record IsRefusedByWords (words : List (List ℕ)) (before after : Outside) (fetches : List Fetched)
     (word : ℕ) : Type 0 where
   pub refused : IsRefusedAt words word
@@ -44,17 +44,17 @@ pub record IsRefusedByWords (words : List (List ℕ)) (before after : Outside) (
   pub kept : after.shelf ≡ before.shelf
   pub unwritten : after.out ≡ before.out
 
--- how the program ended: with its whole text, at a word that is refused, or as its command stopped
+-- how the program ended: with its whole text, at a word that is refused, or because its command stopped
 abbrev pub Ends : List (List ℕ) → Outside → Outside → List Fetched → Ending → Type 0
 Ends words before after fetches Done = IsFinished words before after fetches
 Ends words before after fetches (RefusedWord word) = IsRefusedByWords words before after fetches word
 Ends words before after fetches (Stopped reason) = IsStopped words before after fetches reason
 
--- the errors got this line, or a prefix of it where they failed
+-- the errors got this line, or a prefix of it if they failed
 abbrev pub GotLine : SinkState → SinkState → List ℕ → Type 0
 GotLine err new_err line = (result : Result (Unit {0}) Failed) × Pushed err new_err line result
 
--- the errors got the line of the ending; and nothing where the run is done
+-- the errors got the line of the ending, and nothing if the run is done
 abbrev pub Reports : SinkState → SinkState → Ending → Type 0
 Reports err new_err Done = new_err ≡ err
 Reports err new_err (RefusedWord word) = GotLine err new_err (word_line word)
@@ -75,13 +75,13 @@ pub record IsRunTo (words : List (List ℕ)) (before after : Outside) (number : 
   pub run : IsRun words before after status
   pub is_number : number ≡ status_number status
 
--- where the words are a command, the fetches of a run are those of its first files, in order and each once
+-- if the words are a command, the fetches of a run are those of its first files, in order and each once
 abbrev pub IsOrderly : List (List ℕ) → Outside → Outside → Type 0
 IsOrderly words before after =
     (command : PlainAsked) → IsCommand words command → (fetches : List Fetched)
     → after.shelf.log ≡ before.shelf.log ++ fetches → AreInOrder (files_of (job_of command)) fetches
 
--- the words are a command, whose files are judged so by the contents that the shelf tells
+-- the words are a command, whose files have this verdict by the contents that the shelf reports
 pub record IsJudgedCommand (words : List (List ℕ)) (shelf : ShelfState) (verdict : FilesVerdict) : Type 0 where
   pub command : PlainAsked
   pub is_command : IsCommand words command
@@ -89,8 +89,8 @@ pub record IsJudgedCommand (words : List (List ℕ)) (shelf : ShelfState) (verdi
   pub told : shelf.files ≡ Some at
   pub judged : IsJudged at (files_of (job_of command)) verdict
 
--- where each file is accepted, each element of a world to be generated has room, and neither the shelf nor the output
--- failed, a run is done, or wants memory
+-- if each file is accepted, each element of a world to be generated has room, and neither the shelf nor the output
+-- failed, a run is done, or memory ran out
 abbrev pub IsComplete : List (List ℕ) → Outside → Outside → Status → Type 0
 IsComplete words before after ended =
     (contents : List FileContent) (is : IsJudgedCommand words before.shelf (AllAccepted contents))
@@ -98,31 +98,31 @@ IsComplete words before after ended =
     → ¬ Rose before.shelf.faults after.shelf.faults → ¬ Rose before.out.faults after.out.faults
     → (ended ≡ status.Done) ⊎ (ended ≡ status.Memory)
 
--- where an element of a world to be generated has no room, a run ends as refused input, or wants memory
+-- if an element of a world to be generated has no room, a run ends as refused input, or memory ran out
 abbrev pub IsCrowding : List (List ℕ) → Status → Type 0
 IsCrowding words ended =
     (command : PlainAsked) (element : ℕ) → IsCommand words command → LacksRoom (job_of command) element
     → (ended ≡ status.Input) ⊎ (ended ≡ status.Memory)
 
--- where a file is refused, and the shelf didn't fail, a run ends as refused input, or wants memory
+-- if a file is refused, and the shelf didn't fail, a run ends as refused input, or memory ran out
 abbrev pub IsRefusing : List (List ℕ) → Outside → Outside → Status → Type 0
 IsRefusing words before after ended =
     (name : List ℕ) (fault : FileFault) → IsJudgedCommand words before.shelf (FirstRefused name fault)
     → ¬ Rose before.shelf.faults after.shelf.faults → (ended ≡ status.Input) ⊎ (ended ≡ status.Memory)
 
--- where the shelf tells its contents and is sure of the files up to the first that is refused, or of all where none is,
--- no run ends at a file that was not read
+-- if the shelf reports its contents and is sure of the files up to the first that is refused, or of all if none is, no
+-- run ends at a file that was not read
 abbrev pub NeverUnread : List (List ℕ) → Outside → Status → Type 0
 NeverUnread words before ended =
     (verdict : FilesVerdict) (is : IsJudgedCommand words before.shelf verdict) → AreSure before.shelf is.judged.fetches
     → ended ≢ status.Read
 
--- the words are no command
+-- the words are not a command
 abbrev pub IsNoCommand : List (List ℕ) → Type 0
 IsNoCommand words = (command : PlainAsked) → ¬ IsCommand words command
 
--- all that is promised of a call of the program over these words: the first field says all of it, and the others follow
--- from it
+-- everything that is promised of a call of the program with these words: the first field says all of it, and the others
+-- follow from it
 pub record EndsAsPromised (given : List (List ℕ)) (before after : Outside) (ended : Status) : Type 0 where
   pub run : IsRun given before after ended
   pub words : (ended ≡ status.Words) ↔ IsNoCommand given
@@ -132,7 +132,7 @@ pub record EndsAsPromised (given : List (List ℕ)) (before after : Outside) (en
   pub refusing : IsRefusing given before after ended
   pub read : NeverUnread given before ended
 
--- all that is promised of a call of the program that gives how its run ended
+-- everything that is promised of a call of the program that returns how its run ended
 pub record EndsSo (given : List (List ℕ)) (before after : Outside) (ending : Ending) : Type 0 where
   pub promised : EndsAsPromised given before after (ending_status ending)
   pub is_ending : promised.run.ending ≡ ending

@@ -29,8 +29,8 @@ use Rattle.ant_commands.specs.Run.{IsNoCommand, IsRunTo}
 abbrev pub IsNumber : ℕ → ℕ → ℕ → List ℕ → Type 0
 IsNumber least greatest number word = (decimal_value word ≡ Some number) × (least ≤ number) × (number ≤ greatest)
 
--- a word chooses the rounds that are dumped: `none`, `all`, or the numbers of these rounds, with one comma between
--- them, which is the byte 44
+-- a word chooses the rounds that are dumped: `none`, `all`, or the numbers of these rounds, with one comma, the byte
+-- 44, between them
 pub data IsDumps : (ℕ → Bool) → List ℕ → Type 0 where
   NoRound : IsDumps (λ round. false) (codes "none")
   EveryRound : IsDumps (λ round. true) (codes "all")
@@ -69,8 +69,8 @@ pub data IsOption (others : RunAsked) : List ℕ → List (List ℕ) → RunAske
       → IsOption others (codes "--rest") (word ∷ []) (record others { sheet = record others.sheet { rest = n } })
   Far : IsOption others (codes "--far") [] others
 
--- what options start from, where these are the files: nothing is dumped, and the rules are the contest's; a seed and a
--- number of rounds are always said
+-- the start for the options, if these are the files: nothing is dumped, and the rules are the contest's; a seed and a
+-- number of rounds are always given
 abbrev pub bare_run : List ℕ → List ℕ → List ℕ → RunAsked
 bare_run world red black =
     record { world = world; red = red; black = black; seed = 0; rounds = 0; dumps = λ round. false; sheet = record { surround = 5; corpse = 3; rest = 14 } }
@@ -97,7 +97,7 @@ pub record IsRunOf (words : List (List ℕ)) (asked : RunAsked) : Type 0 where
 abbrev pub fetch : List ℕ → Result (List ℕ) FetchFault → Fetched
 fetch name answer = record { name = name; answer = answer }
 
--- what was fetched in between, in order
+-- what was fetched between these two states, in order
 abbrev pub DidFetch : Outside → Outside → List Fetched → Type 0
 DidFetch before after fetches = after.shelf.log ≡ before.shelf.log ++ fetches
 
@@ -111,7 +111,7 @@ abbrev pub IsText : TextKind → List ℕ → Type 0
 IsText OfWorld bytes = (world : Grid) × OpensAs bytes world
 IsText OfBrain bytes = (brain : List Instr) × IsBrainText bytes brain
 
--- `ComesNext asked kind name earlier`: after the fetches `earlier` the file of this name comes next, and has to be a
+-- `ComesNext asked kind name earlier`: after the fetches `earlier` the file with this name is next, and has to be a
 -- text of this kind
 pub data ComesNext (asked : RunAsked) : TextKind → List ℕ → List Fetched → Type 0 where
   -- the world, after none
@@ -123,7 +123,7 @@ pub data ComesNext (asked : RunAsked) : TextKind → List ℕ → List Fetched �
   BlackLast : (first second : List ℕ) → IsText OfWorld first → IsText OfBrain second
       → ComesNext asked OfBrain asked.black (fetch asked.world (Ok first) ∷ fetch asked.red (Ok second) ∷ [])
 
--- a run stopped at the file of this name, which has to be a text of this kind: it was fetched last, with this answer,
+-- a run stopped at the file with this name, which has to be a text of this kind: it was fetched last, with this answer,
 -- and nothing was written
 pub record StopsAtFile (asked : RunAsked) (before after : Outside) (kind : TextKind) (name : List ℕ)
     (answer : Result (List ℕ) FetchFault) : Type 0 where
@@ -175,14 +175,14 @@ pub record IsCutOff (asked : RunAsked) (before after : Outside) : Type 0 where
   pub plays : Plays PushedFront asked before after
   pub line : HasLine before.err after.err (codes "ants: output failed\n")
 
--- the bytes that were fetched are no such text, and `says` is anything; or the fetch answered that the file is too
+-- the bytes that were fetched are not such a text, and `says` is any text; or the fetch returned that the file is too
 -- long, and `says` is `too long`
 abbrev pub IsUnfit : TextKind → Result (List ℕ) FetchFault → List ℕ → Type 0
 IsUnfit kind (Ok bytes) _ = ¬ IsText kind bytes
 IsUnfit kind (Err fault) says = (fault ≡ TooLong) × (says ≡ codes "too long")
 
--- 5: a file is no world or no brain, or its fetch answered that it is too long. The law `headline` says which fault of
--- a text the line names
+-- 5: a file is not a world or not a brain, or its fetch returned that it is too long. The law `headline` says which
+-- fault of a text the line names
 pub record IsNotAccepted (asked : RunAsked) (before after : Outside) : Type 0 where
   pub kind : TextKind
   pub name : List ℕ
@@ -196,10 +196,10 @@ pub record IsNotAccepted (asked : RunAsked) (before after : Outside) : Type 0 wh
 pub data IsNotBegun (asked : RunAsked) (before after : Outside) : Type 0 where
   -- it stopped before the first fetch
   NothingFetched : DidFetch before after [] → after.out ≡ before.out → IsNotBegun asked before after
-  -- or after a file whose bytes came, whether they are such a text or not
+  -- or after a file whose bytes were fetched, whether they are such a text or not
   BytesCame : (kind : TextKind) (name bytes : List ℕ) → StopsAtFile asked before after kind name (Ok bytes)
       → IsNotBegun asked before after
-  -- or at a fetch that answered out of memory
+  -- or at a fetch that returned out of memory
   NoBytes : (kind : TextKind) (name : List ℕ)
       → StopsAtFile asked before after kind name (Err OutOfMemory) → IsNotBegun asked before after
 
@@ -208,7 +208,7 @@ pub record IsOutOfMemory (asked : RunAsked) (before after : Outside) : Type 0 wh
   pub stopped : IsNotBegun asked before after ⊎ Plays PushedPart asked before after
   pub line : HasLine before.err after.err (codes "ants: out of memory\n")
 
--- how a run ends: with one of five statuses, and what each says
+-- how a run ends: with one of five statuses, and what each means
 abbrev pub RunEnds : RunAsked → Outside → Outside → ℕ → Type 0
 RunEnds asked before after number =
     ((number ≡ 0) × IsPrinted asked before after)
@@ -229,9 +229,9 @@ pub record RunPromise : Type 0 where
       → IsRunTo (codes "run" ∷ words) before after number → number ≢ 2
       → ¬ Contains words (codes "--stats") → (asked : RunAsked) × IsRunOf (codes "run" ∷ words) asked
 
--- what a run does to its shelf besides. `each`: its fetches agree with what the shelf tells, contents and sureness
--- stay, and the count of faults never falls; `unread`: at 3 the shelf wasn't sure of the file at which the run stopped,
--- and its count of faults rose
+-- what a run does to its shelf. `each`: its fetches agree with what the shelf reports, contents and sureness are kept,
+-- and the count of faults never falls; `unread`: at 3 the shelf wasn't sure of the file at which the run stopped, and
+-- its count of faults rose
 pub record RunShelf : Type 0 where
   pub each : (words : List (List ℕ)) (asked : RunAsked) → IsRunOf words asked → (before after : Outside) (number : ℕ)
       → IsRunTo words before after number
@@ -241,8 +241,8 @@ pub record RunShelf : Type 0 where
       → (kind : TextKind) × (name : List ℕ) × StopsAtFile asked before after kind name (Err Failed)
       × (before.shelf.sure name ≡ false) × Rose before.shelf.faults after.shelf.faults
 
--- words that are no command end with status 2 at the refused word; and what the table of commands has as a `run`
--- without `--stats` is one
+-- words that are not a command end with status 2 at the refused word; and each `run` without `--stats` by the table of
+-- commands is one
 pub record RefusedWords : Type 0 where
   pub refused : (words : List (List ℕ)) (before after : Outside) (number : ℕ) → IsRunTo words before after number
       → IsNoCommand words

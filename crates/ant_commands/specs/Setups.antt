@@ -1,4 +1,4 @@
--- What the options of a command say, as its own record, and the limits of its numbers.
+-- The settings that a command's options give, as its own record, and the limits of its numbers.
 use Rattle.std.specs.Prelude.{ℕ, Bool, false, if◌then◌else◌, List, Option, Some, None}
 use Rattle.ant_turn.specs.Sheet.{sheet_of}
 use Rattle.command_words.specs.Command.{AreWithin, PlainAsked}
@@ -17,7 +17,7 @@ use Rattle.ant_commands.specs.declared.commands.setups.GenShape.{GenShape}
 use Rattle.ant_commands.specs.declared.commands.setups.ResumeOptions.{ResumeOptions}
 use Rattle.ant_commands.specs.declared.commands.setups.RunWords.{RunWords}
 
--- what the options of `run` say
+-- the settings of `run`
 pub record RunSetup : Type 0 where
   pub seed : ℕ
   pub rounds : ℕ
@@ -30,14 +30,14 @@ pub record RunSetup : Type 0 where
   pub stats : Bool
   pub far : Bool
 
--- what the options of `resume` say
+-- the settings of `resume`
 pub record ResumeSetup : Type 0 where
   pub rounds : ℕ
   pub dumps : DumpChoice
   pub workers : ℕ
   pub stats : Bool
 
--- what the options of a game that is told say: its numbers
+-- the numbers of a game that is reported
 pub record ToldSetup : Type 0 where
   pub seed : ℕ
   pub rounds : ℕ
@@ -45,12 +45,12 @@ pub record ToldSetup : Type 0 where
   pub corpse : ℕ
   pub rest : ℕ
 
--- those of `trace`, `events`, `acts` and `profile` say the first round that is told too
+-- the settings of `trace`, `events`, `acts` and `profile`, which also have the first round that is reported
 pub record ReportSetup : Type 0 where
   pub told : ToldSetup
   pub from : ℕ
 
--- what a command line of `run` says
+-- the settings of a command line of `run`
 abbrev pub setup_of : PlainAsked → RunSetup
 setup_of asked = record {
   seed = asked.option Seed;
@@ -65,11 +65,11 @@ setup_of asked = record {
   far = asked.has Far;
 }
 
--- what one of `save` says: a game without dumps and counts
+-- the settings of a command line of `save`: a game without dumps and counts
 abbrev pub save_setup_of : PlainAsked → RunSetup
 save_setup_of asked = record (setup_of asked) { dumps = NoDump; stats = false; far = false }
 
--- what one of `resume`, of a game that is told, of its first round too, or of `gen` says
+-- the settings of `resume`, of a game that is reported, also with its first round, or of `gen`
 abbrev pub resume_of : PlainAsked → ResumeSetup
 resume_of asked = record { rounds = asked.option Rounds; dumps = asked.dumps; workers = asked.option Workers; stats = asked.has Stats }
 
@@ -85,7 +85,7 @@ told_of asked = record {
 abbrev pub report_of : PlainAsked → ReportSetup
 report_of asked = record { told = told_of asked; from = asked.option From }
 
--- the one ant that `acts` tells of, if it is named
+-- the one ant that `acts` reports, if it is named
 abbrev pub ant_of : PlainAsked → Option ℕ
 ant_of asked = if asked.has Ant then Some (asked.option Ant) else None
 
@@ -103,7 +103,7 @@ pub record SetupWithin (setup : RunSetup) : Type 0 where
   pub corpse : IsWithin CorpseFood setup.corpse
   pub rest : IsWithin RestRounds setup.rest
 
--- the numbers of a game that goes on are within the limits
+-- the numbers of a game that is continued are within the limits
 pub record ResumeWithin (setup : ResumeSetup) : Type 0 where
   pub rounds : IsWithin RoundCount setup.rounds
   pub dumps : AreWithin setup.dumps
@@ -116,7 +116,7 @@ pub record ShapeWithin (shape : GenShape) : Type 0 where
   pub rocks : IsWithin ElementCount shape.rocks
   pub blobs : IsWithin ElementCount shape.blobs
 
--- the format of a cup: with `--gauntlet` the games of the first brain alone, with `--leads` the leads, the seeds from
+-- the format of a cup: with `--gauntlet` only the games of the first brain, with `--leads` the leads, the seeds from
 -- that of `--seed` on, and these in the lines of games if `--seeds` is given
 abbrev pub format_of : PlainAsked → Format
 format_of asked = record {

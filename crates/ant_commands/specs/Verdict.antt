@@ -1,4 +1,4 @@
--- What the files of a command are judged as.
+-- The verdict on the files of a command.
 use Rattle.std.specs.Prelude.{◌≡◌, ℕ, List, Option, Some, IsSome}
 use Rattle.std.specs.List.{AllByRecursion}
 use Rattle.ant_base.specs.Fetched.{Fetched}
@@ -11,17 +11,17 @@ pub data FilesVerdict : Type 0 where
   AllAccepted : List FileContent → FilesVerdict
   FirstRefused : List ℕ → FileFault → FilesVerdict
 
--- the file has this name, and is refused with this fault
+-- the file with this name is refused with this fault
 pub record IsRefusedAs (name : List ℕ) (fault : FileFault) (file : File) (fetch : Fetched) : Type 0 where
   pub named : file.name ≡ name
   pub refused : IsRefused file fetch fault
 
--- the files are judged so by what their fetches answered
+-- the files have this verdict by the answers to their fetches
 abbrev pub Judged : List File → List Fetched → FilesVerdict → Type 0
 Judged files fetches (AllAccepted contents) = AreAccepted files fetches contents
 Judged files fetches (FirstRefused name fault) = StopsAt (IsRefusedAs name fault) files fetches
 
--- the files are judged so by these contents: by fetches that answer with them
+-- the files have this verdict by these contents: by fetches that return them
 pub record IsJudged (at : List ℕ → Option (List ℕ)) (files : List File) (verdict : FilesVerdict) : Type 0 where
   pub fetches : List Fetched
   pub told : AllByRecursion (IsTold (Some at)) fetches
@@ -37,6 +37,6 @@ pub record HasOneVerdict (at : List ℕ → Option (List ℕ)) (files : List Fil
   pub judged : IsJudged at files verdict
   pub only : (other : FilesVerdict) → IsJudged at files other → other ≡ verdict
 
--- contents judge files that are there in exactly one way
+-- contents give files that exist exactly one verdict
 abbrev pub JudgesOnce : Type 0
 JudgesOnce = (at : List ℕ → Option (List ℕ)) (files : List File) → AreThere at files → HasOneVerdict at files

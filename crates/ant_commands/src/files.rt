@@ -16,15 +16,15 @@ use cell_world::World;
 use std::alloc::Global;
 use text_fault::{TextFault, TextStop, open_brain, open_program, open_source, open_world};
 
-/// What the bytes of a file can be read as.
+/// A content that the bytes of a file can be read as.
 pub trait FileText: Sized {
     /// The kind of such a file.
     ghost kind: { FileKind };
 
-    /// What was read of it.
+    /// What was read from it.
     ghost content: { Self → FileContent };
 
-    /// Reads the bytes of the file of this name.
+    /// Reads the bytes of the file with this name.
     fn read<'w>(alloc: Global, name: &'w str, bytes: &[u8]) -> Result<Self, CommandStop<'w>>
         requires { length bytes.now ≤ longest }
         ensures { ReadsText content kind bytes.now name.now result };
@@ -119,7 +119,7 @@ pub fn fetch_file<'w, S: Shelf>(
     }
 }
 
-/// Fetches a file, and reads what came.
+/// Fetches a file, and reads its bytes.
 pub fn read_file<'w, T: FileText, S: Shelf>(
     alloc: Global,
     shelf: &mut S,
@@ -132,7 +132,7 @@ pub fn read_file<'w, T: FileText, S: Shelf>(
     T::read(alloc, name, &bytes)
 }
 
-/// Fetches the files of these names, and reads each before it fetches the next.
+/// Fetches the files with these names, and reads each before it fetches the next.
 pub fn read_files<'w, T: FileText + Drop, S: Shelf>(
     alloc: Global,
     shelf: &mut S,
@@ -159,7 +159,7 @@ fn fetch_stop<'w>(name: &'w str, fault: FetchFault) -> CommandStop<'w>
     }
 }
 
-/// What the text of the file of this name was opened as, or why a command stops at it.
+/// The content of the opened text of the file with this name, or why a command stops at it.
 pub fn named<'w, T>(name: &'w str, opened: Result<T, TextStop>) -> Result<T, CommandStop<'w>>
     ensures { IsNamed name.now opened result }
 {

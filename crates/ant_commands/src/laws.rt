@@ -1,94 +1,94 @@
-// Laws on the definitions of what a command does. Each is proved by a function that does nothing.
+// Laws of what a command does. Each is proved by a function that does nothing.
 ghost use Rattle.ant_commands.specs.Headline.{Headline};
 ghost use Rattle.ant_commands.specs.RunPromise.{RefusedWords, RunPromise, RunShelf};
 ghost use Rattle.ant_commands.specs.Verdict.{JudgesOnce};
 ghost use Rattle.ant_commands.specs.Laws.{AssembledAndMinimised, CupGamesAreRuns, HasOutput, OneText, SavesAreResumed, TextsEndInLf, WindowsChangeCountsAlone, WorkersChangeNothing};
 
-/// The promise on one page: each run of the program ends with the status 0, 2, 3, 4, 5 or 6, and each of them says what
-/// was fetched, accepted and written. It follows from the one clause of `run_to_exit`.
+/// A law: the promise on one page. Each run of the program ends with the status 0, 2, 3, 4, 5 or 6, and each status
+/// says what was fetched, accepted and written. It follows from the one clause of `run_to_exit`.
 pub fn headline()
     ensures { Headline }
 {}
 
-/// The promise of one `run` without `--stats`, in definitions of its own: what each status says of its three files, of
-/// the text of its game and of the errors. The words of a `run` name one game; and words that begin with `run`, have no
-/// `--stats` and are not refused are such words.
+/// A law: the promise of one `run` without `--stats`, in definitions of its own: what each status says about its three
+/// files, the text of its game and the errors. The words of a `run` name one game; and words that begin with `run`,
+/// have no `--stats` and are not refused are such words.
 pub fn run_promise()
     ensures { RunPromise }
 {}
 
-/// What such a run does to its shelf besides: its fetches agree with what the shelf tells of its contents and of a
-/// file's greatest length; and where a file was not read, the shelf was not sure of it, and its count of faults rose.
+/// A law: what such a run does to its shelf. Its fetches agree with the contents that the shelf reports and with a
+/// file's greatest length; and if a file was not read, the shelf was not sure of it, and its count of faults rose.
 pub fn run_shelf()
     ensures { RunShelf }
 {}
 
-/// Words that are no command end with status 2 at the first word that is refused; and what the table of commands has as
-/// a `run` without `--stats` is one as `run_promise` has it.
+/// A law: words that are not a command end with status 2 at the first word that is refused; and each `run` without
+/// `--stats` by the table of commands is one by `run_promise`.
 pub fn refused_words()
     ensures { RefusedWords }
 {}
 
-/// Contents that have each file of a command judge them in exactly one way: all are accepted, as the same contents, or
+/// A law: contents for each file of a command are judged in exactly one way: all are accepted, as the same contents, or
 /// one and the same file is the first that is refused, with the same fault.
 #[tactic(auto, using(crate::proofs::Judgements::judges_once))]
 pub fn contents_judge_once()
     ensures { JudgesOnce }
 {}
 
-/// Each output of a command whose numbers and names are within the limits, and whose files were accepted, ends in LF;
-/// or it has no bytes, and is that of `asm` with `--labels` and without `--lines`, whose program has no label. So where
-/// the output can tell, nothing of it waits to be flushed once all of it was written.
+/// A law: each output of a command whose numbers and names are within the limits, and whose files were accepted, ends
+/// in LF. The only exception is an output without bytes, of `asm` with `--labels` and without `--lines` for a program
+/// without labels. So if the output reports what waits, nothing of it waits to be flushed after all of it was written.
 #[tactic(auto, using(crate::proofs::JobTexts::texts_end_in_lf))]
 pub fn texts_end_in_lf()
     ensures { TextsEndInLf }
 {}
 
-/// A command has at most one output for the same contents of its files.
+/// A law: a command has at most one output for the same contents of its files.
 #[tactic(auto, using(crate::proofs::JobTexts::one_text))]
 pub fn one_text()
     ensures { OneText }
 {}
 
-/// Two command lines that differ in the number of workers alone, or in `--far`, read the same files and have the same
-/// output.
+/// A law: two command lines that differ only in the number of workers, or in `--far`, read the same files and have the
+/// same output.
 #[tactic(auto, using(crate::proofs::WorkerLaws::workers_change_nothing))]
 pub fn workers_change_nothing()
     ensures { WorkersChangeNothing }
 {}
 
-/// Without its counts the output of a `run` is the same for every number of turns that a window has.
+/// A law: without its counts, the output of a `run` is the same for every number of turns in a window.
 #[tactic(auto, using(crate::proofs::JobTexts::windows_change_counts_alone))]
 pub fn windows_change_counts_alone()
     ensures { WindowsChangeCountsAlone }
 {}
 
-/// The score of each game of a cup is the one that `run` prints for the same world, brains, seed and rounds by the
-/// contest's rules. So if you believe a `run`, you believe a game of a cup.
+/// A law: the score of each game of a cup is the one that `run` prints for the same world, brains, seed and rounds by
+/// the contest's rules. So if you believe a `run`, you believe a game of a cup.
 #[tactic(auto, using(crate::proofs::CupGames::cup_games_are_runs))]
 pub fn cup_games_are_runs()
     ensures { CupGamesAreRuns }
 {}
 
-/// A command within the limits whose files were accepted, and whose elements have room, has an output.
+/// A law: a command within the limits whose files were accepted, and whose elements have room, has an output.
 #[tactic(auto, using(crate::proofs::JobTexts::has_output))]
 pub fn has_output()
     ensures { HasOutput }
 {}
 
-/// What `asm` writes, minimised, still plays the labelled game of the program: state for address, and with the same
-/// score.
+/// A law: what `asm` writes, minimised, still plays the labelled game of the program, with a state for each address and
+/// the same score.
 #[tactic(auto, using(crate::proofs::LabelledGames::assembled_and_minimised))]
 pub fn assembled_and_minimised()
     ensures { AssembledAndMinimised }
 {}
 
-/// If `run` prints a text, then `save` after as many rounds of the same game or fewer prints a save that fits into a
-/// file and that `resume` accepts, and `resume` prints the rest of that text. The line of the seed and the selected
-/// dumps up to the saved round precede it. The seed, the window, the sheet, the dumps and the counts are those of
-/// `run`; each of the three may have any number of workers. This holds after whichever round the game is saved. What
-/// `advance` prints from such a save is what `save` prints of the game after the later round, byte for byte, so all of
-/// this holds for it too.
+/// A law: if `run` prints a text, then `save` after at most that many rounds of the same game prints a save that fits
+/// into a file and that `resume` accepts, and `resume` prints the rest of that text. The line of the seed and the
+/// selected dumps up to the saved round precede it. The seed, the window, the sheet, the dumps and the counts are those
+/// of `run`; each of the three commands may have any number of workers. This holds after whichever round the game is
+/// saved. What `advance` prints from such a save is what `save` prints of the game after the later round, byte for
+/// byte, so all of this holds for it too.
 #[tactic(auto, using(crate::proofs::ResumedGames::saves_are_resumed))]
 pub fn saves_are_resumed()
     ensures { SavesAreResumed }

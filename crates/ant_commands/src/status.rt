@@ -7,22 +7,22 @@ ghost use Rattle.ant_commands.specs.Status.{status_number};
 pub enum Status {
     /// The whole text was written.
     Done,
-    /// The words are no command.
+    /// The words are not a command.
     Words,
     /// A file could not be read.
     Read,
     /// The output failed.
     Write,
-    /// A file is too long, not in its grammar or a save beyond the rounds; or an element of a world to be generated has
-    /// no room.
+    /// A file is too long, not in its grammar, or a save with too many rounds done; or an element of a world to be
+    /// generated has no room.
     Input,
-    /// Memory could not be had.
+    /// Memory ran out.
     Memory,
 }
 
 impl Status {
-    /// The number with which the program exits: 0, 2, 3, 4, 5, 6 in the order of the variants. 1 is that of a program
-    /// that the system gave no words.
+    /// The exit status of the program: 0, 2, 3, 4, 5, 6 in the order of the variants. 1 means that the system gave the
+    /// program no words.
     pub fn number(&self) -> u8
         ensures { result ≡ status_number self.now }
     {

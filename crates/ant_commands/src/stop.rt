@@ -18,26 +18,26 @@ use world_gen::GenFault;
 pub enum FileFault {
     /// Its text is refused.
     Text(TextFault),
-    /// It is no list of breaks.
+    /// It is not a list of breaks.
     Breaks(BreakFault),
 }
 
 /// Why a command stopped before its whole text was written.
 #[derive(Clone, Copy)]
 pub enum CommandStop<'w> {
-    /// The file of this name was not read.
+    /// The file with this name was not read.
     Read(&'w str),
     /// The output failed.
     Write,
-    /// The file of this name was refused.
+    /// The file with this name was refused.
     Input(&'w str, FileFault),
     /// This element of a world to be generated, counted from 0, has no room.
     NoRoom(u32),
-    /// Memory could not be had.
+    /// Memory ran out.
     Memory,
 }
 
-/// What a command answers that pushed its text last.
+/// The result of a command that pushed its text last.
 pub fn after_push<'w>(pushed: Result<(), Failed>) -> Result<(), CommandStop<'w>>
     ensures { ending_of result ≡ push_ending pushed }
 {
@@ -45,7 +45,7 @@ pub fn after_push<'w>(pushed: Result<(), Failed>) -> Result<(), CommandStop<'w>>
     Ok(())
 }
 
-/// What a command answers that played a game last.
+/// The result of a command that played a game last.
 pub fn after_play<'w>(played: Result<Score, PlayFault>) -> Result<(), CommandStop<'w>>
     ensures { ending_of result ≡ play_ending played }
 {
@@ -53,7 +53,7 @@ pub fn after_play<'w>(played: Result<Score, PlayFault>) -> Result<(), CommandSto
     Ok(())
 }
 
-/// What a command answers that told the games of a cup last.
+/// The result of a command that pushed the games of a cup last.
 pub fn after_cup<'w>(told: Result<(), PlayFault>) -> Result<(), CommandStop<'w>>
     ensures { ending_of result ≡ play_ending told }
 {
@@ -66,7 +66,7 @@ pub fn after_cup<'w>(told: Result<(), PlayFault>) -> Result<(), CommandStop<'w>>
 pub enum Ended<'w> {
     /// The whole text was written.
     Done,
-    /// The words are no command, and this word, counted from 1, is the first with which they begin none.
+    /// The words are not a command, and this word, counted from 1, is the refused one.
     RefusedWord(usize),
     /// The words are a command, which stopped.
     Stopped(CommandStop<'w>),
@@ -83,7 +83,7 @@ impl<'w> Ended<'w> {
         }
     }
 
-    /// The status of a run that ended so.
+    /// The status of a run with this ending.
     pub fn status(&self) -> Status
         ensures { result ≡ ending_status (plain_ending self.now) }
     {
@@ -149,7 +149,7 @@ impl Layout for FileFault {
     }
 }
 
-// What a stop says, without the program's name.
+// The text of a stop, without the program's name.
 #[derive(Clone, Copy)]
 struct StopWords<'s>(CommandStop<'s>);
 
@@ -177,7 +177,7 @@ impl Layout for CommandStop<'_> {
 }
 
 impl CommandStop<'_> {
-    /// The status of a command that stopped so.
+    /// The status of a command with this stop.
     pub fn status(&self) -> Status
         ensures { result ≡ status_of (reason_of self.now) }
     {

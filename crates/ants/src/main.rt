@@ -1,7 +1,7 @@
 //! The program `ants`: a simulator of the ant world of the ICFP Programming Contest 2004.
 //!
 //! `run_to_exit` of `ant_commands` does all that the program does, over any shelf of files and any two sinks; `main`
-//! hands it the real ones.
+//! passes it the real ones.
 #![tactic(auto)]
 
 use ant_base::{ErrSink, FileShelf, NoGate, OutSink};

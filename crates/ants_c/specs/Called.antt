@@ -16,12 +16,12 @@ use Rattle.ants_c.specs.Ended.{ending_fault, ending_line}
 use Rattle.ants_c.specs.Rooms.{counted, overlaid}
 use Rattle.ants_c.specs.declared.fault.AntsFault.{AntsFault}
 
--- the files of these names: each takes as many of the bytes that are left as its size says
+-- the files with these names: each takes the number of the remaining bytes that its size says
 abbrev pub files_in : List (List ℕ) → List ℕ → List ℕ → List (List ℕ × List ℕ)
 files_in (name ∷ names) (size ∷ sizes) bytes = (name, take size bytes) ∷ files_in names sizes (drop size bytes)
 files_in names sizes bytes = []
 
--- names in UTF-8, with a size for each; and the sizes make up all bytes
+-- names in UTF-8, with a size for each; and the sizes add up to the number of bytes
 pub record AreFiles (names : List (List ℕ)) (sizes bytes : List ℕ) : Type 0 where
   pub named : AllByRecursion IsUtf8 names
   pub sized : length sizes ≡ length names
@@ -32,16 +32,16 @@ pub record CanBeRead (words names sizes bytes : List ℕ) : Type 0 where
   pub spoken : AllByRecursion IsUtf8 (lines_of words)
   pub files : AreFiles (lines_of names) sizes bytes
 
--- a shelf in memory with these files, of which nothing was fetched; it tells them, and is sure of each
+-- a shelf in memory with these files, from which nothing was fetched; it reports them, and is sure of each
 abbrev pub shelf_with : List (List ℕ × List ℕ) → ShelfState
 shelf_with files = shelf_of (record { files = files; failing = []; calls = 0; faults = 0; log = [] })
 
--- a sink that tells these bytes, of which none wait, and that never failed
+-- a sink that reports these bytes, none of which wait, and that never failed
 abbrev pub holding : List ℕ → SinkState
 holding bytes = record { held = Some bytes; waiting = Some []; faults = 0 }
 
--- the program ran with these words over these files and ended so; it wrote this text, and reported this line, which is
--- the whole line of its ending
+-- the program ran with these words over these files, with this ending; it wrote this text, and reported this line,
+-- which is the whole line of its ending
 pub record Runs (words : List (List ℕ)) (files : List (List ℕ × List ℕ)) (text line : List ℕ)
     (ending : Ending) : Type 0 where
   pub shelf : ShelfState
@@ -50,7 +50,7 @@ pub record Runs (words : List (List ℕ)) (files : List (List ℕ × List ℕ)) 
   pub is_ending : run.ending ≡ ending
   pub is_line : line ≡ ending_line ending
 
--- what a caller lends to a call: the rooms for the text and for the line, the counts of their bytes, and the fault
+-- the caller's memory for a call: the rooms for the text and for the line, the counts of their bytes, and the fault
 pub record Lent : Type 0 where
   pub out : List ℕ
   pub used : ℕ
@@ -66,17 +66,18 @@ lent out used said told fault = record { out = out; used = used; said = said; to
 abbrev pub have_room : List ℕ → List ℕ → Lent → Bool
 have_room text line lent = nat_le (length text) (length lent.out) && nat_le (length line) (length lent.said)
 
--- the status of a call: that of the run where the text and the line have room, otherwise 4
+-- the status of a call: that of the run if the text and the line have room, otherwise 4
 abbrev pub call_status : List ℕ → List ℕ → Lent → Ending → ℕ
 call_status text line lent ending = if have_room text line lent then status_number (ending_status ending) else 4
 
--- the fault after a call: how the run ended, in numbers, where the text and the line have room and the ending has
--- numbers; otherwise as before
+-- the fault after a call: how the run ended, in numbers, if the text and the line have room and the ending has numbers;
+-- otherwise unchanged
 abbrev pub call_fault : List (List ℕ) → List (List ℕ) → List ℕ → List ℕ → Lent → Ending → AntsFault
 call_fault words names text line lent ending = if have_room text line lent then unwrap_or (ending_fault words names ending) lent.fault else lent.fault
 
--- the program ran so over files of these names: its text and its line lie over the rooms, their bytes were counted, and
--- the status and the fault say how it ended; it never ends at its output, whose number is 4
+-- the program ran in this way over files with these names: its text and its line were written over the rooms, their
+-- bytes were counted, and the status and the fault say how it ended; it never ends with a failed output, whose number
+-- is 4
 pub record IsCalled (words names : List (List ℕ)) (files : List (List ℕ × List ℕ)) (before after : Lent)
     (status : ℕ) : Type 0 where
   pub text : List ℕ
@@ -91,7 +92,7 @@ pub record IsCalled (words names : List (List ℕ)) (files : List (List ℕ × L
   pub answered : status ≡ call_status text line before ending
   pub faulted : after.fault ≡ call_fault words names text line before ending
 
--- nothing ran and nothing was written: what was given can't be read, or memory could not be had
+-- nothing ran and nothing was written: what was given can't be read, or memory ran out
 pub record IsNotCalled (before after : Lent) (status : ℕ) : Type 0 where
   pub either : (status ≡ 1) ⊎ (status ≡ 6)
   pub unwritten : after ≡ before

@@ -1,4 +1,4 @@
--- Looks into a game between its rounds (this project's own; what an ant is, is the task's biology).
+-- Looks at a game between its rounds (this project's own; what an ant is, is the task's biology).
 use Rattle.std.specs.Prelude.{◌≡◌, ◌⊎◌, ℕ, ◌+◌, ◌*◌, ◌<◌, ◌≤◌, List, [], ◌∷◌, ◌++◌, Option, Some, None, drop, length, map, flat_map, ⊤}
 use Rattle.std.specs.List.{range_with_len}
 use Rattle.ant_turn.specs.Minds.{contest_minds}
@@ -40,11 +40,11 @@ abbrev pub seen_from : Cells → Option Pos → AntsAnt
 seen_from cells None = seen_at (record { x = 0; y = 0 }) None
 seen_from cells (Some p) = seen_at p (cells p).ant
 
--- the ant of an id
+-- the ant with an id
 abbrev pub seen_ant : World → ℕ → AntsAnt
 seen_ant w t = seen_from w.cells (place_in w t)
 
--- the ants of all ids that were made, in order
+-- the ants of all ids that were assigned, in order
 abbrev pub seen_ants : World → List AntsAnt
 seen_ants w = map (seen_ant w) (range_with_len 0 w.ids)
 
@@ -53,12 +53,12 @@ abbrev pub AreRising : ℕ → List ℕ → Type 0
 AreRising least [] = ⊤
 AreRising least (round ∷ rounds) = (least ≤ round) × (round ≤ most_rounds) × AreRising (round + 1) rounds
 
--- the ants after each of these rounds, one round behind the other
+-- the ants after each of these rounds, one round after the other
 abbrev pub ants_after : (world : Grid) (red black : List Instr) (seed : ℕ) → List ℕ → List AntsAnt
 ants_after world red black seed rounds =
     flat_map (λ round. seen_ants (world_after (contest_minds red black) seed (world_of world) round)) rounds
 
--- three texts are a game's, of which so many ids were made
+-- three texts are those of a game with this number of ids
 pub record HasIds (world_text red_text black_text : List ℕ) (ids : ℕ) : Type 0 where
   pub world : Grid
   pub red : List Instr
@@ -66,7 +66,8 @@ pub record HasIds (world_text red_text black_text : List ℕ) (ids : ℕ) : Type
   pub is_game : IsGame world_text red_text black_text world red black
   pub made : ids ≡ world.ids
 
--- and after each of these rounds its score and its ants stand in front of the caller's rooms; what is behind them stays
+-- after each of these rounds its score and its ants are at the front of the caller's rooms; what follows them is
+-- unchanged
 pub record AreLooked (world_text red_text black_text : List ℕ) (seed : ℕ) (rounds : List ℕ)
     (scores new_scores : List AntsScore) (ants new_ants : List AntsAnt) (ids : ℕ) : Type 0 where
   pub game : HasIds world_text red_text black_text ids
@@ -74,6 +75,6 @@ pub record AreLooked (world_text red_text black_text : List ℕ) (seed : ℕ) (r
       ≡ map (λ round. game_score game.world game.red game.black round seed) rounds ++ drop (length rounds) scores
   pub seen : new_ants ≡ ants_after game.world game.red game.black seed rounds ++ drop (length rounds * ids) ants
 
--- the caller's rooms are too small for the scores or the ants of so many rounds
+-- the caller's rooms are too small for the scores or the ants of this many rounds
 abbrev pub AreFew : ℕ → ℕ → List AntsScore → List AntsAnt → Type 0
 AreFew rounds ids scores ants = (length scores < rounds) ⊎ (length ants < rounds * ids)

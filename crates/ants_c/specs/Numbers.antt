@@ -1,4 +1,4 @@
--- The numbers of faults: each kind has one, which stays (this project's own).
+-- The numbers of faults: each kind has one, which never changes (this project's own).
 use Rattle.std.specs.Prelude.{ℕ}
 use Rattle.ant_asm.specs.declared.fault.AsmFault.{AsmFault}
 use Rattle.ant_asm.specs.declared.fault.AsmFault.TheVariants as labelled
@@ -25,7 +25,7 @@ bare kind = record { kind = kind; line = 0; column = 0; number = 0 }
 abbrev pub at_line : ℕ → ℕ → Numbers
 at_line kind line = record { kind = kind; line = line; column = 0; number = 0 }
 
--- of a world's fault: its kind, its row and column, or the number of ants
+-- the numbers of a world's fault: its kind, its row and column, or the number of ants
 abbrev pub world_numbers : WorldFault → Numbers
 world_numbers world.BadWidth = bare 10
 world_numbers world.BadHeight = bare 11
@@ -38,7 +38,7 @@ world_numbers (world.OpenRim x y) = record { kind = 17; line = y; column = x; nu
 world_numbers (world.TooManyAnts count) = record { kind = 18; line = 0; column = 0; number = count }
 world_numbers world.OutOfMemory = bare 0
 
--- of a brain's fault: its kind and line, and the state that is not there
+-- the numbers of a brain's fault: its kind and line, and the missing state
 abbrev pub brain_numbers : BrainFault → Numbers
 brain_numbers (brain.BadByte line) = at_line 20 line
 brain_numbers (brain.UnknownWord line) = at_line 21 line
@@ -50,7 +50,7 @@ brain_numbers brain.Empty = bare 26
 brain_numbers (brain.NoSuchState line state) = record { kind = 27; line = line; column = 0; number = state }
 brain_numbers brain.OutOfMemory = bare 0
 
--- of a labelled program's fault: its kind and line
+-- the numbers of a labelled program's fault: its kind and line
 abbrev pub labelled_numbers : AsmFault → Numbers
 labelled_numbers (labelled.BadByte line) = at_line 30 line
 labelled_numbers (labelled.UnknownWord line) = at_line 31 line
@@ -68,13 +68,13 @@ labelled_numbers labelled.Empty = bare 42
 labelled_numbers (labelled.NoLabel line) = at_line 43 line
 labelled_numbers labelled.OutOfMemory = bare 0
 
--- of a save's fault: its kind and line
+-- the numbers of a save's fault: its kind and line
 abbrev pub save_numbers : SaveFault → Numbers
 save_numbers (save.BadLine line) = at_line 50 line
 save_numbers save.BadState = bare 51
 save_numbers save.OutOfMemory = bare 0
 
--- of the fault of a list of breaks: its kind and line
+-- the numbers of the fault of a list of breaks: its kind and line
 abbrev pub break_numbers : BreakFault → Numbers
 break_numbers (breaks.UnknownWord line) = at_line 70 line
 break_numbers (breaks.MissingToken line) = at_line 71 line
@@ -83,7 +83,7 @@ break_numbers (breaks.ExtraToken line) = at_line 73 line
 break_numbers (breaks.TooMany line) = at_line 74 line
 break_numbers breaks.OutOfMemory = bare 0
 
--- of the fault of any other text
+-- the numbers of the fault of any other text
 abbrev pub text_numbers : TextFault → Numbers
 text_numbers TooLong = bare 1
 text_numbers (World why) = world_numbers why
@@ -92,7 +92,7 @@ text_numbers (Labelled why) = labelled_numbers why
 text_numbers (Save why) = save_numbers why
 text_numbers (AlreadyAt round) = record { kind = 52; line = 0; column = 0; number = round }
 
--- of what is wrong with a text, or the element of a world that has no room
+-- the numbers of what is wrong with a text, or of the element of a world that has no room
 abbrev pub numbers_of : CallFault → Numbers
 numbers_of (File (Text fault)) = text_numbers fault
 numbers_of (File (Breaks fault)) = break_numbers fault

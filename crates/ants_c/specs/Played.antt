@@ -11,11 +11,11 @@ use Rattle.world_read.specs.Opened.{IsOpeningWorld}
 use Rattle.ants_c.specs.declared.score.AntsScore.{AntsScore}
 use Rattle.ants_c.specs.declared.read.Setting.{Setting}
 
--- a status is one of these: done, a number beyond its limits, no room, refused, out of memory
+-- a status is one of these: done, a number outside its limits, no room, refused, out of memory
 abbrev pub IsStatus : ℕ → Type 0
 IsStatus status = (status ≡ 0) ⊎ ((status ≡ 2) ⊎ ((status ≡ 4) ⊎ ((status ≡ 5) ⊎ (status ≡ 6))))
 
--- what three texts were read as
+-- the content of three texts
 pub record IsSetting (world red black : List ℕ) (setting : Setting) : Type 0 where
   pub opening : IsOpeningWorld setting.world
   pub is_world : GivesWorld world setting.world
@@ -32,12 +32,12 @@ pub record IsGame (world_text red_text black_text : List ℕ) (world : Grid) (re
 abbrev pub seen_score : Score → AntsScore
 seen_score score = record { red = score.red; black = score.black }
 
--- the score of a game by the contest's rules, of these brains on this world after so many rounds, with this seed
+-- the score of a game by the contest's rules, of these brains on this world after this many rounds, with this seed
 abbrev pub game_score : (world : Grid) (red black : List Instr) → ℕ → ℕ → AntsScore
 game_score world red black rounds seed =
     seen_score (score_of (world_after (contest_minds red black) seed (world_of world) rounds))
 
--- three texts are a game's, and the score is that after so many rounds with this seed
+-- three texts are a game's, and the score is that after this many rounds with this seed
 pub record IsScored (world_text red_text black_text : List ℕ) (seed rounds : ℕ) (score : AntsScore) : Type 0 where
   pub world : Grid
   pub red : List Instr
@@ -45,8 +45,8 @@ pub record IsScored (world_text red_text black_text : List ℕ) (seed rounds : �
   pub is_game : IsGame world_text red_text black_text world red black
   pub is_score : score ≡ game_score world red black rounds seed
 
--- three texts are a game's, and its scores stand in front of the caller's room, one for each seed in order; what is
--- behind them stays
+-- three texts are a game's, and its scores are at the front of the caller's room, one for each seed in order; what
+-- follows them is unchanged
 pub record AreScored (world_text red_text black_text : List ℕ) (seeds : List ℕ) (rounds : ℕ)
     (before after : List AntsScore) : Type 0 where
   pub world : Grid

@@ -1,4 +1,4 @@
--- What a caller is told of a refusal (this project's own).
+-- What a caller gets for a refusal (this project's own).
 use Rattle.std.specs.Prelude.{◌≡◌, ℕ, List, Result, Ok, Err}
 use Rattle.text_fault.specs.declared.stop.TextStop.{TextStop}
 use Rattle.text_fault.specs.declared.stop.TextStop.TheVariants as text
@@ -12,7 +12,7 @@ use Rattle.ants_c.specs.declared.refusal.Refusal.{Refusal}
 use Rattle.ants_c.specs.declared.refusal.Stop.{Stop}
 use Rattle.ants_c.specs.declared.refusal.Stop.TheVariants.{OutOfMemory, Refused}
 
--- a refusal in numbers: which text, those of its fault, and how many bytes its words have
+-- a refusal in numbers: which text, the numbers of its fault, and how many bytes its words have
 abbrev pub told_fault : Refusal → AntsFault
 told_fault refusal = record {
   text = refusal.text;
@@ -23,7 +23,7 @@ told_fault refusal = record {
   words = counted (fault_words refusal.fault);
 }
 
--- a refusal with this property was told: in numbers, and in words over the room for them
+-- a refusal with this property was written: in numbers, and in words over the room for them
 pub record IsTold (Why : Refusal → Type 0) (fault : AntsFault) (before after : List ℕ) : Type 0 where
   pub refusal : Refusal
   pub is : Why refusal
@@ -35,13 +35,13 @@ abbrev pub StopsAt : (Refusal → Type 0) → Stop → Type 0
 StopsAt Why OutOfMemory = Unit {0}
 StopsAt Why (Refused refusal) = Why refusal
 
--- what the text of this number was opened as, or why a call stops at it
+-- the content of the opened text with this number, or why a call stops at it
 abbrev pub numbered : {V : Type 0} → ℕ → Result V TextStop → Result V Stop
 numbered number (Ok value) = Ok value
 numbered number (Err text.OutOfMemory) = Err OutOfMemory
 numbered number (Err (text.Refused fault)) = Err (Refused (record { text = number; fault = File (Text fault) }))
 
--- what a stopped call answers, and what it does to the fault and to the room for words that the caller lent
+-- the status of a stopped call, and what the call does to the caller's fault and room for words
 abbrev pub IsStopped : Stop → ℕ → AntsFault → AntsFault → List ℕ → List ℕ → Type 0
 IsStopped OutOfMemory status fault told before after = (status ≡ 6) × (told ≡ fault) × (after ≡ before)
 IsStopped (Refused refusal) status fault told before after =

@@ -1,6 +1,6 @@
 // An ant as C sees it.
 
-/// An ant: 16 bytes. Of one that is dead all numbers are 0.
+/// An ant: 16 bytes. For a dead ant all numbers are 0.
 #[repr(C)]
 #[derive(Clone, Copy)]
 pub struct AntsAnt {
@@ -12,12 +12,12 @@ pub struct AntsAnt {
     pub column: u16,
     /// Its row, from 0.
     pub row: u16,
-    /// 1 where it is alive, else 0.
+    /// 1 if it is alive, otherwise 0.
     pub alive: u8,
     /// 0 for red, 1 for black.
     pub colour: u8,
     /// Its direction: 0 is east, 1 southeast, and so on clockwise to 5.
     pub direction: u8,
-    /// 1 where it carries food, else 0.
+    /// 1 if it carries food, otherwise 0.
     pub laden: u8,
 }

@@ -15,7 +15,7 @@ use ant_base::{Lines, OutOfMemory};
 use ant_commands::{Ended, Status, run_alone};
 use std::alloc::Global;
 
-/// The lines of a text as words; none where one isn't UTF-8.
+/// The lines of a text as words; `None` if one isn't UTF-8.
 pub fn words_of(alloc: Global, text: &[u8]) -> Result<Option<Vec<String>>, OutOfMemory>
     ensures words { IfOk result (λ found. IfSome found (λ words. texts words.items ≡ lines_of text.now)) }
     ensures none { IfOk result (λ found. IfNone found (AllByRecursion IsUtf8 (lines_of text.now) → ⊥)) }
@@ -30,7 +30,7 @@ pub fn words_of(alloc: Global, text: &[u8]) -> Result<Option<Vec<String>>, OutOf
     Ok(Some(words))
 }
 
-// Runs the program with these words over these files, into two rooms.
+// Runs the program with these words over these files, with output and errors into two rooms.
 fn run_in_rooms<'w>(
     alloc: Global,
     words: &'w [String],
@@ -51,8 +51,8 @@ fn run_in_rooms<'w>(
     run_alone(alloc, words, &mut shelf, output, errors)
 }
 
-/// How the program ran: how it ended, how many bytes it wrote and reported, and what the two rooms held with these
-/// behind.
+/// How the program ran: how it ended, how many bytes it wrote and reported, and what the two rooms held, followed by
+/// these bytes.
 #[derive(Drop)]
 pub struct Ran<'w> {
     pub ended: Ended<'w>,
@@ -73,7 +73,7 @@ pub fn has_room(ran: &Ran<'_>, out: &[u8], said: &[u8]) -> bool
     ran.used <= out_room && ran.told <= said_room
 }
 
-/// Runs the program with these words over these files, and lays what it writes and what it reports over two rooms.
+/// Runs the program with these words over these files, and writes its output and its errors over two rooms.
 pub fn lay_program<'w>(
     alloc: Global,
     words: &'w [String],

@@ -10,7 +10,7 @@ use crate::tell::told_fault;
 use ant_base::{Lines, cut_line};
 use ant_commands::{CommandStop, Ended};
 
-// The number of the first line that is this text, where the lines are counted from `first`; 0 where none is.
+// The number of the first line that equals this text, if the lines are counted from `first`; 0 if none does.
 fn number_of(first: u64, text: &str, lines: &[u8]) -> u64
     requires { first ≤ 2 }
     ensures { result ≡ number_of first text.now (lines_of lines.now) }
@@ -25,7 +25,7 @@ fn number_of(first: u64, text: &str, lines: &[u8]) -> u64
     0
 }
 
-// The number of the file of this name, among these names.
+// The number of the file with this name, among these names.
 fn file_named(name: &str, names: &[u8]) -> u32
     ensures { result ≡ file_named name.now (lines_of names.now) }
 {
@@ -41,7 +41,7 @@ fn word_naming(name: &str, words: &[u8]) -> u64
     number_of(2, name, others)
 }
 
-// A word of this number, in numbers.
+// A word with this number, in numbers.
 fn at_word(number: u64) -> AntsFault
     ensures { result ≡ at_word number }
 {
@@ -55,7 +55,7 @@ fn at_word(number: u64) -> AntsFault
     }
 }
 
-// How a run with these words over files of these names ended, in numbers, where it was refused or a file wasn't there.
+// How a run with these words over files with these names ended, in numbers, if it was refused or a file is missing.
 fn ending_fault(words: &[u8], names: &[u8], ended: Ended<'_>) -> Option<AntsFault>
     ensures { result ≡ ending_fault (lines_of words.now) (lines_of names.now) (plain_ending ended.entry) }
 {
@@ -74,8 +74,8 @@ fn ending_fault(words: &[u8], names: &[u8], ended: Ended<'_>) -> Option<AntsFaul
     }
 }
 
-/// Says how a run with these words over files of these names ended, in numbers, where it was refused or a file wasn't
-/// there.
+/// Writes how a run with these words over files with these names ended, in numbers, if it was refused or a file is
+/// missing.
 pub fn tell_ending(words: &[u8], names: &[u8], ended: Ended<'_>, fault: &mut AntsFault)
     ensures { fault.new ≡ unwrap_or (ending_fault (lines_of words.now) (lines_of names.now) (plain_ending ended.entry)) fault.old }
 {

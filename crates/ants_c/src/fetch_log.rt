@@ -1,4 +1,4 @@
-// What a shelf was asked for and answered. It exists in clauses alone.
+// What was fetched from a shelf, with the answers. It exists only in clauses.
 ghost use Rattle.std.specs.Prelude.{◌≡◌, ◌++◌, List, [], ◌∷◌};
 ghost use Rattle.std.specs.Borrow.{ftrue};
 ghost use Rattle.ant_base.specs.Fetched.{Fetched, fetched};
@@ -7,7 +7,7 @@ ghost use Rattle.ants_c.specs.Inner.Fetches.{noted_fetch};
 use ant_base::FetchFault;
 use std::marker::Model;
 
-// All fetches with their answers, the first first. It takes no memory.
+// All fetches with their answers, in order. It takes no memory.
 #[derive(Drop)]
 pub(crate) struct FetchLog {
     pub ghost fetches: { List Fetched },
@@ -17,7 +17,7 @@ impl Model for FetchLog {
     ghost also_owns = { λ _. ftrue };
 }
 
-// A fetch that a log gets: the name, and what was answered.
+// A fetch that is added to a log: the name and the answer.
 #[derive(Clone, Copy, Drop)]
 enum Note<'n> {
     Content(&'n str, &'n [u8]),
@@ -31,14 +31,14 @@ impl FetchLog {
         FetchLog {}
     }
 
-    // The log with one fetch more. Its body does nothing: ghost data is set by a proof.
+    // The log with one more fetch. Its body does nothing: ghost data is set by a proof.
     fn with(&self, _note: &Note<'_>) -> FetchLog
         ensures { result.fetches ≡ self.now.fetches ++ noted_fetch _note.now ∷ [] }
     {
         FetchLog {}
     }
 
-    // Notes what a fetch of this name answered.
+    // Notes the answer to a fetch of this name.
     pub(crate) fn note(&mut self, name: &str, answer: &Result<Vec<u8>, FetchFault>)
         ensures { self.new.fetches ≡ self.old.fetches ++ fetched name.now answer.now ∷ [] }
     {

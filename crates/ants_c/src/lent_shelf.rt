@@ -13,7 +13,7 @@ use ant_base::{FetchFault, LONGEST, Shelf, cut_line};
 use std::alloc::Global;
 use std::marker::Model;
 
-/// Whether these lines are names in UTF-8, with a size for each, and the sizes make up all bytes.
+/// Whether these lines are names in UTF-8, with a size for each, and the sizes add up to the number of bytes.
 pub fn are_files(names: &[u8], sizes: &[u32], bytes: &[u8]) -> bool
     ensures all { result ≡ true → AreFiles (lines_of names.now) sizes.now bytes.now }
     ensures none { result ≡ false → AreFiles (lines_of names.now) sizes.now bytes.now → ⊥ }
@@ -39,7 +39,8 @@ pub fn are_files(names: &[u8], sizes: &[u32], bytes: &[u8]) -> bool
     true
 }
 
-// The bytes of the first file of this name: the names are lines, and each takes as many of the bytes as its size says.
+// The bytes of the first file with this name: the names are lines, and each file has the number of bytes that its size
+// says.
 fn content<'f>(names: &[u8], sizes: &[u32], bytes: &'f [u8], name: &str) -> Option<&'f [u8]>
     ensures { option_copied result ≡ content_of (files_in (lines_of names.now) sizes.now bytes.now) name.now }
 {
@@ -70,9 +71,9 @@ fn copied(alloc: Global, content: &[u8]) -> Result<Vec<u8>, FetchFault>
     Ok(content.to_vec(alloc)?)
 }
 
-/// A shelf of the caller's files (this project's own). It reads them where they lie, and copies a file when it is
-/// fetched. It is sure of each name that it has, and a fetch of any other name fails. The count of faults stops at the
-/// last value of a u64.
+/// A shelf of the caller's files (this project's own). It reads them in the caller's memory, and copies a file when it
+/// is fetched. It is sure of each name that it has, and a fetch of any other name fails. The count of faults stays at
+/// the largest `u64`.
 #[derive(Drop)]
 pub struct LentShelf<'f> {
     names: &'f [u8],
@@ -94,7 +95,7 @@ impl<'f> Model for LentShelf<'f> {
 }
 
 impl<'f> LentShelf<'f> {
-    /// A shelf of these files, of which nothing was fetched.
+    /// A shelf of these files, from which nothing was fetched.
     pub fn new(names: &'f [u8], sizes: &'f [u32], bytes: &'f [u8]) -> Self
         ensures { result ≡ record { files = files_in (lines_of names.now) sizes.now bytes.now; failing = []; calls = 0; faults = 0; log = [] } }
     {
@@ -117,7 +118,7 @@ impl<'f> LentShelf<'f> {
         FetchFault::Failed
     }
 
-    // What the next fetch of this name answers.
+    // The answer to the next fetch of this name.
     fn answer(&mut self, alloc: Global, name: &str) -> Result<Vec<u8>, FetchFault>
         ensures shelf { Fetches (shelf_of self.old) (shelf_of (noted self.new (fetched name.now result))) name.now result }
         ensures kept { self.new ≡ record self.old { faults = self.new.faults } }

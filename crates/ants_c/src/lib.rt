@@ -1,11 +1,11 @@
 //! The simulator for programs in C, Python, Rust and other languages: a static library, whose exports have contracts.
 //!
-//! Each export takes texts as bytes and writes its answer into room that the caller lends. None keeps anything. A
-//! caller owes the ten duties that ants.h lists. Besides these no export has a precondition: a wrong number, text or
-//! word is a status. The statuses are the program's: 0 done, 2 a number beyond its limits, 4 the room is too small, 5 a
+//! Each export takes texts as bytes and writes its results into memory of the caller. None keeps anything. A caller
+//! owes the ten duties that ants.h lists. Apart from these no export has a precondition: a wrong number, text or word
+//! gives a status. The statuses are the program's: 0 done, 2 a number outside its limits, 4 the room is too small, 5 a
 //! text is refused, 6 out of memory. `ants_call`, which runs every command of the program, also returns 1 if its
-//! arguments can't be read, 2 if the words are not a command, and 3 if a file isn't there. What names no section of the
-//! contest's task is this project's own. This crate builds on the readers, on `match_run` and on `ant_commands`.
+//! arguments can't be read, 2 if the words are not a command, and 3 if a file is missing. Whatever names no section of
+//! the contest's task is this project's own. This crate depends on the readers, on `match_run` and on `ant_commands`.
 #![tactic(auto)]
 
 ghost use Rattle.std.specs.Prelude.{◌≡◌, ◌⊎◌, ◌↔◌, ◌<◌, ◌≤◌, length};

@@ -51,7 +51,7 @@ fn dead() -> AntsAnt
     }
 }
 
-// The ant of an id.
+// The ant with an id.
 fn seen_ant(world: &World, id: u32) -> AntsAnt
     ensures { result ≡ seen_ant (world_of world.now) id }
 {
@@ -73,7 +73,7 @@ fn seen_ant(world: &World, id: u32) -> AntsAnt
     }
 }
 
-// Puts the ants of all ids into a room that has one place for each.
+// Writes the ants of all ids into a room that has one place for each.
 fn put_ants(world: &World, room: &mut [AntsAnt])
     requires fits { length room.old ≡ world.now.ids }
     ensures { room.new ≡ seen_ants (world_of world.now) }
@@ -83,7 +83,7 @@ fn put_ants(world: &World, room: &mut [AntsAnt])
     }
 }
 
-/// Plays a game and puts its score and its ants after each of these rounds into rooms that have places for them.
+/// Plays a game and writes its score and its ants after each of these rounds into rooms that have places for them.
 pub fn put_looks(
     setting: Setting,
     seed: u32,

@@ -11,7 +11,7 @@ use match_save::SaveFault;
 use text_fault::TextFault;
 use world_read::WorldFault;
 
-/// What is told of a fault in numbers: its kind, a line or row, a column, and a number more.
+/// The numbers of a fault: its kind, a line or row, a column, and one more number.
 #[derive(Clone, Copy)]
 pub struct Numbers {
     pub kind: u32,

@@ -13,7 +13,7 @@ use cell_world::World;
 use std::alloc::Global;
 use text_fault::TextStop;
 
-/// What three texts were read as.
+/// The content of three texts.
 #[derive(Drop)]
 pub struct Setting {
     pub world: World,
@@ -21,7 +21,7 @@ pub struct Setting {
     pub black: Brain,
 }
 
-// What the text of this number was opened as, or why a call stops at it.
+// The content of the opened text with this number, or why a call stops at it.
 fn numbered<T>(number: u32, opened: Result<T, TextStop>) -> Result<T, Stop>
     ensures { result ≡ numbered number opened }
 {
@@ -45,7 +45,7 @@ fn open_world(alloc: Global, text: &[u8]) -> Result<World, Stop>
     numbered(1, text_fault::open_world(alloc, text))
 }
 
-// The brain of a text, which has this number.
+// The brain of the text with this number.
 #[tactic(auto, using(crate::proofs::Stops::numbered_ok, crate::proofs::Stops::gives, crate::proofs::Stops::numbered_stops))]
 fn open_brain(alloc: Global, number: u32, text: &[u8]) -> Result<Brain, Stop>
     ensures brain { IfOk result (GivesBrain text.now) }

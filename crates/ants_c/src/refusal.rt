@@ -25,7 +25,8 @@ impl Layout for CallFault {
     }
 }
 
-/// A text, by its number among those that were passed, from 1, and what is wrong with it; 0 is no text.
+/// A text, by its number among those that were passed, from 1, and what is wrong with it; 0 means that it isn't about a
+/// text.
 #[derive(Clone, Copy)]
 pub struct Refusal {
     pub text: u32,
@@ -35,7 +36,7 @@ pub struct Refusal {
 /// Why texts were not read.
 #[derive(Clone, Copy)]
 pub enum Stop {
-    /// Memory could not be had.
+    /// Memory ran out.
     OutOfMemory,
     /// A text was refused.
     Refused(Refusal),

@@ -1,10 +1,10 @@
-// What a room held before a call, and what was pushed. It exists in clauses alone.
+// What a room held before a call, and what was pushed. It exists only in clauses.
 ghost use Rattle.std.specs.Prelude.{◌≡◌, ◌++◌, ℕ, List, []};
 ghost use Rattle.std.specs.Borrow.{ftrue};
 
 use std::marker::Model;
 
-// What a room held, and then all that was pushed over it. It takes no memory.
+// What a room held, followed by all that was pushed over it. It takes no memory.
 #[derive(Drop)]
 pub(crate) struct RoomLog {
     pub ghost bytes: { List ℕ },
@@ -14,7 +14,7 @@ impl Model for RoomLog {
     ghost also_owns = { λ _. ftrue };
 }
 
-// Bytes that a log gets.
+// Bytes that are added to a log.
 #[derive(Clone, Copy, Drop)]
 struct Piece<'p>(&'p [u8]);
 
@@ -25,7 +25,7 @@ impl RoomLog {
         RoomLog {}
     }
 
-    // The log with one piece more. Its body does nothing: ghost data is set by a proof.
+    // The log with one more piece. Its body does nothing: ghost data is set by a proof.
     fn with(&self, _piece: &Piece<'_>) -> RoomLog
         ensures { result.bytes ≡ self.now.bytes ++ _piece.now.0.now }
     {

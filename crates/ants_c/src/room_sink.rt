@@ -5,8 +5,8 @@ ghost use Rattle.ants_c.specs.Rooms.{IsLaid, overlaid};
 use crate::room_log::RoomLog;
 use ant_base::{Failed, Sink};
 
-/// A sink that lays what is pushed over the caller's room, as far as the room goes, and counts all of it (this
-/// project's own). No push fails. The count stays at the last value of a usize.
+/// A sink that writes what is pushed over the caller's room, as far as the room goes, and counts all of it (this
+/// project's own). No push fails. The count stays at the largest `usize`.
 #[derive(Drop)]
 pub struct RoomSink<'o> {
     room: &'o mut [u8],
@@ -15,7 +15,7 @@ pub struct RoomSink<'o> {
     pub ghost laid: { IsLaid room.now pushed log.bytes },
 }
 
-// Lays a piece over the room from its front on, as far as the room goes.
+// Writes a piece over the front of the room, as far as the room goes.
 #[tactic(auto, using(crate::proofs::Overlaid::front_laid))]
 fn cover(room: &mut [u8], piece: &[u8])
     ensures { room.new ≡ overlaid room.old piece.now }
@@ -24,7 +24,7 @@ fn cover(room: &mut [u8], piece: &[u8])
     room[..fitting].copy_from_slice(&piece[..fitting]);
 }
 
-// Lays a piece over the room from a place on, as far as the room goes.
+// Writes a piece over the room from a place on, as far as the room goes.
 fn cover_from(room: &mut [u8], from: usize, piece: &[u8])
     ensures laid { room.new ≡ take from room.old ++ overlaid (drop from room.old) piece.now }
     ensures short { length room.old < 2 ^ 64 }
@@ -48,7 +48,7 @@ impl<'o> RoomSink<'o> {
         }
     }
 
-    /// What the room held, and then all that was pushed.
+    /// What the room held, followed by all that was pushed.
     pub(crate) fn log(&self) -> RoomLog
         ensures { result.bytes ≡ self.now.log.bytes }
     {

@@ -6,10 +6,10 @@ pub const DONE: u32 = 0;
 /// The words of a command, or the names and sizes of its files, can't be read.
 pub const UNREADABLE: u32 = 1;
 
-/// A number is beyond its limits, or the words are not a command.
+/// A number is outside its limits, or the words are not a command.
 pub const NUMBER: u32 = 2;
 
-/// A file that the words of a command name isn't there.
+/// The words of a command name a file that is missing.
 pub const NO_FILE: u32 = 3;
 
 /// The caller's room is too small.

@@ -1,4 +1,4 @@
-// What a call answers where it stops.
+// The results of a call that stops.
 ghost use Rattle.std.specs.Prelude.{◌≡◌, ◌⊎◌};
 ghost use Rattle.ants_c.specs.Rooms.{counted, overlaid};
 ghost use Rattle.ants_c.specs.Told.{IsStopped, told_fault};
@@ -10,7 +10,7 @@ use crate::refusal::{Refusal, Stop};
 use crate::status::{MEMORY, REFUSED};
 use crate::texts::lay;
 
-// The numbers of a refusal whose words have so many bytes.
+// The numbers of a refusal whose words have this many bytes.
 fn fault_of(refusal: Refusal, size: usize) -> AntsFault
     requires { size ≡ counted (fault_words refusal.fault) }
     ensures { result ≡ told_fault refusal }
@@ -34,7 +34,7 @@ pub fn told_fault(refusal: Refusal) -> AntsFault
     fault_of(refusal, size)
 }
 
-// Tells a refusal: its numbers, and its words in the room for them.
+// Writes a refusal: its numbers, and its words into the room for them.
 fn tell(refusal: Refusal, fault: &mut AntsFault, words: &mut [u8])
     ensures fault { fault.new ≡ told_fault refusal }
     ensures words { words.new ≡ overlaid words.old (fault_words refusal.fault) }
@@ -43,7 +43,8 @@ fn tell(refusal: Refusal, fault: &mut AntsFault, words: &mut [u8])
     *fault = fault_of(refusal, size);
 }
 
-/// Says why texts were not read: the status; and of a refused text the numbers and the words of its fault.
+/// Writes why texts were not read, and returns the status; for a refused text, it writes the numbers and the words of
+/// its fault.
 pub fn stopped(stop: Stop, fault: &mut AntsFault, words: &mut [u8]) -> u32
     ensures ended { (result ≡ 5) ⊎ (result ≡ 6) }
     ensures stopped { IsStopped stop result fault.old fault.new words.old words.new }

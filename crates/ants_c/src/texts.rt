@@ -1,4 +1,4 @@
-// Texts that are laid over the caller's room.
+// Texts that are written over the caller's room.
 ghost use Rattle.std.specs.Prelude.{◌≡◌};
 ghost use Rattle.ants_c.specs.Rooms.{IsPut, Writes, counted, overlaid, room_status};
 
@@ -6,7 +6,7 @@ use crate::room_sink::RoomSink;
 use crate::status::{DONE, NO_ROOM};
 use ant_base::Layout;
 
-/// Lays the text of a value over the room, as far as the room goes, and says how many bytes it has.
+/// Writes the text of a value over the room, as far as the room goes, and returns how many bytes it has.
 pub fn lay<L: Layout>(value: &L, room: &mut [u8]) -> usize
     ensures room { room.new ≡ overlaid room.old (L.text value.now) }
     ensures size { result ≡ counted (L.text value.now) }
@@ -16,7 +16,7 @@ pub fn lay<L: Layout>(value: &L, room: &mut [u8]) -> usize
     sink.pushed()
 }
 
-/// The status of a text of so many bytes that was laid over the room.
+/// The status of a text of this many bytes that was written over the room.
 pub fn status_of(size: usize, room: &[u8]) -> u32
     ensures status { result ≡ room_status size room.now }
     ensures either { Writes result }
@@ -24,7 +24,7 @@ pub fn status_of(size: usize, room: &[u8]) -> u32
     if size <= room.len() { DONE } else { NO_ROOM }
 }
 
-/// Lays the text of a value over the caller's room, says how many bytes it has, and gives the status.
+/// Writes the text of a value over the caller's room and its length into `used`, and returns the status.
 pub fn put<L: Layout>(value: &L, out: &mut [u8], used: &mut usize) -> u32
     ensures put { IsPut (L.text value.now) out.old out.new used.new result }
     ensures status { Writes result }

@@ -1,7 +1,7 @@
 // What no clause says: that commands succeed, and the exact bytes that they write. Each file has tables of cases, and a
-// loop for each. A table with commands in it is a `static`, and so is a command that a function varies: where they are
-// constants, a function builds them piece by piece. The texts of one `static` are proved together, and what that costs
-// grows with the square of their length: so a long table is one of its own, or several.
+// loop for each. A table with commands in it is a `static`, and so is a command that a function varies: if they were
+// constants, a function would build them piece by piece. The texts of one `static` are proved together, and the cost of
+// that grows with the square of their length. So a long table is a `static` of its own, or several.
 mod acts;
 mod assembled;
 mod brains;
@@ -39,12 +39,12 @@ const ROOM: u64 = 2000000;
 // One red ant between rocks.
 const CLOSED: &str = "3\n3\n# # #\n # + #\n# # #\n";
 
-// A red ant among four black ones, a fifth about to come.
+// A red ant among four black ones, with a fifth about to arrive.
 const CLOSING: &str =
     "7\n6\n# # # # # # #\n # . . . . . #\n# . . - # . #\n # - . + - # #\n# + . - - # #\n # # # # # # #\n";
 
 // A command over a world in the files w and -, a red brain in r, a black one in b, breaks in k, and more files by name;
-// the fetch and the push to out that fail, if there are calls of these numbers; and the room of out and of err, in
+// the fetch and the push to out that fail, if there are calls with these numbers; and the room of out and of err, in
 // bytes.
 #[derive(Clone, Copy, Debug)]
 struct Job<'t> {
@@ -76,7 +76,7 @@ const NO_JOB: Job<'static> = Job {
 
 static EMPTY_JOB: Job<'static> = NO_JOB;
 
-// The command of these words, over a world and two brains.
+// The command with these words, over a world and two brains.
 fn game_of<'t>(line: &'t str, world: &'t str, red: &'t str, black: &'t str) -> Job<'t> {
     game_with(line, world, red, black, "")
 }
@@ -98,7 +98,7 @@ fn game_with<'t>(
     job
 }
 
-// What came of a command.
+// The result of a command.
 #[derive(Drop)]
 struct Outcome {
     status: Status,
@@ -111,7 +111,7 @@ fn text_held(alloc: Global, sink: &MemSink) -> Result<String, Fail> {
     Ok(String::from_str(alloc, str::from_utf8(sink.held())?)?)
 }
 
-// What came of a command with this status, whose output and errors went to these sinks.
+// The result of a command with this status, whose output and errors were pushed to these sinks.
 fn outcome_of(
     alloc: Global,
     status: Status,
@@ -206,7 +206,7 @@ fn answer_on<R: Threads + Wait + Sync, G: Gate>(
     answer_from(rt, alloc, job, &words, shelf, gate)
 }
 
-// Carries out the command of these words over the files of a shelf.
+// Carries out the command with these words over the files of a shelf.
 fn answer_from<R: Threads + Wait + Sync, G: Gate>(
     rt: &R,
     alloc: Global,
@@ -273,7 +273,7 @@ fn ending_of(outcome: &Outcome) -> Ending<'_> {
     }
 }
 
-// Asserts what comes of a command.
+// Asserts the result of a command.
 fn check<R: Threads + Wait + Sync + Abort>(
     rt: &R,
     alloc: Global,
@@ -283,7 +283,7 @@ fn check<R: Threads + Wait + Sync + Abort>(
     check_by(rt, alloc, job, &NoGate, wanted)
 }
 
-// Asserts what comes of a command whose workers call this gate.
+// Asserts the result of a command whose workers call this gate.
 fn check_by<R: Threads + Wait + Sync + Abort, G: Gate>(
     rt: &R,
     alloc: Global,
@@ -294,7 +294,7 @@ fn check_by<R: Threads + Wait + Sync + Abort, G: Gate>(
     check_over(rt, alloc, job, files_of(alloc, job)?, gate, wanted)
 }
 
-// Asserts what comes of a command over these files, whose workers call this gate.
+// Asserts the result of a command over these files, whose workers call this gate.
 fn check_over<R: Threads + Wait + Sync + Abort, G: Gate>(
     rt: &R,
     alloc: Global,
@@ -313,7 +313,7 @@ fn check_ending<R: Abort>(rt: &R, job: &Job<'_>, ending: Ending<'_>, wanted: End
     assert_eq!(rt; ending, wanted, "at {job:?}");
 }
 
-// How a text begins, some of its lines in their order, others between them, and how it ends.
+// The beginning of a text, some of its lines in order, perhaps with others between them, and its end.
 #[derive(Clone, Copy, Debug)]
 struct Told<'t> {
     start: &'t str,
@@ -321,7 +321,7 @@ struct Told<'t> {
     end: &'t str,
 }
 
-// Whether the lines of `wanted` are lines of `text`, in this order, others between them.
+// Whether the lines of `wanted` are lines of `text`, in this order, perhaps with others between them.
 fn has_lines(text: &str, wanted: &str) -> bool {
     let mut lines = text.split('\n');
     for line in wanted.split_terminator('\n') {
@@ -332,7 +332,7 @@ fn has_lines(text: &str, wanted: &str) -> bool {
     true
 }
 
-// Whether a text is told so.
+// Whether a text fits this description.
 fn is_told(text: &str, told: &Told<'_>) -> bool {
     if !text.starts_with(told.start) {
         return false;
@@ -343,7 +343,7 @@ fn is_told(text: &str, told: &Told<'_>) -> bool {
     has_lines(text, told.lines)
 }
 
-// Asserts that a command is done, and how its text is told.
+// Asserts that a command is done, and that its text fits.
 fn check_text<R: Threads + Wait + Sync + Abort>(
     rt: &R,
     alloc: Global,
@@ -355,7 +355,7 @@ fn check_text<R: Threads + Wait + Sync + Abort>(
     Ok(())
 }
 
-// Asserts that a command that ended so is done, and how its text is told.
+// Asserts that a command with this ending is done, and that its text fits.
 fn check_told<R: Abort>(rt: &R, job: &Job<'_>, ending: Ending<'_>, told: &Told<'_>) {
     check_ending(rt, job, ending, done(ending.out));
     assert!(rt; is_told(ending.out, told), "{told:?} of {job:?}");
@@ -386,7 +386,7 @@ impl<'t> Job<'t> {
     }
 }
 
-// Asserts what comes of a command with this text in one of its places.
+// Asserts the result of a command with this text in one of its places.
 fn check_with<R: Threads + Wait + Sync + Abort>(
     rt: &R,
     alloc: Global,
@@ -398,8 +398,8 @@ fn check_with<R: Threads + Wait + Sync + Abort>(
     check(rt, alloc, &job.with(given, text), wanted)
 }
 
-// A table of rows: each has a text in one of the places of a command, and what the output gets at Done, and else the
-// errors.
+// A table of rows: each has a text in one of the places of a command, and what the output gets at Done, otherwise what
+// the errors get.
 #[derive(Clone, Copy)]
 struct Table<'t> {
     job: Job<'t>,
@@ -408,7 +408,7 @@ struct Table<'t> {
     rows: &'t [(&'t str, &'t str)],
 }
 
-// Asserts of each row of a table what comes of its command.
+// Asserts the result of the command for each row of a table.
 fn check_rows<R: Threads + Wait + Sync + Abort>(
     rt: &R,
     alloc: Global,
@@ -421,7 +421,7 @@ fn check_rows<R: Threads + Wait + Sync + Abort>(
     Ok(())
 }
 
-// Asserts of each row of each table what comes of its command.
+// Asserts the result of the command for each row of each table.
 fn check_tables<R: Threads + Wait + Sync + Abort>(
     rt: &R,
     alloc: Global,
@@ -441,7 +441,7 @@ struct CutRun<'t> {
     line: &'t str,
 }
 
-// Asserts of each command that its output fails so.
+// Asserts that the output of each command fails in this way.
 fn check_cuts<R: Threads + Wait + Sync + Abort>(
     rt: &R,
     alloc: Global,

@@ -1,4 +1,4 @@
-// Each file has tests of one library, by what it calls; some libraries have several files.
+// Each file has tests of one library, named after what it calls; some libraries have several files.
 mod boards;
 mod cups;
 mod faults;
@@ -17,7 +17,7 @@ ghost use Rattle.std.specs.Prelude.{◌≡◌};
 
 use cell_world::Kind;
 
-// The kinds of which the worlds of tests are made.
+// The kinds from which the worlds of tests are built.
 const ROCK: Kind = Kind::Rock;
 
 const CLEAR: Kind = Kind::Clear;
@@ -26,7 +26,7 @@ const RED: Kind = Kind::RedHill;
 
 const BLACK: Kind = Kind::BlackHill;
 
-// What may be lent to threads and handed to them.
+// A value that may be borrowed by threads and passed to them.
 fn shared<T: Send + Sync>(value: &T) -> &T
     ensures { result.now ≡ value.now }
 {

@@ -1,8 +1,8 @@
-//! Makes the looks at a whole round of a game's first world, as many times as it is asked to, and throws them away.
+//! Makes the looks at a whole round of a game's first world, the requested number of times, and drops them.
 //!
-//! The words are the files of a world, a red and a black brain, and how many times, at least once. It prints how many
-//! looks a round has, and how many of them draw a random number. What a look costs is the difference between a run of
-//! many times and one of few, divided by the looks. It is this project's own.
+//! The words are the files of a world, a red and a black brain, and the number of times, at least 1. It prints how many
+//! looks a round has, and how many of them draw a random number. The cost of a look is the difference between a run of
+//! many times and one of few, divided by the number of looks. It is this project's own.
 #![tactic(auto)]
 
 ghost use Rattle.std.specs.Prelude.{◌≡◌, ◌≤◌, length, IfSome};
@@ -25,7 +25,7 @@ use world_read::read_world;
 
 const SEED: u32 = 12345;
 
-// The most times that may be asked for.
+// The most times that may be requested.
 const MOST_TIMES: u64 = 9_999_999_999;
 
 // The bytes of a file, if it could be fetched.
@@ -50,7 +50,7 @@ fn brain_in<S: Shelf>(alloc: Global, shelf: &mut S, name: &str) -> Option<Brain>
     read_brain(alloc, &bytes).ok()
 }
 
-// Makes the look at each turn of a round, one after another in one room; answers how many of them draw.
+// Makes the look at each turn of a round, one after another in one room; returns how many of them draw.
 fn look_at_all(world: &World, brains: Brains<'_>) -> u64
     requires { Fits (world_of world.now) (minds_of brains) }
     ensures { result ≡ guess (minds_of brains.entry) (world_of world.now) 0 0 world.now.ids }
@@ -67,7 +67,7 @@ fn look_at_all(world: &World, brains: Brains<'_>) -> u64
     stream.place()
 }
 
-// The same on a world as a game begins, so many times; answers how many looks of the last time draw.
+// The same on an opening world, this many times; returns how many looks of the last time draw.
 fn look_often(world: &World, brains: Brains<'_>, times: u64) -> u64
     requires { IsOpeningWorld world.now }
 {
@@ -80,8 +80,8 @@ fn look_often(world: &World, brains: Brains<'_>, times: u64) -> u64
     drawn
 }
 
-// Makes the looks at the world and the brains of these files, so many times; answers how many looks there are, and how
-// many of them draw.
+// Makes the looks at the world and the brains of these files, this many times; returns how many looks there are, and
+// how many of them draw.
 fn look_at_files<S: Shelf>(
     alloc: Global,
     shelf: &mut S,

@@ -1,4 +1,4 @@
--- A brain that is made of instructions (this project's own; a small one of the task's neurology).
+-- A brain that is built from instructions (this project's own; a small one of the task's neurology).
 use Rattle.std.specs.Prelude.{List, [], ◌∷◌}
 use Rattle.hex_geometry.specs.declared.direction.Side.TheVariants.{Left}
 use Rattle.hex_geometry.specs.declared.neighbourhood.Sight.TheVariants.{Here}
@@ -6,7 +6,7 @@ use Rattle.brain_read.specs.declared.instr.Cond.TheVariants.{Home}
 use Rattle.brain_read.specs.declared.instr.Instr.{Instr}
 use Rattle.brain_read.specs.declared.instr.Instr.TheVariants.{Sense, PickUp, Drop, Turn, Move}
 
--- it leaves food at home, takes it elsewhere, and turns where the way ends; states 3 and 5 do the same
+-- it leaves food at home, takes it elsewhere, and turns at the end of the way; states 3 and 5 do the same
 unfoldable pub fetcher : List Instr
 fetcher =
     Sense Here 1 2 Home ∷

@@ -1,4 +1,4 @@
--- What comes of a file: it is fetched once, and its bytes are those of a world or of a brain, or it is refused (this
+-- The result for a file: it is fetched once, and its bytes are those of a world or of a brain, or it is refused (this
 -- project's own).
 use Rattle.std.specs.Prelude.{◌≡◌, ℕ, ◌≤◌, List, [], ◌∷◌, ◌++◌, length, Result, Ok, Err, Vec, codes}
 use Rattle.ant_base.specs.Fetched.{Fetched}
@@ -19,16 +19,16 @@ use Rattle.sample_caller.specs.declared.refusal.FileFault.{FileFault}
 use Rattle.sample_caller.specs.declared.refusal.FileFault.TheVariants.{Fetch, Text}
 use Rattle.sample_caller.specs.declared.refusal.Refusal.{Refusal}
 
--- what a file's fault says
+-- the text of a file's fault
 abbrev pub file_fault_text : FileFault → List ℕ
 file_fault_text (Fetch fault) = fetch_fault_text fault
 file_fault_text (Text stop) = text_stop_text stop
 
--- what is said of a refused file: its name, and what its fault says
+-- the text for a refused file: its name, and the text of its fault
 abbrev pub refusal_text : List ℕ → FileFault → List ℕ
 refusal_text name fault = name +++ codes ": " +++ file_fault_text fault
 
--- one fetch more stands in the log: it is of this name, and was answered so
+-- one more fetch is in the log: it is of this name, with this answer
 abbrev pub IsFetched : List Fetched → List Fetched → List ℕ → Result (List ℕ) FetchFault → Type 0
 IsFetched log new_log name answer = new_log ≡ log ++ record { name = name; answer = answer } ∷ []
 
@@ -39,18 +39,18 @@ pub record IsUnfetched (log new_log : List Fetched) (name : List ℕ) (refusal :
   pub named : refusal.name.now ≡ name
   pub fault : refusal.fault ≡ Fetch why
 
--- a file was fetched: its bytes, or the refusal for want of them
+-- a file was fetched: its bytes, or the refusal if there are none
 abbrev pub FetchesFile : {A : Type 0} → List Fetched → List Fetched → List ℕ → Result (Vec ℕ A) Refusal → Type 0
 FetchesFile log new_log name (Ok bytes) = IsFetched log new_log name (Ok bytes.items) × (length bytes.items ≤ longest)
 FetchesFile log new_log name (Err refusal) = IsUnfetched log new_log name refusal
 
--- what bytes were opened as; or the refusal of the file of this name, since they weren't
+-- what bytes were opened as; or the refusal of the file with this name, if they weren't
 abbrev pub IsNamed : {V : Type 0} → List ℕ → Result V TextStop → Result V Refusal → Type 0
 IsNamed name (Ok value) (Ok named) = named ≡ value
 IsNamed name (Err stop) (Err refusal) = (refusal.name.now ≡ name) × (refusal.fault ≡ Text stop)
 IsNamed name opened result = ⊥
 
--- what comes of a file: it was not fetched, or its bytes were opened
+-- the result for a file: it was not fetched, or its bytes were opened
 pub data ReadsFile {V : Type 0} (Is : List ℕ → V → Type 0) (Wrong : List ℕ → TextFault → Type 0)
     (log new_log : List Fetched) (name : List ℕ) : Result V Refusal → Type 0 where
   Unfetched : (refusal : Refusal) → IsUnfetched log new_log name refusal
@@ -59,7 +59,7 @@ pub data ReadsFile {V : Type 0} (Is : List ℕ → V → Type 0) (Wrong : List �
       → IsFetched log new_log name (Ok bytes) → Opens Is Wrong bytes opened → IsNamed name opened result
       → ReadsFile Is Wrong log new_log name result
 
--- of the file of a world, and of a brain
+-- the result for the file of a world, and of a brain
 abbrev pub ReadsWorld : List Fetched → List Fetched → List ℕ → Result Grid Refusal → Type 0
 ReadsWorld = ReadsFile OpensAs IsNoWorld
 

@@ -1,4 +1,4 @@
--- What comes of a game of three files (this project's own).
+-- The result of a game of three files (this project's own).
 use Rattle.std.specs.Prelude.{◌≡◌, ℕ, List, Result, Ok, Err, codes}
 use Rattle.ant_base.specs.Fetched.{Fetched}
 use Rattle.ant_base.specs.Layout.{◌+++◌}
@@ -16,9 +16,9 @@ use Rattle.sample_caller.specs.Files.{ReadsBrain, ReadsWorld, refusal_text}
 abbrev pub sample_seed : ℕ
 sample_seed = 12345
 
--- what comes of a game of the files of a world, a red brain and a black one: they are fetched and read in this order,
--- each only where those before it were opened. The first that is refused ends it; else the score is that of the world
--- after so many rounds by the contest's rules
+-- the result of a game of the files of a world, a red brain and a black one: they are fetched and read in this order,
+-- each only if those before it were opened. The first that is refused ends it; otherwise the score is that of the world
+-- after the given number of rounds by the contest's rules
 pub data PlaysFiles (log new_log : List Fetched) (world red black : List ℕ)
     (rounds : ℕ) : Result Score Refusal → Type 0 where
   WorldRefused : (refusal : Refusal) → ReadsWorld log new_log world (Err refusal)
@@ -35,7 +35,7 @@ pub data PlaysFiles (log new_log : List Fetched) (world red black : List ℕ)
       → score ≡ score_of (world_after (contest_minds first second) sample_seed (world_of grid) rounds)
       → PlaysFiles log new_log world red black rounds (Ok score)
 
--- what is printed of it: the score, or the line of the file that was refused
+-- what is printed: the score, or the line of the file that was refused
 abbrev pub outcome_text : Result Score Refusal → List ℕ
 outcome_text (Ok score) = score_text score
 outcome_text (Err refusal) = refusal_text refusal.name.now refusal.fault +++ codes "\n"

@@ -1,20 +1,20 @@
--- What is looked for in the world after each round (this project's own).
+-- What is tested in the world after each round (this project's own).
 use Rattle.std.specs.Prelude.{◌≡◌, ℕ, ◌<◌, ◌≤◌, Bool, true, false, Option, Some, None}
 use Rattle.hex_geometry.specs.declared.position.Pos.{Pos}
 use Rattle.cell_world.specs.declared.ant.Ant.{Ant}
 use Rattle.cell_world.specs.World.{World, place_in}
 
--- whether an ant carries food, where there is one
+-- whether an ant carries food, if there is one
 abbrev pub carries : Option Ant → Bool
 carries None = false
 carries (Some ant) = ant.laden
 
--- whether the ant at a place of the world, where it has one, carries food
+-- whether the ant at a place of the world, if it has one, carries food
 abbrev pub carries_at : World → Option Pos → Bool
 carries_at w None = false
 carries_at w (Some p) = carries (w.cells p).ant
 
--- whether the ant of this id lives and carries food
+-- whether the ant with this id is alive and carries food
 abbrev pub is_laden : ℕ → World → Bool
 is_laden id w = carries_at w (place_in w id)
 

@@ -1,4 +1,4 @@
-// A brain that is made of instructions, without a text, and then minimised.
+// A brain that is built from instructions, without a text, and then minimised.
 ghost use Rattle.std.specs.Prelude.{◌≡◌, ◌≤◌, IfOk};
 ghost use Rattle.ant_turn.specs.Minds.{contest_minds};
 ghost use Rattle.brain_minimise.specs.Minimised.{IsMinimised};
@@ -36,8 +36,8 @@ const FETCHER: [Instr; 6] = [
     Instr::Move { yes: 0, no: 4 },
 ];
 
-/// A brain of six states, which takes food and brings it home where the way is a corridor. It is refused only when out
-/// of memory.
+/// A brain of six states, which takes food and brings it home if the way is a corridor. It fails only if memory runs
+/// out.
 pub fn fetcher(alloc: Global) -> Result<Brain, OutOfMemory>
     ensures { IfOk result (λ brain. brain ≡ fetcher) }
 {
@@ -45,7 +45,7 @@ pub fn fetcher(alloc: Global) -> Result<Brain, OutOfMemory>
     Ok(Brain::from_list(list))
 }
 
-/// The minimised fetcher, which has five states, and what became of the six. It is refused only when out of memory.
+/// The minimised fetcher, which has five states, and the new numbers of the six. It fails only if memory runs out.
 pub fn small_fetcher(alloc: Global) -> Result<Minimised, OutOfMemory>
     ensures { IfOk result (λ small. IsMinimised fetcher small.brain small.map) }
 {
@@ -53,9 +53,9 @@ pub fn small_fetcher(alloc: Global) -> Result<Minimised, OutOfMemory>
     minimise(alloc, &brain)
 }
 
-/// The score after so many rounds, at most 1,000,000, by the contest's rules and with seed 12345, where both sides play
-/// by this minimised fetcher: it is that of the game where both play by the fetcher itself. The world is one with which
-/// a game begins. It takes no memory.
+/// The score after the given number of rounds, at most 1,000,000, by the contest's rules and with seed 12345, if both
+/// sides play with this minimised fetcher. It is the score of the game in which both play with the fetcher itself. The
+/// world is an opening world. It takes no memory.
 pub fn play_fetchers(small: &Minimised, world: World, rounds: u32) -> Score
     requires minimised { IsMinimised fetcher small.now.brain small.now.map }
     requires opening { IsOpeningWorld world }

@@ -21,7 +21,7 @@ fn fetch<'n, S: Shelf>(alloc: Global, shelf: &mut S, name: &'n str) -> Result<Ve
     }
 }
 
-// What was opened of the bytes of a file, or what is wrong with the file.
+// What was opened from the bytes of a file, or what is wrong with the file.
 fn named<'n, T>(name: &'n str, opened: Result<T, TextStop>) -> Result<T, Refusal<'n>>
     ensures { IsNamed name.now opened result }
 {
@@ -31,8 +31,8 @@ fn named<'n, T>(name: &'n str, opened: Result<T, TextStop>) -> Result<T, Refusal
     })
 }
 
-/// The world of a file, which is fetched once. It is refused where the file wasn't fetched, and where its bytes are
-/// those of no world.
+/// The world of a file, which is fetched once. It is refused if the file wasn't fetched, or if its bytes aren't those
+/// of a world.
 pub fn world_in<'n, S: Shelf>(
     alloc: Global,
     shelf: &mut S,
@@ -44,8 +44,8 @@ pub fn world_in<'n, S: Shelf>(
     named(name, open_world(alloc, &bytes))
 }
 
-/// The brain of a file, which is fetched once. It is refused where the file wasn't fetched, and where its bytes are
-/// those of no brain.
+/// The brain of a file, which is fetched once. It is refused if the file wasn't fetched, or if its bytes aren't those
+/// of a brain.
 pub fn brain_in<'n, S: Shelf>(
     alloc: Global,
     shelf: &mut S,

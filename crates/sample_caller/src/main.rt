@@ -1,9 +1,9 @@
-//! Callers of the library, a page each: a game of three files, a brain that is made of instructions, and a look at the
-//! world after each round.
+//! Callers of the library, one page each: a game of three files, a brain that is built from instructions, and a look at
+//! the world after each round.
 //!
-//! The words are those of some games, `WORLD RED BLACK ROUNDS` of each. The program prints the score of each game, or
-//! which file was refused and why; and then what the two other callers come to, which need no file. What they promise
-//! are the clauses of [`play`], [`play_fetchers`] and [`first_laden`], in the words of the crates that they stand on.
+//! The words are those of some games, `WORLD RED BLACK ROUNDS` for each. The program prints the score of each game, or
+//! which file was refused and why; and then the results of the two other callers, which need no file. Their promises
+//! are the clauses of [`play`], [`play_fetchers`] and [`first_laden`], in the words of the crates on which they depend.
 //! It is this project's own.
 #![tactic(auto)]
 
@@ -32,10 +32,10 @@ use world_read::read_world;
 // One red ant, and two particles of food on the cell after the next.
 const CORRIDOR: &str = "6\n3\n######\n#+.2.#\n######\n";
 
-// So many rounds are played there.
+// The number of rounds that are played there.
 const ROUNDS: u32 = 110;
 
-// Plays the game of four words, and prints what came of it.
+// Plays the game of four words, and prints its result.
 fn play_words<S: Shelf, K: Sink>(
     alloc: Global,
     words: &[String],

@@ -16,12 +16,12 @@ use std::alloc::Global;
 /// The seed of each game.
 pub const SEED: u32 = 12345;
 
-/// The score after so many rounds, at most 1,000,000, of the game of two files' brains on the world of a third, by the
-/// contest's rules and with seed 12345.
+/// The score after the given number of rounds, at most 1,000,000, of the game of two files' brains on the world of a
+/// third, by the contest's rules and with seed 12345.
 ///
-/// It is refused at the first file that wasn't fetched, or whose bytes are those of no world or no brain; the refusal
+/// It is refused at the first file that wasn't fetched, or whose bytes aren't those of a world or a brain; the refusal
 /// has that file's name and its fault. The files are fetched once each, in the order of the parameters: those before
-/// the refused one were opened, and none behind it is fetched. Out of memory may be the fault of any file.
+/// the refused one were opened, and none after it is fetched. Out of memory may be the fault of any file.
 pub fn play<'n, S: Shelf>(
     alloc: Global,
     shelf: &mut S,
@@ -44,8 +44,8 @@ pub fn play<'n, S: Shelf>(
     Ok(play_score(world, brains, SEED, rounds))
 }
 
-/// Pushes what came of a game: its score, or the line of the file that was refused, as `step.brain: line 1: bad
-/// number`. Where the sink failed, a prefix of it was pushed.
+/// Pushes the result of a game: its score, or the line of the file that was refused, such as `step.brain: line 1: bad
+/// number`. At `Failed` a prefix of it was appended.
 pub fn push_outcome<K: Sink>(
     outcome: Result<Score, Refusal<'_>>,
     sink: &mut K,

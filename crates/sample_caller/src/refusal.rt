@@ -1,4 +1,4 @@
-// Files that are refused, and what is said of them.
+// Files that are refused, and the text about them.
 use ant_base::{Failed, FetchFault, Layout, Sink, layout};
 use text_fault::TextStop;
 

@@ -14,10 +14,10 @@ use match_run::{Game, OutOfMemory};
 use round_book::{Field, SoloCrew, lemma_valid};
 use std::alloc::Global;
 
-// How many turns are looked at ahead; nothing of what comes of them depends on it.
+// How many turns are looked at ahead; the result doesn't depend on it.
 const WINDOW: u32 = 64;
 
-// Whether the ant of this id lives and carries food.
+// Whether the ant with this id is alive and carries food.
 fn is_laden(world: &World, id: u32) -> bool
     ensures { result ≡ is_laden id (world_of world.now) }
 {
@@ -30,9 +30,9 @@ fn is_laden(world: &World, id: u32) -> bool
     }
 }
 
-/// The first of so many rounds, at most 1,000,000, after which the ant of this id, counted from 0, carries food; None
-/// where it carries none after any of them, as where it was never made. Rounds are counted from 1. The game is that of
-/// seed 12345, and the world one with which a game begins. It is refused only when out of memory.
+/// The first of the given number of rounds, at most 1,000,000, after which the ant with this id, counted from 0,
+/// carries food; `None` if it carries none after any of them, or never existed. Rounds are counted from 1. The game is
+/// that of seed 12345, and the world is an opening world. It fails only if memory runs out.
 pub fn first_laden(
     alloc: Global,
     world: World,

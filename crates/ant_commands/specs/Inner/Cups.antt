@@ -21,7 +21,7 @@ use Rattle.ant_commands.specs.declared.commands.cup.Games.{Games}
 use Rattle.ant_commands.specs.Files.{File, FileKind}
 use Rattle.ant_commands.specs.Outputs.{minds_between, nowhere, score_in_cup}
 
--- the files of these names, of one kind
+-- the files with these names, of one kind
 abbrev pub files_named : FileKind → List (List ℕ) → List File
 files_named kind names = map (λ (name : List ℕ). record { name = name; kind = kind }) names
 
@@ -30,8 +30,7 @@ pub record Opens (world : Grid) : Type 0 where
   pub kinds : List Kind
   pub opened : world ≡ opening world.width world.height kinds
 
--- the worlds and the players of a cup: as many as a cup may have, worlds at the start of a game, and brains with a
--- state at least
+-- the worlds and the players of a cup: as many as a cup may have, opening worlds, and brains with at least one state
 pub record AreReady (worlds : List Grid) (players : List (List Instr)) : Type 0 where
   pub some_worlds : fewest_names Worlds ≤ length worlds
   pub few_worlds : length worlds ≤ most_names
@@ -40,7 +39,7 @@ pub record AreReady (worlds : List Grid) (players : List (List Instr)) : Type 0 
   pub opened : AllByRecursion Opens worlds
   pub sound : AllByRecursion (λ (player : List Instr). 1 ≤ length player) players
 
--- a game that can be played, where n is a world with one of the seeds: its world and its players are there, and fit
+-- a game that can be played, if n is a pair of a world and a seed: its world and its players exist, and fit
 pub record CanBePlayed (worlds : List Grid) (players : List (List Instr)) (seeds : Seeds)
     (rounds n red black : ℕ) : Type 0 where
   pub some_seeds : 1 ≤ seeds.count
@@ -50,7 +49,7 @@ pub record CanBePlayed (worlds : List Grid) (players : List (List Instr)) (seeds
   pub fit : Fits (world_of (slice_index_or worlds (world_at seeds n) nowhere)) (minds_between players red black)
   pub few_rounds : rounds ≤ most_rounds
 
--- a cup's games that can be played by so many workers, and what they come to
+-- a cup's games that can be played by this many workers, and their results
 abbrev pub CanPlay : ℕ → Games → List Pairing → Type 0
 CanPlay workers games = CanBePlayedBy workers (CanBePlayed games.worlds.now games.players.now games.seeds games.rounds)
 

@@ -23,7 +23,7 @@ use Rattle.ant_commands.specs.Files.{FileContent}
 use Rattle.ant_commands.specs.Outputs.{ReadGame, ReadPair, chosen_rounds, game_contents, sheet_named}
 use Rattle.ant_commands.specs.FaultLines.{Reason, reason_of}
 
--- the sheet and the plan are what the words say
+-- the sheet and the plan are those of the words
 pub record Plans (setup : RunSetup) (game : PlannedGame) : Type 0 where
   pub sheet_is : sheet_of game.sheet ≡ sheet_named setup
   pub seed_is : game.plan.seed ≡ setup.seed
@@ -42,12 +42,12 @@ abbrev pub stop_of : PushFault → CommandStop
 stop_of push.WriteFault = stop.Write
 stop_of push.OutOfMemory = stop.Memory
 
--- why a command stopped that pushed the text of a game or a cup last, if it did
+-- why a command stopped that pushed the text of a game or a cup last, if it stopped
 abbrev pub play_ending : {A : Type 0} → Result A PushFault → Option Reason
 play_ending (Ok done) = None
 play_ending (Err fault) = Some (reason_of (stop_of fault))
 
--- a game was planned; only memory can be wanting
+-- a game was planned; only memory can run out
 abbrev pub IsPlanned : RunSetup → Result PlannedGame CommandStop → Type 0
 IsPlanned setup (Ok game) = Plans setup game
 IsPlanned setup (Err reason) = reason ≡ stop.Memory
@@ -59,7 +59,7 @@ IsGenerating seed shape (Err (stop.NoRoom element)) = HasNoRoom seed shape eleme
 IsGenerating seed shape (Err stop.Memory) = Unit {0}
 IsGenerating seed shape (Err other) = ⊥
 
--- what the files of two brains were read as
+-- the content of the files of two brains
 abbrev pub pair_read : Pair → ReadPair
 pair_read pair = record { first = pair.first; second = pair.second }
 
@@ -67,7 +67,7 @@ pair_read pair = record { first = pair.first; second = pair.second }
 abbrev pub minds_by : Setting → SheetNumbers → Minds
 minds_by setting sheet = record { red = setting.red; black = setting.black; sheet = sheet_of sheet }
 
--- what the files of a game were read as
+-- the content of the files of a game
 abbrev pub game_read : Setting → ReadGame
 game_read setting = record { world = setting.world; red = setting.red; black = setting.black }
 

@@ -23,12 +23,12 @@ use Rattle.ant_commands.specs.Run.{Ends}
 use Rattle.ant_commands.specs.FaultLines.{Ending, Reason, reason_of}
 use Rattle.ant_commands.specs.FaultLines.Reason.{AtFile, AtOutput, AtInput, AtMemory}
 
--- what the reading of some files came to: their contents, or why it stopped
+-- the result of reading some files: their contents, or why it stopped
 pub data ReadOutcome : Type 0 where
   Contents : List FileContent → ReadOutcome
   Stopped : Reason → ReadOutcome
 
--- the outcome of a call that gives a value read of some files
+-- the outcome of a call that returns a value read from some files
 abbrev pub outcome_of : {A : Type 0} → (A → List FileContent) → Result A CommandStop → ReadOutcome
 outcome_of contents_of (Ok value) = Contents (contents_of value)
 outcome_of contents_of (Err stop) = Stopped (reason_of stop)
@@ -47,18 +47,18 @@ ReadingStops shelf new_shelf files fetches AtMemory = AreBegun files fetches
 -- never: files are read before a world is generated, and before anything is written
 ReadingStops shelf new_shelf files fetches reason = ⊥
 
--- the reading of files came to this
+-- the reading of files had this outcome
 abbrev pub ComesTo : ShelfState → ShelfState → List File → List Fetched → ReadOutcome → Type 0
 ComesTo shelf new_shelf files fetches (Contents contents) = AreAccepted files fetches contents
 ComesTo shelf new_shelf files fetches (Stopped reason) = ReadingStops shelf new_shelf files fetches reason
 
--- these files were fetched and read, and it came to this
+-- these files were fetched and read, with this outcome
 pub record ReadsFiles (shelf new_shelf : ShelfState) (files : List File) (outcome : ReadOutcome) : Type 0 where
   pub fetches : List Fetched
   pub fetched : FetchesEach shelf new_shelf fetches
   pub comes : ComesTo shelf new_shelf files fetches outcome
 
--- a file of any kind was fetched, or its reading stops at that
+-- a file of any kind was fetched, or its reading stops there
 abbrev pub FetchesFile : {A : Type 0} → ShelfState → ShelfState → List ℕ → Result (Vec ℕ A) CommandStop → Type 0
 FetchesFile {A} shelf new_shelf name (Ok bytes) = Fetches {A = A} shelf new_shelf name (Ok bytes)
 FetchesFile shelf new_shelf name (Err stop) =
@@ -75,7 +75,7 @@ abbrev pub text_reason : List ℕ → TextStop → Reason
 text_reason name text.OutOfMemory = AtMemory
 text_reason name (text.Refused fault) = AtInput name (Text fault)
 
--- what a text was opened as, or why a command stops at the file of this name
+-- the content of an opened text, or why a command stops at the file with this name
 abbrev pub IsNamed : {V : Type 0} → List ℕ → Result V TextStop → Result V CommandStop → Type 0
 IsNamed name (Ok value) (Ok named) = named ≡ value
 IsNamed name (Err stop) (Err why) = reason_of why ≡ text_reason name stop
@@ -86,24 +86,24 @@ abbrev pub break_reason : List ℕ → BreakFault → Reason
 break_reason name breaks.OutOfMemory = AtMemory
 break_reason name fault = AtInput name (Breaks fault)
 
--- why the reading of the bytes of a file of this kind and name stopped
+-- why reading the bytes of a file of this kind and name stopped
 abbrev pub TextStops : FileKind → List ℕ → List ℕ → Reason → Type 0
 TextStops kind bytes name (AtInput other fault) = (other ≡ name) × Refuses kind bytes fault
 TextStops kind bytes name AtMemory = Unit {0}
--- never: the bytes have come
+-- never: the bytes have been fetched
 TextStops kind bytes name reason = ⊥
 
--- what the reading of the bytes of a file gave: its content, or why it stopped
+-- the result of reading the bytes of a file: its content, or why it stopped
 abbrev pub ReadsText : {A : Type 0} → (A → FileContent) → FileKind → List ℕ → List ℕ → Result A CommandStop → Type 0
 ReadsText content_of kind bytes name (Ok value) = Reads kind bytes (content_of value)
 ReadsText content_of kind bytes name (Err stop) = TextStops kind bytes name (reason_of stop)
 
--- why a command with this result stopped, if it did
+-- why a command with this result stopped, if it stopped
 abbrev pub ending_of : {U : Type 0} → Result U CommandStop → Option Reason
 ending_of (Ok done) = None
 ending_of (Err stop) = Some (reason_of stop)
 
--- why a command stopped that pushed its text last, if it did
+-- why a command stopped that pushed its text last, if it stopped
 abbrev pub push_ending : {U : Type 0} → Result U Failed → Option Reason
 push_ending (Ok done) = None
 push_ending (Err failed) = Some AtOutput
@@ -113,7 +113,7 @@ abbrev pub EndsBy : Job → Outside → Outside → List Fetched → Option Reas
 EndsBy command before after fetches None = IsDone command before after fetches
 EndsBy command before after fetches (Some reason) = StopsFor command before after fetches reason
 
--- a command was carried out, and ended so; it sees the shelf and the output alone, so whatever the errors hold
+-- a command was carried out, with this ending; it uses only the shelf and the output, so the errors may hold anything
 pub record CarriesOut (command : Job) (shelf new_shelf : ShelfState) (out new_out : SinkState)
     (stop : Option Reason) : Type 0 where
   pub fetches : List Fetched
@@ -121,7 +121,7 @@ pub record CarriesOut (command : Job) (shelf new_shelf : ShelfState) (out new_ou
   pub ends : (err new_err : SinkState)
       → EndsBy command (outside_of shelf out err) (outside_of new_shelf new_out new_err) fetches stop
 
--- words were carried out, and it ended so, whatever the errors hold
+-- words were carried out, with this ending, whatever the errors hold
 pub record CarriesOutWords (words : List (List ℕ)) (shelf new_shelf : ShelfState) (out new_out : SinkState)
     (ending : Ending) : Type 0 where
   pub fetches : List Fetched

@@ -11,7 +11,7 @@ use match_save::write_saved;
 use round_book::Crew;
 use std::alloc::Global;
 
-/// Goes on with the game of a save by a crew until this number of rounds is done in all, and writes its save there. A
+/// Continues the game of a save by a crew until this number of rounds is done in total, and writes its save there. A
 /// save with more rounds done is refused. Nothing is written before the last round is played; the crew may have any
 /// number of workers.
 pub fn advance<'w, C: Crew, S: Shelf, K: Sink>(

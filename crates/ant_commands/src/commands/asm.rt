@@ -59,7 +59,7 @@ fn asm_source<'w, S: Shelf, K: Sink>(
     after_push(push_source(&source, labels, lines, out))
 }
 
-// Pushes the labels where they are wanted, and then the lines where those are.
+// Pushes the labels if they are requested, and then the lines if those are.
 fn push_source<K: Sink>(
     source: &Source,
     labels: bool,

@@ -18,7 +18,7 @@ use ant_turn::{Brains, Sheet};
 use game_reports::ReportPlan;
 use std::alloc::Global;
 
-// Plays a game, and pushes who died in it, how the score went and, if that is asked for, who took and dropped food.
+// Plays a game, and pushes its deaths, its changes of the score and, if requested, each food particle taken or dropped.
 fn push_events<K: Sink>(
     setting: Setting,
     sheet: Sheet,
@@ -40,8 +40,8 @@ fn push_events<K: Sink>(
     game_reports::events(world, brains, plan, food, out)
 }
 
-/// Plays a game turn by turn, and writes who died in it, how the score went and, if that is asked for, who took and
-/// dropped food, from a round on.
+/// Plays a game turn by turn, and writes its deaths, its changes of the score and, if requested, each food particle
+/// taken or dropped, from a round on.
 pub fn events<'w, S: Shelf, K: Sink>(
     alloc: Global,
     game: GameWords<'w>,

@@ -1,4 +1,4 @@
-// The command `run` with `--far`: workers that stand by for the whole game.
+// The command `run` with `--far`: workers that stay ready for the whole game.
 ghost use Rattle.std.specs.Prelude.{◌≡◌};
 ghost use Rattle.ant_commands.specs.Jobs.{run_job};
 ghost use Rattle.ant_commands.specs.Setups.{SetupWithin, plain_setup};
@@ -16,7 +16,7 @@ use std::alloc::Global;
 use std::sync::Wait;
 use std::thread::Threads;
 
-// A game to be played and written, with what it reads from and writes to; and how it went.
+// A game to be played and written, with what it reads from and writes to, and its result.
 #[derive(Drop)]
 struct RunErrand<'s, 'o, 'w, S: Shelf, K: Sink> {
     alloc: Global,
@@ -61,13 +61,13 @@ impl<'s, 'o, 'w, S: Shelf, K: Sink> Errand for RunErrand<'s, 'o, 'w, S, K> {
     }
 }
 
-// Does nothing: this use of a reference that came out of an errand ties it to the one that went in.
+// Does nothing: this use of a reference that an errand returned ties it to the one that was passed.
 fn take_back<T>(x: &mut T)
     ensures { x.new ≡ x.old }
 {}
 
-/// Plays the game that the words ask for, by as many workers as they say, which stand by from before the first file is
-/// fetched to the last round. The call may wait for a worker.
+/// Plays the game that the words request, with the number of workers that they name. The workers stay ready from before
+/// the first file is fetched until the last round. The call may wait for a worker.
 pub fn run_far<'w, R: Threads + Wait + Sync, S: Shelf, K: Sink, G: Gate>(
     rt: &R,
     alloc: Global,

@@ -63,7 +63,7 @@ impl<'w> FileNames<'w> {
 }
 
 impl<'w> GameWords<'w> {
-    /// The game of a command that takes the numbers of the rules.
+    /// The game of a command that has options for the numbers of the rules.
     pub fn of(asked: Asked<'w>) -> Self
         requires kind { PlaysGame asked.kind }
         requires within { AskedWithin (plain asked) }
@@ -105,7 +105,7 @@ impl<'w> GameWords<'w> {
     }
 }
 
-// What the files of a game were read as.
+// The content of a game's files.
 #[derive(Drop)]
 pub struct Setting {
     pub world: World,

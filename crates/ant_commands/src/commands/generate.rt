@@ -14,7 +14,7 @@ use std::alloc::Global;
 use world_gen::{GenFault, Shape, generate};
 use world_read::write_world;
 
-/// The world of a seed and a shape, or why there is none: an element that has no room, or memory that could not be had.
+/// The world of a seed and a shape, or why there is none: an element has no room, or memory ran out.
 pub fn generated<'w>(alloc: Global, seed: u32, shape: Shape) -> Result<World, CommandStop<'w>>
     requires { IsShape shape }
     ensures { IsGenerating seed shape result }

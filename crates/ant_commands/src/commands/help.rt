@@ -75,14 +75,14 @@ fn push_version<K: Sink>(out: &mut K) -> Result<(), Failed>
     "ants 1.2.0-dev\n".push_to(out)
 }
 
-/// Writes the page that tells of all commands.
+/// Writes the page about all commands.
 pub fn help<'w, S: Shelf, K: Sink>(shelf: &mut S, out: &mut K) -> Result<(), CommandStop<'w>>
     ensures { CarriesOut help_job (S.state shelf.old) (S.state shelf.new) (K.state out.old) (K.state out.new) (ending_of result) }
 {
     after_push(push_help(out))
 }
 
-/// Writes which program this is.
+/// Writes the line with the program's version.
 pub fn version<'w, S: Shelf, K: Sink>(shelf: &mut S, out: &mut K) -> Result<(), CommandStop<'w>>
     ensures { CarriesOut version_job (S.state shelf.old) (S.state shelf.new) (K.state out.old) (K.state out.new) (ending_of result) }
 {

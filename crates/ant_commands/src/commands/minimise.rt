@@ -26,7 +26,7 @@ pub fn minimise<'w, S: Shelf, K: Sink>(
     after_push(push_told(&brain, &minimised, states, out))
 }
 
-// Pushes the minimised brain; or, where the states are wanted, what became of each of them.
+// Pushes the minimised brain; or, if the states are requested, the new number of each of them.
 fn push_told<K: Sink>(
     brain: &Brain,
     minimised: &Minimised,

@@ -1,4 +1,4 @@
-// Rounds of a game that are played, one after another.
+// Rounds of a game, played one after another.
 ghost use Rattle.std.specs.Prelude.{◌≡◌, ◌≤◌, true, IfOk};
 ghost use Rattle.match_run.specs.GameLaws.{IsAtRound};
 ghost use Rattle.match_run.specs.Run.{most_rounds};

@@ -18,7 +18,7 @@ use round_book::Crew;
 use std::alloc::Global;
 use text_fault::open_save;
 
-// Reads the bytes of the file of this name as a save of which at most so many rounds are done.
+// Reads the bytes of the file with this name as a save of which at most this many rounds are done.
 #[tactic(auto, using(crate::proofs::Texts::text_read))]
 fn read_save<'w>(
     alloc: Global,
@@ -45,7 +45,7 @@ pub fn saved_in<'w, S: Shelf>(
     read_save(alloc, name, rounds, &bytes)
 }
 
-/// Goes on with the game of a save until this number of rounds is done in all, and writes the rest of its text: turn by
+/// Continues the game of a save until this number of rounds is done in total, and writes the rest of its text: turn by
 /// turn if one worker plays and no counts are requested, otherwise by a crew. A save with more rounds done is refused.
 pub fn resume<'w, C: Crew, S: Shelf, K: Sink>(
     alloc: Global,

@@ -21,12 +21,12 @@ use match_run::{Dumps, OutOfMemory, Plan, PlayFault, Rounds, play, play_alone};
 use round_book::Crew;
 use std::alloc::Global;
 
-// What a game is asked to do, by the words.
+// What a game has to do, according to the words.
 #[derive(Drop)]
 pub struct PlannedGame {
     pub sheet: Sheet,
     pub plan: Plan,
-    // whether it is played on one thread, by no standing worker
+    // whether it is played on one thread, without workers that stay ready
     pub single: bool,
 }
 
@@ -78,7 +78,7 @@ pub fn planned_game<'w>(alloc: Global, words: RunWords<'_>) -> Result<PlannedGam
     })
 }
 
-// Plays a game, and pushes its text: turn by turn where one worker is to play and no counts are asked for, else by a
+// Plays a game, and pushes its text: turn by turn if one worker is to play and no counts are requested, otherwise by a
 // crew.
 fn play_setting<C: Crew, K: Sink>(
     alloc: Global,
@@ -107,8 +107,8 @@ fn play_setting<C: Crew, K: Sink>(
     }
 }
 
-// Plays a game that asks for no counts turn by turn, and pushes its text. It makes no looks, since nobody asked for
-// their counts, and takes no memory for a second world.
+// Plays a game without requested counts turn by turn, and pushes its text. It makes no looks, since no counts are
+// requested, and takes no memory for a second world.
 fn play_setting_alone<K: Sink>(
     setting: Setting,
     game: &PlannedGame,
@@ -149,7 +149,7 @@ pub fn run_by<'w, C: Crew, S: Shelf, K: Sink>(
     Ok(())
 }
 
-/// Plays the game that the words ask for, and writes its text.
+/// Plays the game that the words request, and writes its text.
 #[tactic(auto, using(crate::proofs::Readings::carries_wanting))]
 pub fn run<'w, C: Crew, S: Shelf, K: Sink>(
     alloc: Global,

@@ -12,14 +12,14 @@ use brain_read::Brain;
 use brain_same::{compare, compare_way};
 use std::alloc::Global;
 
-// What the files of two brains were read as.
+// The content of the files of two brains.
 #[derive(Drop)]
 pub struct Pair {
     pub first: Brain,
     pub second: Brain,
 }
 
-// Two brains, in the order of their words; the second is fetched also where it has the name of the first.
+// Two brains, in the order of their words; the second is fetched even if it has the name of the first.
 fn pair_of<'w, S: Shelf>(
     alloc: Global,
     first: &'w str,
@@ -34,8 +34,8 @@ fn pair_of<'w, S: Shelf>(
     Ok(Pair { first, second })
 }
 
-/// Writes whether two brains are the same except for the numbers of their states, or where they first differ; if the
-/// way is requested, with a line for each answer that leads there.
+/// Writes whether two brains are the same except for the numbers of their states, or their first difference; if the way
+/// is requested, with a line for each answer that leads there.
 pub fn same<'w, S: Shelf, K: Sink>(
     alloc: Global,
     first: &'w str,

@@ -65,7 +65,7 @@ const SAMPLE: [Instr; 16] = [
     Instr::Move { yes: 8, no: 11 },
 ];
 
-/// The task's sample brain (the task's neurology). Out of memory alone refuses it.
+/// The task's sample brain (the task's neurology). It fails only if memory runs out.
 pub fn sample_brain(alloc: Global) -> Result<Brain, OutOfMemory>
     ensures { IfOk result (λ brain. brain ≡ sample_brain) }
 {

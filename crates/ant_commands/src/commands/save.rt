@@ -88,7 +88,7 @@ fn save_by<'w, C: Crew, S: Shelf, K: Sink>(
     after_push(write_saved(&saved, out))
 }
 
-/// Plays the game that the words ask for by a crew, and writes its save. Nothing is written before the last round is
+/// Plays the game that the words request by a crew, and writes its save. Nothing is written before the last round is
 /// played.
 #[tactic(auto, using(crate::proofs::Readings::carries_wanting))]
 pub fn save<'w, C: Crew, S: Shelf, K: Sink>(

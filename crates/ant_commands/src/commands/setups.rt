@@ -1,4 +1,4 @@
-// What a command line says to each command, as its own struct.
+// The settings that a command line gives to each command, as its own struct.
 ghost use Rattle.std.specs.Prelude.{◌≡◌};
 ghost use Rattle.command_words.specs.Command.{AskedWithin, plain};
 ghost use Rattle.command_words.specs.declared.table.CommandKind.TheVariants.{Acts, Cup, Gen, Resume, Run, Save};
@@ -11,7 +11,7 @@ use crate::commands::game::GameWords;
 use command_words::{Asked, Choice, DumpRounds, NameList};
 use tournament::{Format, Seeds};
 
-/// What the words of `run` say, or what holds if they don't say it.
+/// The settings of `run`, given by its words or by default.
 #[derive(Drop)]
 pub struct RunWords<'w> {
     /// the game
@@ -24,41 +24,41 @@ pub struct RunWords<'w> {
     pub window: u32,
     /// whether the counts of turns are printed
     pub stats: bool,
-    /// whether the workers stand by for the whole game and get their jobs as messages
+    /// whether the workers stay ready for the whole game and get their jobs as messages
     pub far: bool,
 }
 
-/// The entry of a cup: who plays whom, and where.
+/// The settings of a cup: its players, its worlds and its games.
 #[derive(Clone, Copy)]
 pub struct CupEntry<'w> {
     /// the names of the worlds' files, 1 to 16
     pub worlds: &'w [String],
     /// the names of the brains' files, 2 to 16, no two the same
     pub brains: &'w [String],
-    /// which games there are, with which seeds, and what is printed of them
+    /// which games there are, with which seeds, and what is printed about them
     pub format: Format,
     /// how many rounds each game has, from 0 to 1,000,000
     pub rounds: u32,
     /// how many workers play, from 1 to 16
     pub workers: u32,
-    /// whether the line of each game is wanted before the standing
+    /// whether the line of each game is printed before the standing
     pub games: bool,
 }
 
-/// What the options of `resume` say, or what holds where they aren't given.
+/// The settings of `resume`, given by its options or by default.
 #[derive(Drop)]
 pub struct ResumeOptions<'w> {
-    /// how many rounds are played in all, with those that are done, from 0 to 1,000,000
+    /// how many rounds are played in total, including those that are done, from 0 to 1,000,000
     pub rounds: u32,
-    /// the rounds after which the world is dumped; those that are done are passed over
+    /// the rounds after which the world is dumped; those that are done are skipped
     pub dumps: DumpRounds<'w>,
     /// how many workers play, from 1 to 16
     pub workers: u32,
-    /// whether the counts of turns are wanted
+    /// whether the counts of turns are printed
     pub stats: bool,
 }
 
-/// What the options of `gen` say, or what holds where they aren't given.
+/// The settings of `gen`, given by its options or by default.
 #[derive(Clone, Copy, Debug, PartialEq, Eq)]
 pub struct GenShape {
     /// the cells of a row, from 3 to 512
@@ -92,7 +92,7 @@ impl<'w> RunWords<'w> {
         }
     }
 
-    /// The words of `save`: those of a run without dumps, counts and standing workers.
+    /// The words of `save`: those of a run without dumps, counts and workers that stay ready.
     pub fn of_save(asked: Asked<'w>) -> Self
         requires kind { asked.kind ≡ Save }
         requires within { AskedWithin (plain asked) }
@@ -154,7 +154,7 @@ fn format_of(asked: Asked<'_>) -> Format
 }
 
 impl<'w> ResumeOptions<'w> {
-    /// What the options of `resume` say.
+    /// The settings of `resume`.
     pub fn of(asked: Asked<'w>) -> Self
         requires { asked.kind ≡ Resume }
         ensures { plain_resume result ≡ resume_of (plain asked.entry) }
@@ -183,7 +183,7 @@ impl GenShape {
     }
 }
 
-/// The one ant that `acts` tells of, if its words name one: an id from 0 to 16,383.
+/// The one ant that `acts` reports, if its words name one: an id from 0 to 16,383.
 pub fn ant_of(asked: Asked<'_>) -> Option<u32>
     requires { asked.kind ≡ Acts }
     ensures { result ≡ ant_of (plain asked.entry) }

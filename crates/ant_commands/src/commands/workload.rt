@@ -27,7 +27,7 @@ use round_book::{Crew, Field};
 use std::alloc::Global;
 use world_gen::{Shape, food_on_cells};
 
-/// What a workload tells of its game.
+/// The result of a workload.
 #[derive(Clone, Copy)]
 pub struct Summary {
     /// How many ids there are.
@@ -40,7 +40,7 @@ pub struct Summary {
     pub black: u32,
     /// The score at the end.
     pub score: Score,
-    /// What came of the turns.
+    /// The counts of the turns.
     pub totals: Totals,
 }
 
@@ -51,7 +51,7 @@ fn contest_world<'w>(alloc: Global, seed: u32) -> Result<World, CommandStop<'w>>
     generated(alloc, seed, Shape::contest())
 }
 
-// What came of a game on a world, which both sides play with this brain.
+// The result of a game on a world, which both sides play with this brain.
 fn summary_of<C: Crew>(
     alloc: Global,
     crew: &mut C,

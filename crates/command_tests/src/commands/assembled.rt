@@ -3,7 +3,7 @@ use crate::commands::{CutRun, Given, Job, NO_JOB, Table, check_cuts, check_rows,
 use ant_commands::Status;
 use std::test::Fail;
 
-// A block that turns back, put in place where an ant is stuck.
+// A block that turns back, used when an ant is stuck.
 const BACK: &str = "block back done ; half a turn\n\
     Turn Left next\n\
     Turn Left next\n\
@@ -14,7 +14,7 @@ const BACK: &str = "block back done ; half a turn\n\
     stuck:\n\
     use back go\n";
 
-// Labelled programs, and the brain that each becomes.
+// Labelled programs, and the brain of each.
 const ASSEMBLED: [(&str, &str); 6] = [
     (BACK, "Move 0 1\nTurn Left 2\nTurn Left 3\nTurn Left 0\n"),
     ("Drop next", "Drop 0\n"),
@@ -30,7 +30,7 @@ const ASSEMBLED: [(&str, &str); 6] = [
     ("END:\nUnmark 5 END", "Unmark 5 0\n"),
 ];
 
-// Texts that are no labelled program, and the line that names the fault of each.
+// Texts that are not labelled programs, and the line that names the fault of each.
 const REFUSED: [(&str, &str); 21] = [
     (
         "block a\nDrop next\nDrop next\nDrop next\nDrop next\nDrop next\nDrop next\nDrop next\nDrop next\nDrop next\nDrop next\nend\n\
@@ -81,7 +81,7 @@ const ASSEMBLE: Job<'static> = Job {
     ..NO_JOB
 };
 
-// Labelled programs that are assembled, and such as are refused.
+// Labelled programs that are assembled, and texts that are refused.
 static ASSEMBLED_PROGRAMS: Table<'static> = Table {
     job: ASSEMBLE,
     given: Given::Red,
@@ -102,15 +102,15 @@ fn a_labelled_program_becomes_a_brain_or_its_fault_is_told(rt: HostRuntime) -> R
     check_rows(&rt, rt.alloc(), &REFUSED_PROGRAMS)
 }
 
-// The command that tells the labels in place of the brain.
+// The command that prints the labels instead of the brain.
 const LABELS: Job<'static> = Job {
     line: "asm r --labels",
     ..NO_JOB
 };
 
 // Labelled programs, and the state to which each of their labels leads. In the first, block half has two states, and is
-// used at the states 0 and 2; its second label stands at its end, and so leads to what follows the use: state 2, and
-// state 0 behind the last item of main. In the third no body that is put in place has a label.
+// used at the states 0 and 2; its second label is at its end, and so leads to what follows the use: state 2, and state
+// 0 after the last item of main. In the third no body that is used has a label.
 const TOLD: [(&str, &str); 4] = [
     (
         "block left on\nturn:\nTurn Left on\nend\nblock half on\nuse left next\nmid:\nuse left on\nlast:\nend\n\
@@ -123,7 +123,7 @@ const TOLD: [(&str, &str); 4] = [
     ("Drop next", ""),
 ];
 
-// Texts that are no labelled program: the labels of none are told.
+// Texts that are not labelled programs: no labels are printed.
 const UNTOLD: [(&str, &str); 2] = [
     ("Move go go", "ants: r: line 1: no such label\n"),
     ("here:\n", "ants: r: no instruction\n"),
@@ -149,7 +149,7 @@ fn the_labels_are_told_in_place_of_the_brain(rt: HostRuntime) -> Result<(), Fail
     check_tables(&rt, rt.alloc(), &TOLD_LABELS)
 }
 
-// The command that tells the line of each state in place of the brain, and the one that tells the labels before.
+// The command that prints the line of each state instead of the brain, and the one that prints the labels first.
 const LINES: Job<'static> = Job {
     line: "asm r --lines",
     ..NO_JOB
@@ -172,7 +172,7 @@ const STANDING: [(&str, &str); 4] = [
     ("Drop next", "0 1\n"),
 ];
 
-// Labelled programs, and both. The second has no label.
+// Labelled programs, with both. The second has no label.
 const TOLD_TWICE: [(&str, &str); 2] = [
     (
         BACK,
@@ -213,7 +213,7 @@ fn the_lines_of_states_are_told_behind_the_labels(rt: HostRuntime) -> Result<(),
     check_tables(&rt, rt.alloc(), &TOLD_LINES)
 }
 
-// The labels and the lines of a program for whose first line of a state the output has no room.
+// The labels and the lines of a program; the output has no room for the first line of a state.
 static NO_ROOM_FOR_LINES: [CutRun<'static>; 1] = [CutRun {
     job: Job {
         red: BACK,
@@ -229,7 +229,7 @@ fn lines_of_states_that_are_cut_are_a_failed_output(rt: HostRuntime) -> Result<(
     check_cuts(&rt, rt.alloc(), &NO_ROOM_FOR_LINES)
 }
 
-// An assembled brain for whose second line the output has no room.
+// An assembled brain; the output has no room for its second line.
 static NO_ROOM: [CutRun<'static>; 1] = [CutRun {
     job: Job {
         red: BACK,

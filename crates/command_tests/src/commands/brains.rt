@@ -51,7 +51,7 @@ const PRINTED: [(&str, &str); 12] = [
     ),
 ];
 
-// Texts that are no brain, and the line that names the first fault of each.
+// Texts that are not brains, and the line that names the first fault of each.
 const REFUSED: [(&str, &str); 21] = [
     (
         "Drop 0\nDrop 5\nDrop 0\nDrop 0\nDrop 0\n",
@@ -116,7 +116,7 @@ const PRINT: Job<'static> = Job {
     ..NO_JOB
 };
 
-// Brains, and what is told of them minimised.
+// Brains, and what is printed of them minimised.
 const MINIMISED: [(&str, &str); 2] = [
     (
         "Sense Ahead 1 5 Food\nPickUp 3 7\nMove 0 4\nTurn Left 2\nFlip 2 6 8\nMark 0 2\nTurn Right 2\nTurn Left 2\nDrop 0\nMove 0 0\n",
@@ -128,7 +128,7 @@ const MINIMISED: [(&str, &str); 2] = [
     ),
 ];
 
-// Texts that are no brain to be minimised, and the line that names the first fault of each.
+// Texts that are not brains to be minimised, and the line that names the first fault of each.
 const UNMINIMISED: [(&str, &str); 8] = [
     ("", "ants: b: no instruction\n"),
     ("M", "ants: b: line 1: unknown word\n"),
@@ -146,7 +146,7 @@ const MINIMISE: Job<'static> = Job {
     ..NO_JOB
 };
 
-// Brains that are printed or minimised, and such as are refused.
+// Brains that are printed or minimised, and texts that are refused.
 static PRINTED_BRAINS: Table<'static> = Table {
     job: PRINT,
     given: Given::Black,
@@ -168,7 +168,7 @@ static MORE_REFUSED_BRAINS: Table<'static> = Table {
     rows: &MORE_REFUSED,
 };
 
-// The command that tells the new numbers in place of the brain.
+// The command that prints the new numbers instead of the brain.
 const RENUMBER: Job<'static> = Job {
     line: "minimise b --states",
     ..NO_JOB
@@ -187,7 +187,7 @@ const RENUMBERED: [(&str, &str); 2] = [
     ),
 ];
 
-// A text that is no brain: no state of it is told.
+// A text that is not a brain: no state is printed.
 const UNNUMBERED: [(&str, &str); 1] = [("Drop 1\n", "ants: b: line 1: no such state 1\n")];
 
 static MINIMISED_BRAINS: [Table<'static>; 4] = [

@@ -10,7 +10,7 @@ const COMPARE: Job<'static> = Job {
     ..NO_JOB
 };
 
-// First brains, and what the two come to.
+// First brains, and the result of the comparison.
 const COMPARED: [(&str, &str); 4] = [
     ("Drop 0", "same\n"),
     ("Drop 1\nDrop 0", "same\n"),
@@ -24,7 +24,7 @@ const COMPARED: [(&str, &str); 4] = [
     ),
 ];
 
-// First brains that are none; the second isn't fetched then.
+// First texts that are not brains; the second file isn't fetched then.
 const REFUSED: [(&str, &str); 2] = [
     ("", "ants: r: no instruction\n"),
     ("Jump 0", "ants: r: line 1: unknown word\n"),
@@ -44,7 +44,7 @@ static REFUSED_BRAINS: Table<'static> = Table {
     rows: &REFUSED,
 };
 
-// Second brains that are none, beside a first that is one.
+// Second texts that are not brains, after a first that is one.
 const LATER: [(&str, &str); 1] = [("Drop 1", "ants: b: line 1: no such state 1\n")];
 
 static REFUSED_SECONDS: Table<'static> = Table {
@@ -82,7 +82,7 @@ const WAYS: [(&str, &str); 3] = [
     ),
 ];
 
-// First brains beside one that moves: met, both move again, until both come to the other answer.
+// First brains beside one that moves: if met, both move again, until both get the other answer.
 const LONGER_WAYS: [(&str, &str); 1] = [(
     "Move 0 1\nTurn Left 2\nDrop 0",
     "different after 2 answers\nfirst 0: Move 0 1, second 0: Move 0 2: unmet\nfirst 1: Turn Left 2, second 2: Turn Left 1: met\nfirst 2: Drop 0\nsecond 1: Move 0 0\n",
@@ -117,7 +117,7 @@ fn the_way_to_a_difference_is_told(rt: HostRuntime) -> Result<(), Fail> {
     check_tables(&rt, rt.alloc(), &WAYS_TO_DIFFERENCES)
 }
 
-// A comparison of which the output has room for 17 bytes alone.
+// A comparison for which the output has room for only 17 bytes.
 static NO_ROOM: [CutRun<'static>; 1] = [CutRun {
     job: Job {
         red: "Move 0 0",

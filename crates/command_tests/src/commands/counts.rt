@@ -10,7 +10,7 @@ use std::thread::Threads;
 // A red ant, and a black one below it.
 const BELOW: &str = "4\n4\n# # # #\n # + . #\n# - . #\n # # # #\n";
 
-// A game whose counts are asked for, the text of the same words without them, and the line of the counts.
+// A game whose counts are requested, the text of the same words without them, and the line of the counts.
 #[derive(Clone, Copy)]
 struct Counted<'t> {
     line: &'t str,

@@ -57,8 +57,8 @@ const WITH_GAMES: [(&str, &str); 5] = [
     ),
 ];
 
-// Standings alone: of three seeds' games on each of two worlds by 1, 2 and 16 workers, on a world that is named twice,
-// of a gauntlet of two, of a lead of 0, and of as many seeds as there may be.
+// Only standings: of three seeds' games on each of two worlds by 1, 2 and 16 workers, on a world that is named twice,
+// of a gauntlet of two, of a lead of 0, and of the largest number of seeds.
 const STANDINGS: [(&str, &str); 7] = [
     (
         "cup --worlds w x --brains a c d --seed 1 --seeds 3 --rounds 1 --leads",
@@ -90,7 +90,7 @@ const STANDINGS: [(&str, &str); 7] = [
     ),
 ];
 
-// Player r goes ahead in round 2 with each ant whose number leaves 0 modulo 2932; player b stays.
+// In round 2, player r moves each ant ahead whose number is 0 modulo 2932; player b doesn't move.
 const DRAWING: Job<'static> = Job {
     world: CLOSING,
     red: "Flip 2932 1 2\nMove 1 1\nDrop 2",
@@ -98,10 +98,10 @@ const DRAWING: Job<'static> = Job {
     ..NO_JOB
 };
 
-// Where r is black, its ants 0, 1, 3, 5 and 6 draw the first five numbers. Of seed 12345 they are 7193, 2932, 10386,
-// 5575 and 100, so ant 1 alone steps ahead, and the red ant 2 dies on its hill. Of 12344 they are 701, 8750, 14925,
-// 11481 and 11280, and of 12346 they are 13685, 13498, 5847, 16053 and 5304: no ant steps. Where r is red, an ant that
-// steps kills nobody.
+// If r is black, its ants 0, 1, 3, 5 and 6 draw the first five numbers. For seed 12345 they are 7193, 2932, 10386, 5575
+// and 100, so only ant 1 steps ahead, and the red ant 2 dies on its hill. For 12344 they are 701, 8750, 14925, 11481
+// and 11280, and for 12346 they are 13685, 13498, 5847, 16053 and 5304: no ant steps. If r is red, an ant that steps
+// kills none.
 const DRAWN: [(&str, &str); 3] = [
     (
         "cup --worlds w --brains r b --seed 12345 --seeds 2 --rounds 2 --games",

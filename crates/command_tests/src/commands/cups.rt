@@ -64,8 +64,7 @@ const PLAYED: [(&str, &str); 9] = [
     ),
 ];
 
-// Words that name files that aren't there, or in which they don't find what they want, and the line that names the
-// first of them.
+// Words that name files that are missing or have the wrong content, and the line that names the first of them.
 const REFUSED: [(&str, &str); 10] = [
     (
         "cup --worlds w a --brains x c --seed 1 --rounds 1",
@@ -109,7 +108,7 @@ const REFUSED: [(&str, &str); 10] = [
     ),
 ];
 
-// A cup of which a player is the file -.
+// A cup with the file - as a player.
 const DASH: Job<'static> = Job {
     world: "Flip 2 0 0",
     red: "Flip 2 0 0",
@@ -123,13 +122,13 @@ const DASHED: [(&str, &str); 1] = [(
     "3 points: - (1 won, 1 drawn, 0 lost)\n1 points: b (0 won, 1 drawn, 1 lost)\n",
 )];
 
-// Words that name a file that isn't there before one that is at fault.
+// Words that name a missing file before one that is at fault.
 const UNREAD: [(&str, &str); 1] = [(
     "cup --worlds w y --brains none c --seed 1 --rounds 1",
     "ants: y: not read\n",
 )];
 
-// Cups that are played, and such as are refused.
+// Cups that are played, and cups that are refused.
 static PLAYED_CUPS: Table<'static> = Table {
     job: CUP,
     given: Given::Line,
@@ -166,8 +165,8 @@ fn a_cup_prints_its_standing_or_names_its_first_file_at_fault(rt: HostRuntime) -
     check_rows(&rt, rt.alloc(), &UNREAD_CUPS)
 }
 
-// Words of cups whose games are told, and their lines before the standing: on w, -c, c and d as red win 3 to 0 against
-// a, since a red ant dies on its hill, and no other game brings food.
+// Words of cups whose games are printed, and their lines before the standing: on w, -c, c and d as red win 3 to 0
+// against a, since a red ant dies on its hill, and no other game brings food.
 const TOLD: [(&str, &str); 3] = [
     (
         "cup --worlds w --brains a c --games --seed 12345 --rounds 1",
@@ -189,7 +188,7 @@ const TOLD: [(&str, &str); 3] = [
     ),
 ];
 
-// Such a cup with a file at fault: no game of it is told.
+// Such a cup with a file at fault: none of its games is printed.
 const UNTOLD: [(&str, &str); 1] = [(
     "cup --worlds w --brains a none --seed 12345 --rounds 1 --games",
     "ants: none: no instruction\n",
@@ -210,7 +209,7 @@ static TOLD_CUPS: [Table<'static>; 2] = [
     },
 ];
 
-// A cup for whose second game the output has no room.
+// A cup; the output has no room for its second game.
 static CUT_CUPS: [CutRun<'static>; 1] = [CutRun {
     job: Job {
         line: "cup --worlds w --brains a c --games --seed 12345 --rounds 1",
@@ -227,7 +226,7 @@ fn the_games_of_a_cup_are_told_before_its_standing(rt: HostRuntime) -> Result<()
     check_cuts(&rt, rt.alloc(), &CUT_CUPS)
 }
 
-// Player r goes ahead in round 2 with each ant whose number leaves 0 modulo 2932; player b stays.
+// In round 2, player r moves each ant ahead whose number is 0 modulo 2932; player b doesn't move.
 const DRAWING: Job<'static> = Job {
     world: CLOSING,
     red: "Flip 2932 1 2\nMove 1 1\nDrop 2",
@@ -235,11 +234,10 @@ const DRAWING: Job<'static> = Job {
     ..NO_JOB
 };
 
-// Where r is black, its ants 0, 1, 3, 5 and 6 draw the first five numbers: of seed 12345 they are 7193, 2932, 10386,
-// 5575 and 100, so ant 1 alone steps ahead, and the red ant 2 dies on its hill. Where r is red, its ant 4 alone steps,
-// and nobody dies. The other seed is the state that follows 12345, in its lowest 30 bits, so its numbers begin 2932,
-// 10386, 5575, 100, 15976: the ant of the first is to step, and can't, since black ant 0 has rock ahead, and red ant 2
-// a foe.
+// If r is black, its ants 0, 1, 3, 5 and 6 draw the first five numbers: for seed 12345 they are 7193, 2932, 10386, 5575
+// and 100, so only ant 1 steps ahead, and the red ant 2 dies on its hill. If r is red, only its ant 4 steps, and no ant
+// dies. The other seed is the state that follows 12345, in its lowest 30 bits, so its numbers begin 2932, 10386, 5575,
+// 100, 15976: the ant of the first should step, and can't, since black ant 0 has rock ahead, and red ant 2 a foe.
 const DRAWN: [(&str, &str); 2] = [
     (
         "cup --worlds w --brains r b --seed 12345 --rounds 2",
@@ -251,9 +249,9 @@ const DRAWN: [(&str, &str); 2] = [
     ),
 ];
 
-// Of twelve ants the black ones 1, 10 and 11 have a particle ahead, and black ant 5 a cell beside both red ones: a step
-// onto it makes four foes of three for red ant 3, and five of four for red ant 6. Player r fetches food from the cell
-// ahead, and b stays.
+// Of twelve ants, the black ones 1, 10 and 11 have a particle ahead, and black ant 5 a cell beside both red ones: a
+// step onto it raises the number of foes from three to four for red ant 3, and from four to five for red ant 6. Player
+// r fetches food from the cell ahead, and b doesn't move.
 const FETCHING: Job<'static> = Job {
     world: "7\n7\n# # # # # # #\n # - # # - 1 #\n# - + - # # #\n # - . + - # #\n# # # - - # #\n # - 1 # - 1 #\n# # # # # # #\n",
     red: "Move 1 7\nPickUp 2 7\nTurn Left 3\nTurn Left 4\nTurn Left 5\nMove 6 7\nDrop 7\nDrop 7",
@@ -261,9 +259,9 @@ const FETCHING: Job<'static> = Job {
     ..NO_JOB
 };
 
-// Where r is red, no ant can step. Where it is black, red ant 6 alone dies in round 1, and leaves 3 particles on its
-// hill. Ants 1, 10 and 11 step in round 1, rest in rounds 2 to 15, take a particle in 16, turn in 17 to 19, step back
-// in 20, rest in 21 to 34, and drop it on their hill in 35.
+// If r is red, no ant can step. If it is black, only red ant 6 dies in round 1, and leaves 3 particles on its hill.
+// Ants 1, 10 and 11 step in round 1, rest in rounds 2 to 15, take a particle in 16, turn in 17 to 19, step back in 20,
+// rest in 21 to 34, and drop it on their hill in 35.
 const FETCHED: [(&str, &str); 2] = [
     (
         "cup --worlds w --brains r b --seed 1 --rounds 34",

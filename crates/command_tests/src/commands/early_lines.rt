@@ -1,5 +1,5 @@
 // Lines that are written while a game is played: once the output fails at one, nothing more is played. Each game has a
-// million rounds of 16,361 turns, which take longer than a test has.
+// million rounds of 16,361 turns, which take longer than a test may.
 use crate::commands::{CLOSED, check, cut, game_with};
 use std::alloc::Global;
 use std::process::Abort;
@@ -7,7 +7,7 @@ use std::sync::Wait;
 use std::test::Fail;
 use std::thread::Threads;
 
-// The first cells of the first rows: a red ant among four black ones, a fifth about to come, between rocks.
+// The first cells of the first rows: a red ant among four black ones, with a fifth about to arrive, between rocks.
 const AMBUSH: [&str; 6] = [
     "#######", "#.....#", "#..-#.#", "#-.+-##", "#+.--##", "#######",
 ];
@@ -15,7 +15,7 @@ const AMBUSH: [&str; 6] = [
 // How many rows and columns the world has.
 const SIDE: usize = 130;
 
-// Appends a row that begins so, goes on with cells of one kind, and ends in rock.
+// Appends a row that begins with this text, continues with cells of one kind, and ends in rock.
 fn push_row(text: &mut String, front: &str, kind: &str) -> Result<(), Fail> {
     text.push_str(front)?;
     for _ in front.len()..SIDE - 1 {
@@ -25,7 +25,7 @@ fn push_row(text: &mut String, front: &str, kind: &str) -> Result<(), Fail> {
     Ok(())
 }
 
-// Appends the rows of the ambush but for the first, each with red hills after it, and then rows of red hills alone.
+// Appends the rows of the ambush except the first, each with red hills after it, and then rows of only red hills.
 fn push_hills(text: &mut String) -> Result<(), Fail> {
     for front in &AMBUSH[1..] {
         push_row(text, front, "+")?;

@@ -22,7 +22,7 @@ const FETCH: Job<'static> = Job {
     ..NO_JOB
 };
 
-// Words, and what is told of its game: all; with food; and that from a round on.
+// Words, and what is printed of their game: everything; with food; and this from a round on.
 const FETCHED: [(&str, &str); 4] = [
     (
         "events w r b --rest 0 --seed 12345 --rounds 8",
@@ -42,8 +42,8 @@ const FETCHED: [(&str, &str); 4] = [
     ),
 ];
 
-// Words, and what is told: of no round, of a death and the score that it makes, of a death without food, of more food,
-// of six foes, which nobody has, and from the first and the second round on.
+// Words, and what is printed: of no round, of a death and the score after it, of a death without food, of more food, of
+// six foes, which no ant has, and from the first and the second round on.
 const EVENTS: [(&str, &str); 7] = [
     (
         "events w r b --seed 12345 --rounds 0",
@@ -75,8 +75,8 @@ const EVENTS: [(&str, &str); 7] = [
     ),
 ];
 
-// The first two numbers of this seed are odd and even. Red ant 2 dies before its turn, black ant 1 rests behind its
-// step or goes on, and the other black ants are blocked. Of the turns before the first round none counts.
+// The first two numbers of this seed are odd and even. Red ant 2 dies before its turn, black ant 1 rests after its step
+// or continues, and the other black ants are blocked. Turns before the first round aren't counted.
 const PROFILES: [(&str, &str); 7] = [
     (
         "profile w r b --seed 12345 --rounds 0",
@@ -108,7 +108,7 @@ const PROFILES: [(&str, &str); 7] = [
     ),
 ];
 
-// Worlds that are none.
+// Texts that are not worlds.
 const REFUSED: [(&str, &str); 1] = [("2", "ants: w: bad width\n")];
 
 static TOLD_EVENTS: Table<'static> = Table {
@@ -165,7 +165,7 @@ fn a_profile_is_told_by_its_words(rt: HostRuntime) -> Result<(), Fail> {
     check_rows(&rt, rt.alloc(), &NO_PROFILE)
 }
 
-// Events of which the output has room up to the end of the first line's words, and a profile with room for its red
+// Events for which the output has room up to the end of the first line's words, and a profile with room for its red
 // brain.
 static NO_ROOM: [CutRun<'static>; 2] = [
     CutRun {

@@ -1,4 +1,4 @@
-// Games that are played by crews, round by round.
+// Games that crews play, round by round.
 ghost use Rattle.std.specs.Prelude.{◌≡◌, ◌≤◌, true, IfOk, length};
 ghost use Rattle.ant_base.specs.Shelf.{longest};
 
@@ -19,7 +19,7 @@ use world_read::read_world;
 // The seed of that game.
 pub const SEED: u32 = 12345;
 
-// A crew that plays as another does, but for the window of one call, which it refuses.
+// A crew that plays as another does, except that it refuses the window of one call.
 #[derive(Drop)]
 struct Refusing<C: Drop> {
     crew: C,
@@ -106,7 +106,7 @@ pub(super) fn killing_field<'b, R: Abort>(
     field_on(alloc, bytes, brains, SEED)
 }
 
-// What a game has come to: how many rounds are done, what came of its turns, the place in the stream of random numbers,
+// The state of a game: how many rounds are done, the counts of its turns, the place in the stream of random numbers,
 // whether a round is at its end, and how many turns its crew says it played.
 #[derive(Clone, Copy, Debug, PartialEq, Eq)]
 struct Stage {
@@ -119,7 +119,7 @@ struct Stage {
     played: u64,
 }
 
-// What a game has come to.
+// The state of a game.
 fn stage_of<C: Crew>(game: &Game<'_>, crew: &C) -> Stage {
     let Totals {
         turns,
@@ -137,7 +137,7 @@ fn stage_of<C: Crew>(game: &Game<'_>, crew: &C) -> Stage {
     }
 }
 
-// Plays a round, and asserts what comes of it.
+// Plays a round, and asserts its result.
 fn check_round<R: Abort, C: Crew>(
     rt: &R,
     alloc: Global,
@@ -187,7 +187,7 @@ const BROKEN_OFF: Stage = Stage {
     played: 3,
 };
 
-// Asserts that the red ant of id 2 is dead.
+// Asserts that the red ant with id 2 is dead.
 fn check_dead<R: Abort>(rt: &R, game: &Game<'_>) {
     assert_eq!(rt; game.world().ant_place(2), None);
 }
@@ -205,13 +205,13 @@ fn text_with(alloc: Global, dump: &[u8]) -> Result<String, Fail> {
     Ok(format!(in alloc; "random seed: {SEED}\n{dump}\nscore: red 3 black 0\n")?)
 }
 
-// The text of a run whose one dump is that of the world of a game.
+// The text of a run with one dump, that of the world of a game.
 fn text_of(alloc: Global, game: &Game<'_>) -> Result<String, Fail> {
     let dump = dump_of(alloc, game)?;
     text_with(alloc, dump.held())
 }
 
-// Asserts that a text is the one that is wanted.
+// Asserts that a text is the expected one.
 fn check_same<R: Abort>(rt: &R, text: &str, wanted: &str) {
     assert_eq!(rt; text, wanted);
 }
@@ -223,14 +223,14 @@ fn check_killed<R: Abort>(rt: &R, alloc: Global, game: &Game<'_>) -> Result<(), 
     Ok(())
 }
 
-// A round, what comes of it, and how the game stands then.
+// A round, its result, and the state of the game after it.
 #[derive(Clone, Copy)]
 struct Round {
     answer: Result<(), OutOfMemory>,
     stage: Stage,
 }
 
-// Two rounds of that game, and the call for a window that its crew refuses; none where it is 0.
+// Two rounds of that game, and the call for a window that its crew refuses; none if it is 0.
 #[derive(Clone, Copy)]
 struct Played {
     refused: u64,
@@ -263,7 +263,7 @@ const GAMES: [Played; 2] = [
     },
 ];
 
-// Plays a round, and asserts what comes of it: the red ant of id 2 dies in the first one.
+// Plays a round, and asserts its result: the red ant with id 2 dies in the first one.
 fn check_step<R: Abort, C: Crew>(
     rt: &R,
     alloc: Global,
@@ -282,7 +282,7 @@ fn check_step<R: Abort, C: Crew>(
     Ok(())
 }
 
-// Asserts what comes of the next two rounds of a game.
+// Asserts the results of the next two rounds of a game.
 fn check_rounds<R: Abort>(
     rt: &R,
     alloc: Global,
@@ -298,13 +298,13 @@ fn check_rounds<R: Abort>(
     check_step(rt, alloc, game, &mut crew, played.second)
 }
 
-// Asserts what comes of two rounds of that game.
+// Asserts the results of two rounds of that game.
 fn check_game<R: Abort>(rt: &R, alloc: Global, played: &Played) -> Result<(), Fail> {
     let players = killing_players(rt, alloc)?;
     check_game_of(rt, alloc, &players, played)
 }
 
-// The same of the game of these players.
+// The same for the game of these players.
 fn check_game_of<R: Abort>(
     rt: &R,
     alloc: Global,
@@ -315,7 +315,7 @@ fn check_game_of<R: Abort>(
     check_rounds(rt, alloc, &mut game, played)
 }
 
-// Asserts what comes of each of these games.
+// Asserts the results of each of these games.
 fn check_games<R: Abort>(rt: &R, alloc: Global, games: &[Played]) -> Result<(), Fail> {
     for played in games {
         check_game(rt, alloc, played)?;

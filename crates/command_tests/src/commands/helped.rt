@@ -1,4 +1,4 @@
-// What the program tells of itself.
+// What the program prints about itself.
 use crate::commands::{
     CutRun, Given, Job, NO_JOB, Table, Told, check_cuts, check_rows, check_text,
 };
@@ -8,7 +8,7 @@ use std::test::Fail;
 // The line of the version.
 const VERSION: [(&str, &str); 1] = [("--version", "ants 1.2.0-dev\n")];
 
-// The words that ask for it.
+// The words that request it.
 static ASKED: Table<'static> = Table {
     job: NO_JOB,
     given: Given::Line,
@@ -23,7 +23,7 @@ static PAGE: Told<'static> = Told {
     end: "docs/RULES.md has the rules and the files, docs/COMMANDS.md the commands.\n",
 };
 
-// The words that ask for the page.
+// The words that request the page.
 const HELP: Job<'static> = Job {
     line: "--help",
     ..NO_JOB

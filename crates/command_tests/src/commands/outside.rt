@@ -24,8 +24,8 @@ const UNPLAYED_GAME: Job<'static> = Job {
 
 static UNPLAYED_ROUND: Job<'static> = UNPLAYED_GAME;
 
-// Words, the line where the fetch of each file fails, in the order in which the files are fetched, and the text where
-// none does.
+// Words, the line if the fetch of each file fails, in the order in which the files are fetched, and the text if none
+// fails.
 type Fetching<'t> = (&'t str, &'t [&'t str], &'t str);
 
 const FETCHED: [Fetching<'static>; 6] = [
@@ -76,7 +76,7 @@ const FETCHED: [Fetching<'static>; 6] = [
     ),
 ];
 
-// Asserts what comes of a command whose fetch of this number fails.
+// Asserts the result of a command whose fetch with this number fails.
 fn check_fetch<R: Threads + Wait + Sync + Abort>(
     rt: &R,
     alloc: Global,
@@ -89,7 +89,7 @@ fn check_fetch<R: Threads + Wait + Sync + Abort>(
     check(rt, alloc, &failing, wanted)
 }
 
-// Asserts that the command fetches its files in this order and nothing more: of each the line where its fetch fails.
+// Asserts that the command fetches its files in this order and nothing more: for each, the line if its fetch fails.
 fn check_fetches<R: Threads + Wait + Sync + Abort>(
     rt: &R,
     alloc: Global,
@@ -105,7 +105,7 @@ fn check_fetches<R: Threads + Wait + Sync + Abort>(
     check_fetch(rt, alloc, job, next, done(text))
 }
 
-// Asserts of each row how its files are fetched.
+// Asserts for each row how its files are fetched.
 fn check_fetchings<R: Threads + Wait + Sync + Abort>(
     rt: &R,
     alloc: Global,
@@ -123,7 +123,7 @@ fn each_file_is_fetched_once_in_the_order_of_its_word(rt: HostRuntime) -> Result
     check_fetchings(&rt, rt.alloc(), &FETCHED)
 }
 
-// Asserts what comes of a command whose output has room for so many bytes.
+// Asserts the result of a command whose output has room for this many bytes.
 fn check_in<R: Threads + Wait + Sync + Abort>(
     rt: &R,
     alloc: Global,
@@ -136,7 +136,7 @@ fn check_in<R: Threads + Wait + Sync + Abort>(
     check(rt, alloc, &full, wanted)
 }
 
-// Asserts that output with room for so many bytes of the command's text gets these, and fails.
+// Asserts that an output with room for this many bytes of the command's text gets these, and fails.
 fn check_room<R: Threads + Wait + Sync + Abort>(
     rt: &R,
     alloc: Global,
@@ -149,8 +149,8 @@ fn check_room<R: Threads + Wait + Sync + Abort>(
     check_in(rt, alloc, job, room, wanted)
 }
 
-// Asserts the same of each room that is smaller than the text, and that the command is done where the room is as large
-// as the text.
+// Asserts the same for each room that is smaller than the text, and that the command is done if the room is as large as
+// the text.
 fn check_rooms<R: Threads + Wait + Sync + Abort>(
     rt: &R,
     alloc: Global,
@@ -220,8 +220,8 @@ fn check_pushes<R: Threads + Wait + Sync + Abort>(
     Err(Fail::new("the text has 10,000 pushes or more"))
 }
 
-// Asserts what comes of a command whose push of this number fails: all its text where there is no such push, which is
-// the answer, and else a prefix of it.
+// Asserts the result of a command whose push with this number fails: its whole text if there is no such push, which is
+// the returned value, and otherwise a prefix of it.
 fn check_push<R: Threads + Wait + Sync + Abort>(
     rt: &R,
     alloc: Global,
@@ -235,8 +235,8 @@ fn check_push<R: Threads + Wait + Sync + Abort>(
     Ok(is_whole(rt, ending_of(&outcome), text, failing_push))
 }
 
-// Whether a command is done. Asserts that it wrote all its text then, and that its output failed after a prefix of it
-// else.
+// Whether a command is done. Asserts that it then wrote its whole text, and that otherwise its output failed after a
+// prefix of it.
 fn is_whole<R: Abort>(rt: &R, ending: Ending<'_>, text: &str, failing_push: u64) -> bool {
     if ending.status == Status::Done {
         assert_eq!(rt; ending, done(text));
@@ -262,8 +262,7 @@ const WRITTEN: [(&str, &str); 6] = [
     ("workload 12345 0 4", UNTOUCHED),
 ];
 
-// Asserts of each command what its output gets where a push fails, and where its room is nothing, one byte, or all but
-// one.
+// Asserts for each command what its output gets if a push fails, and if its room is 0, one byte, or one byte too small.
 fn check_written<R: Threads + Wait + Sync + Abort>(
     rt: &R,
     alloc: Global,
@@ -275,7 +274,7 @@ fn check_written<R: Threads + Wait + Sync + Abort>(
     Ok(())
 }
 
-// Asserts the same of one command.
+// Asserts the same for one command.
 fn check_failures<R: Threads + Wait + Sync + Abort>(
     rt: &R,
     alloc: Global,
@@ -293,7 +292,7 @@ fn a_push_that_fails_ends_the_text(rt: HostRuntime) -> Result<(), Fail> {
     check_written(&rt, rt.alloc(), &WRITTEN)
 }
 
-// Asserts the same of the pushes of the game in which an ant dies, with its counts.
+// Asserts the same for the pushes of the game in which an ant dies, with its counts.
 fn check_killing_pushes<R: Threads + Wait + Sync + Abort>(
     rt: &R,
     alloc: Global,

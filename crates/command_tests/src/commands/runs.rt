@@ -21,7 +21,7 @@ const ROW: &str = "5\n3\n# # # # #\n # + + - #\n# # # # #\n";
 // A red ant among six black ones.
 const SURROUNDED: &str = "5\n5\n# # # # #\n # - - . #\n# - + - #\n # - - . #\n# # # # #\n";
 
-// A black ant among four red ones, beside a red ant among five black ones; a red ant is about to stand beside both.
+// A black ant among four red ones, beside a red ant among five black ones; a red ant is about to step beside both.
 pub const NEIGHBOURS: &str =
     "6\n6\n# # # # # #\n # . + + # #\n# + . - + #\n # - + - . #\n# . - - . #\n # # # # # #\n";
 
@@ -116,14 +116,14 @@ const TURNING: Job<'static> = Job {
     ..NO_JOB
 };
 
-// Words that ask for all dumps of it.
+// Words that request all dumps of it.
 const DUMPED: [(&str, &str); 3] = [
     ("run w r b --seed 12345 --rounds 1 --dump 0,1", TURNED),
     ("run w r b --dump all --rounds 1 --seed 12345", TURNED),
     ("run w r b --rounds 1 --dump 9,1,0,1 --seed 12345", TURNED),
 ];
 
-// Words that ask for no round, or for no dump.
+// Words that request no round, or no dump.
 const BARE: [(&str, &str); 3] = [
     ("run w r b --seed 7 --rounds 0", UNPLAYED),
     ("run w r b --seed 7 --rounds 0 --dump none", UNPLAYED),
@@ -184,7 +184,7 @@ fn a_run_prints_its_seed_its_dumps_and_its_score(rt: HostRuntime) -> Result<(), 
     check_rows(&rt, rt.alloc(), &KILLING_RUNS)
 }
 
-// A game, lines of its text in their order, others between them, and the end of its text.
+// A game, lines of its text in order, perhaps with others between them, and the end of its text.
 #[derive(Clone, Copy)]
 struct Game<'t> {
     line: &'t str,
@@ -282,7 +282,7 @@ const GAMES: [Game<'static>; 7] = [
     },
 ];
 
-// Asserts of each game that it is played, and how its text is told.
+// Asserts for each game that it is played, and that its text fits.
 fn check_games<R: Threads + Wait + Sync + Abort>(
     rt: &R,
     alloc: Global,

@@ -12,7 +12,7 @@ const TURNING: Job<'static> = Job {
     ..NO_JOB
 };
 
-// It after one round.
+// The game after one round.
 const SAVED: &str =
     "ants save 1\nseed 12345\nsheet 5 3 14\nwindow 16384\nround 1\nplace 0\ntaken 1 redone 0\nsize 3 3\nred 1\nTurn Left 0\nblack 1\nTurn Left 0\n###\n#+#\n###\n000\n000\n000\n000\n000\n000\n000\n000\n000\nant 0 red 1 1 5 0 0 0\nend\n";
 
@@ -24,7 +24,7 @@ const TWO_TURNS: &str =
 const REST: &str =
     "\nAfter round 2...\ncell (0, 0): rock\ncell (1, 0): rock\ncell (2, 0): rock\ncell (0, 1): rock\ncell (1, 1): red hill; red ant of id 0, dir 4, food 0, state 0, resting 0\ncell (2, 1): rock\ncell (0, 2): rock\ncell (1, 2): rock\ncell (2, 2): rock\n\nscore: red 0 black 0\nturns 2 taken 2 redone 0\n";
 
-// It at the start, by another sheet and in other windows.
+// The game at the start, with another sheet and other windows.
 const BEGUN: &str =
     "ants save 1\nseed 7\nsheet 4 2 9\nwindow 50\nround 0\nplace 0\ntaken 0 redone 0\nsize 3 3\nred 1\nTurn Left 0\nblack 1\nTurn Left 0\n###\n#+#\n###\n000\n000\n000\n000\n000\n000\n000\n000\n000\nant 0 red 1 1 0 0 0 0\nend\n";
 
@@ -60,9 +60,9 @@ const STOOD: [(&str, &str); 1] = [(
 )];
 
 // Saves, and the rest of each up to round 3. In the first an ant flips by the second number of its stream, 2932, and
-// then moves, to rest for 9 turns; it would do neither by the first number, 7193. In the second two ants sense the
+// then moves, to rest for 9 turns; with the first number, 7193, it would do neither. In the second two ants sense the
 // marker that the first ant sets in round 2: in windows of two turns one of their looks is made before it, in windows
-// of one turn none, in longer ones both. In the third the rows stand from the top, and the amounts of food in row
+// of one turn none, in longer ones both. In the third the rows are listed from the top, and the amounts of food in row
 // order.
 const LATER: [(&str, &str); 3] = [
     (
@@ -79,7 +79,7 @@ const LATER: [(&str, &str); 3] = [
     ),
 ];
 
-// Words that go on with it.
+// Words that continue it.
 const RESUMES: [(&str, &str); 3] = [
     ("resume k --rounds 2 --dump 1,2 --stats", REST),
     ("resume k --stats --workers 2 --dump all --rounds 2", REST),
@@ -89,7 +89,7 @@ const RESUMES: [(&str, &str); 3] = [
 // Words that don't.
 const TOO_FEW: [(&str, &str); 1] = [("resume k --rounds 0", "ants: k: already at round 1\n")];
 
-// Texts that are no save to go on with. The last has the longest line of a brain that is in form.
+// Texts that are not saves to be continued. The last has the longest line of a brain that is in form.
 const REFUSED: [(&str, &str); 4] = [
     ("", "ants: k: line 1: not a save\n"),
     (
@@ -103,7 +103,7 @@ const REFUSED: [(&str, &str); 4] = [
     ),
 ];
 
-// Words that go on with it and save it again.
+// Words that continue it and save it again.
 const ADVANCES: [(&str, &str); 3] = [
     (
         "advance k --rounds 2",
@@ -113,8 +113,8 @@ const ADVANCES: [(&str, &str); 3] = [
     ("advance k --workers 3 --rounds 1", SAVED),
 ];
 
-// Saves, and each after round 3: what was marked in between stands in it, and its rounds, draws and turns are counted
-// beside the earlier ones.
+// Saves, and each after round 3: what was marked in between is in it, and its rounds, draws and turns are added to the
+// earlier ones.
 const ADVANCED: [(&str, &str); 4] = [
     (
         STANDING,
@@ -141,19 +141,19 @@ const NOT_ADVANCED: [(&str, &str); 3] = [
     ("ants save 1\nseed 1\n", "ants: k: line 3: not a save\n"),
 ];
 
-// The game, with its save to go on with.
+// The game, with its save to be continued.
 const GOING_ON: Job<'static> = Job {
     breaks: SAVED,
     ..TURNING
 };
 
-// The words that go on with a save of the game.
+// The words that continue a save of the game.
 const RESUMED: Job<'static> = Job {
     line: "resume k --rounds 2",
     ..TURNING
 };
 
-// Games that are saved or gone on with, and saves that are refused.
+// Games that are saved or continued, and saves that are refused.
 static SAVED_GAMES: [Table<'static>; 2] = [
     Table {
         job: TURNING,

@@ -14,7 +14,7 @@ use std::alloc::Global;
 use std::process::Abort;
 use std::test::Fail;
 
-// Settles the next turn by the look at it, and executes the turn again if the look doesn't hold.
+// Settles the next turn by the look at it, and executes the turn again if the look isn't valid.
 fn settle_or_redo(book: &mut Book, field: &Field<'_>, look: Look) -> Option<Cause>
     requires stands { StandsOn field.now book.old }
     requires left { book.old.next < book.old.to }
@@ -32,7 +32,7 @@ fn settle_or_redo(book: &mut Book, field: &Field<'_>, look: Look) -> Option<Caus
     }
 }
 
-// Settles all turns of a window by looks at these guesses, and lists what became of each.
+// Settles all turns of a window by looks at these guesses, and lists the result of each.
 fn settle_window(
     book: &mut Book,
     field: &Field<'_>,
@@ -55,7 +55,7 @@ fn settle_window(
     Ok(())
 }
 
-// Plays a window by looks that are made one after another at guesses that were listed first, and lists what became of
+// Plays a window by looks that are made one after another at guesses that were listed first, and lists the result of
 // each.
 fn play_by_looks(
     alloc: Global,
@@ -79,18 +79,18 @@ fn play_by_looks(
     Ok(field.finish(book))
 }
 
-// What became of the look at a turn of that game.
+// The result of the look at a turn of that game.
 #[derive(Clone, Copy, Debug, PartialEq, Eq)]
 enum Fate {
     Taken,
-    // Redone, since the ant on (3, 3) is another, or in another mind.
+    // Executed again, since the ant on (3, 3) has changed, or its state, rest or direction has.
     OfTheKilled,
-    // Redone, since its random number is the one at place 0, where that at place 1 was guessed.
+    // Executed again, since its random number is the one at place 0, and that at place 1 was guessed.
     OfTheFlip,
     Other,
 }
 
-// What became of a look.
+// The result of a look.
 fn fate_of(cause: &Option<Cause>) -> Fate {
     match cause {
         None => Fate::Taken,
@@ -110,8 +110,8 @@ fn fate_of(cause: &Option<Cause>) -> Fate {
     }
 }
 
-// A black ant kills the red ant of id 2 in its turn, and the red ant of id 4 draws the number that was guessed to be
-// that one's.
+// A black ant kills the red ant with id 2 in its turn, and the red ant with id 4 draws the number that was guessed for
+// the killed one.
 const FATES: [Fate; 7] = [
     Fate::Taken,
     Fate::Taken,
@@ -122,7 +122,7 @@ const FATES: [Fate; 7] = [
     Fate::Taken,
 ];
 
-// Asserts what became of each look.
+// Asserts the result of each look.
 fn check_fates<R: Abort>(rt: &R, causes: &[Option<Cause>], wanted: &[Fate]) {
     assert_eq!(rt; causes.len(), wanted.len());
     for (cause, fate) in causes.iter().zip(wanted) {
@@ -130,12 +130,12 @@ fn check_fates<R: Abort>(rt: &R, causes: &[Option<Cause>], wanted: &[Fate]) {
     }
 }
 
-// Asserts what became of a look.
+// Asserts the result of a look.
 fn check_fate<R: Abort>(rt: &R, cause: &Option<Cause>, wanted: Fate) {
     assert_eq!(rt; fate_of(cause), wanted, "{cause:?}");
 }
 
-// Asserts that a field is that of seven ants, of which none has drawn a number.
+// Asserts that a field is that of seven ants, none of which has drawn a number.
 fn check_beginning<R: Abort>(rt: &R, field: &Field<'_>)
     ensures ids { 7 ≤ field.now.world.ids }
     ensures place { field.now.place ≡ 0 }
@@ -144,7 +144,7 @@ fn check_beginning<R: Abort>(rt: &R, field: &Field<'_>)
     assert!(rt; field.place() == 0);
 }
 
-// Settles the first round of a field of seven ants, and asserts its counts and what became of each look.
+// Settles the first round of a field of seven ants, and asserts its counts and the result of each look.
 fn check_settled<R: Abort>(
     rt: &R,
     alloc: Global,
@@ -161,7 +161,7 @@ fn check_settled<R: Abort>(
     Ok(())
 }
 
-// Settles the round of these players in which the red ant dies, and asserts its counts and what became of each look.
+// Settles the round of these players in which the red ant dies, and asserts its counts and the result of each look.
 fn check_round_of<R: Abort>(
     rt: &R,
     alloc: Global,
@@ -172,7 +172,7 @@ fn check_round_of<R: Abort>(
     check_settled(rt, alloc, &mut field, wanted)
 }
 
-// The same of the players of that game.
+// The same for the players of that game.
 fn check_settling<R: Abort>(rt: &R, alloc: Global, wanted: &[Fate]) -> Result<(), Fail> {
     let players = killing_players(rt, alloc)?;
     check_round_of(rt, alloc, &players, wanted)

@@ -31,7 +31,7 @@ const SPELLED: [(&str, &str); 3] = [
     ("3\r\n3\r\n# # #\r\n # + #\r\n# # #\r\n\r\n", SHOWN),
 ];
 
-// Texts that are no world, and the line that names the first fault of each.
+// Texts that are not worlds, and the line that names the first fault of each.
 const REFUSED: [(&str, &str); 11] = [
     ("", "ants: w: bad width\n"),
     ("2\n3\n", "ants: w: bad width\n"),
@@ -62,7 +62,7 @@ const SHOW: Job<'static> = Job {
     ..NO_JOB
 };
 
-// Worlds that are shown, and such as are refused.
+// Worlds that are shown, and texts that are refused.
 static WORLDS: [Table<'static>; 3] = [
     Table {
         job: SHOW,

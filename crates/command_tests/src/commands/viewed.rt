@@ -103,7 +103,7 @@ const LATER: [(&str, &str); 7] = [
     ),
 ];
 
-// Texts that are no breaks, and the line that names the first fault of each.
+// Texts that are not lists of breaks, and the line that names the first fault of each.
 const REFUSED: [(&str, &str); 14] = [
     ("K", "ants: k: line 1: unknown word\n"),
     ("Ki", "ants: k: line 1: unknown word\n"),
@@ -210,8 +210,8 @@ fn a_view_without_a_turn_at_which_a_break_holds_says_so(rt: HostRuntime) -> Resu
     check_tables(&rt, rt.alloc(), &UNSTOPPED)
 }
 
-// One red ant: it goes to state 3 where its first number leaves 0 modulo 7193 and the second leaves 0 modulo 2932, and
-// else to state 2.
+// One red ant: it goes to state 3 if its first number is 0 modulo 7193 and the second is 0 modulo 2932, and otherwise
+// to state 2.
 const DRAWING: Job<'static> = Job {
     world: CLOSED,
     red: "Flip 7193 1 2\nFlip 2932 3 2\nDrop 2\nDrop 3",
@@ -222,7 +222,7 @@ const DRAWING: Job<'static> = Job {
 
 // The numbers of seed 12345 begin 7193, 2932: it is in state 1 after round 1, in state 3 after round 2. The other seed
 // is the state that follows 12345, in its lowest 30 bits, so its numbers begin 2932: the ant is in state 2 after round
-// 1. In rounds that are passed over it draws its numbers, too: from round 3 on it is in state 3 after the first turn.
+// 1. In rounds that are skipped it draws its numbers, too: from round 3 on it is in state 3 after the first turn.
 const DRAWN: [(&str, &str); 5] = [
     (
         "view w r b k --seed 12345 --rounds 5",
@@ -253,7 +253,7 @@ static DRAWN_VIEWS: Table<'static> = Table {
     rows: &DRAWN,
 };
 
-// Red ant 2 steps beside black ant 3, which has five foes then, and red ant 6, which has four once that one is dead.
+// Red ant 2 steps beside black ant 3, which then has five foes, and red ant 6, which has four once that one is dead.
 const CONTEST: [(&str, &str); 1] = [("Killed 6", "random seed: 1\nno stop in 1 rounds\n")];
 
 static CONTEST_VIEW: Table<'static> = Table {
@@ -291,7 +291,7 @@ fn check_stop<R: Threads + Wait + Sync + Abort>(
     check_text(rt, alloc, job, &told)
 }
 
-// Asserts of the job with each of these texts the second line of its view.
+// Asserts the second line of the view of the job with each of these texts.
 fn check_stops<'t, R: Threads + Wait + Sync + Abort>(
     rt: &R,
     alloc: Global,

@@ -12,8 +12,8 @@ const AMBUSH: Job<'static> = Job {
     ..NO_JOB
 };
 
-// Words, and what is told of an ant: up to its death, from a round on, by other numbers of the rules, where it comes to
-// a corpse as soon as it has rested, in no round, and of none that was made.
+// Words, and what is printed of an ant: up to its death, from a round on, with other numbers of the rules, where it
+// reaches a corpse as soon as it has rested, in no round, and of an id that never existed.
 const WAYS: [(&str, &str); 10] = [
     (
         "trace w r b 2 --seed 12345 --rounds 5",
@@ -57,7 +57,7 @@ const WAYS: [(&str, &str); 10] = [
     ),
 ];
 
-// Worlds that are none.
+// Texts that are not worlds.
 const REFUSED: [(&str, &str); 1] = [("2", "ants: w: bad width\n")];
 
 static TOLD_WAYS: Table<'static> = Table {
@@ -83,7 +83,7 @@ fn an_ants_way_is_told_by_its_words(rt: HostRuntime) -> Result<(), Fail> {
     check_rows(&rt, rt.alloc(), &REFUSED_WORLDS)
 }
 
-// A way of which the output has room for the words of the seed alone.
+// A trace for which the output has only room for the words of the seed.
 static NO_ROOM: [CutRun<'static>; 1] = [CutRun {
     job: Job {
         line: "trace w r b 7 --seed 12345 --rounds 5",

@@ -1,4 +1,4 @@
-// Words that are no command.
+// Words that are not a command.
 use crate::commands::{
     CLOSED, Ending, Given, Job, NO_JOB, Outcome, ROOM, Table, check_rows, ending_of, outcome_of,
     split, stopped,
@@ -34,7 +34,7 @@ const REFUSED: [(&str, &str); 20] = [
     ("brain b b", "ants: word 3 refused\n"),
 ];
 
-// The same of the command `run`.
+// The same for the command `run`.
 const REFUSED_RUNS: [(&str, &str); 24] = [
     ("run", "ants: word 2 refused\n"),
     ("run w r --seed 1 --rounds 2", "ants: word 4 refused\n"),
@@ -77,7 +77,7 @@ const REFUSED_RUNS: [(&str, &str); 24] = [
     ),
 ];
 
-// The same of the command `cup`.
+// The same for the command `cup`.
 const REFUSED_CUPS: [(&str, &str); 12] = [
     ("cup", "ants: word 2 refused\n"),
     ("cup w --brains r b", "ants: word 2 refused\n"),
@@ -105,7 +105,7 @@ const REFUSED_CUPS: [(&str, &str); 12] = [
     ),
 ];
 
-// The same of other commands.
+// The same for other commands.
 const REFUSED_OTHERS: [(&str, &str); 37] = [
     ("gen 1 --width 2", "ants: word 4 refused\n"),
     ("gen 1 --height 513", "ants: word 4 refused\n"),
@@ -149,7 +149,7 @@ const REFUSED_OTHERS: [(&str, &str); 37] = [
     ),
 ];
 
-// The same of the options that choose what is printed.
+// The same for the options that choose what is printed.
 const REFUSED_FLAGS: [(&str, &str); 6] = [
     ("asm --labels r", "ants: word 2 refused\n"),
     ("asm r --labels --labels", "ants: word 4 refused\n"),
@@ -162,7 +162,7 @@ const REFUSED_FLAGS: [(&str, &str); 6] = [
     ),
 ];
 
-// No commands, beside a world.
+// Words that are not commands, beside a world.
 static NO_COMMANDS: Table<'static> = Table {
     job: Job {
         world: CLOSED,
@@ -222,7 +222,7 @@ fn the_first_word_with_which_no_command_begins_is_refused(rt: HostRuntime) -> Re
     check_rows(&rt, rt.alloc(), &NO_FLAGS)
 }
 
-// Words with `--far`, and the line that names the refused one where nobody may wait for a worker.
+// Words with `--far`, and the line that names the refused one if the program may not wait for workers.
 const REFUSED_HERE: [(&str, &str); 4] = [
     (
         "run w r b --seed 1 --rounds 1 --far",
@@ -239,7 +239,7 @@ const REFUSED_HERE: [(&str, &str); 4] = [
     ("brain b --far", "ants: word 3 refused\n"),
 ];
 
-// Carries out these words, without any file, where nobody may wait for a worker.
+// Carries out these words, without any file, in a program that may not wait for workers.
 fn answer_here<R: Threads + Sync>(
     rt: &R,
     alloc: Global,
@@ -258,7 +258,7 @@ fn answer_line<R: Threads + Sync>(rt: &R, alloc: Global, line: &str) -> Result<O
     answer_here(rt, alloc, &words)
 }
 
-// Asserts what comes of words where nobody may wait for a worker.
+// Asserts the result of words in a program that may not wait for workers.
 fn check_here<R: Threads + Sync + Abort>(
     rt: &R,
     alloc: Global,
@@ -275,7 +275,7 @@ fn check_line<R: Abort>(rt: &R, line: &str, ending: Ending<'_>, wanted: Ending<'
     assert_eq!(rt; ending, wanted, "at {line:?}");
 }
 
-// Asserts which word of each row is refused where nobody may wait for a worker.
+// Asserts which word of each row is refused in a program that may not wait for workers.
 fn check_rows_here<R: Threads + Sync + Abort>(
     rt: &R,
     alloc: Global,

@@ -18,7 +18,7 @@ use std::sync::atomic::{AtomicBool, AtomicU32, Ordering};
 use std::test::Fail;
 use std::thread::Threads;
 
-// Turns after which a worker that waits for another one gives up.
+// The number of turns after which a worker that waits for another one gives up.
 const PATIENCE: u32 = 100_000_000;
 
 // Workers whose first looks wait for each other, each up to its patience; whether one waited in vain or was none of
@@ -31,7 +31,7 @@ struct Meeting {
 }
 
 impl Meeting {
-    // Of so many workers, of whom nobody is there yet, for a round of so many turns.
+    // For this many workers, none of which has called yet, and a round of this many turns.
     fn of(alloc: Global, workers: usize, turns: usize) -> Result<Meeting, Fail> {
         Ok(Meeting {
             begun: nobody(alloc, workers)?,
@@ -57,7 +57,7 @@ fn check_announced<R: Abort>(rt: &R, turn: usize, count: &AtomicU32, wanted: u32
     assert_eq!(rt; count.load(Ordering::SeqCst), wanted, "turn {turn}");
 }
 
-// So many workers who haven't begun.
+// This many workers that haven't begun.
 fn nobody(alloc: Global, workers: usize) -> Result<Vec<AtomicBool>, Fail> {
     let mut begun = Vec::new(alloc);
     for _ in 0..workers {
@@ -66,7 +66,7 @@ fn nobody(alloc: Global, workers: usize) -> Result<Vec<AtomicBool>, Fail> {
     Ok(begun)
 }
 
-// So many turns that weren't announced.
+// This many turns that weren't announced.
 fn nothing(alloc: Global, turns: usize) -> Result<Vec<AtomicU32>, Fail> {
     let mut announced = Vec::new(alloc);
     for _ in 0..turns {
@@ -90,7 +90,7 @@ impl Gate for Meeting {
     }
 }
 
-// Says that one worker has begun, and whether all begin within its patience.
+// Announces that one worker has begun, and returns whether all begin within its patience.
 fn meets(own: &AtomicBool, all: &[AtomicBool]) -> bool {
     own.store(true, Ordering::SeqCst);
     for other in all {
@@ -101,7 +101,7 @@ fn meets(own: &AtomicBool, all: &[AtomicBool]) -> bool {
     true
 }
 
-// Whether a worker begins before the patience of another one is at its end.
+// Whether a worker begins before another one's patience ends.
 fn begins(worker: &AtomicBool) -> bool {
     for _ in 0..PATIENCE {
         if worker.load(Ordering::SeqCst) {
@@ -152,7 +152,7 @@ const COUNTED: [(&str, &str); 9] = [
     ),
 ];
 
-// Asserts what is written of that round with these words, by workers that call this gate.
+// Asserts what is written for that round with these words, by workers that call this gate.
 fn check_killing<R: Threads + Wait + Sync + Abort, G: Gate>(
     rt: &R,
     alloc: Global,
@@ -165,7 +165,7 @@ fn check_killing<R: Threads + Wait + Sync + Abort, G: Gate>(
     check_by(rt, alloc, &job, gate, done(&whole))
 }
 
-// Asserts what is written of that round with the words of each row.
+// Asserts what is written for that round with the words of each row.
 fn check_workers<R: Threads + Wait + Sync + Abort>(
     rt: &R,
     alloc: Global,
@@ -185,8 +185,8 @@ fn any_number_of_workers_writes_the_same_bytes(rt: HostRuntime) -> Result<(), Fa
 // How many turns that round has.
 const TURNS: usize = 7;
 
-// A window of that round by a crew: of how many workers, from which turn on, and what came of it: its counts, the turns
-// that the crew says it played, and the place to which it came.
+// A window of that round by a crew: the number of workers, the first turn, and the result: its counts, the turns that
+// the crew says it played, and the place after it.
 #[derive(Clone, Copy, Debug, PartialEq, Eq)]
 struct Window {
     workers: u32,
@@ -225,7 +225,7 @@ const WINDOWS: [Window; 3] = [
     },
 ];
 
-// Plays the turns of a field from one on, by a crew of so many workers whose looks are made in pieces.
+// Plays the turns of a field from one on, by a crew of this many workers whose looks are made in pieces.
 fn window_in_pieces<R: Threads + Sync, G: Gate>(
     rt: &R,
     alloc: Global,
@@ -279,13 +279,13 @@ fn window_on_board<R: Threads + Sync, G: Gate>(
     })
 }
 
-// Asserts what came of a window whose workers met and announced each of its turns once.
+// Asserts the result of a window whose workers met and announced each of its turns once.
 fn check_window<R: Abort>(rt: &R, meeting: &Meeting, window: Window, wanted: &Window) {
     assert_eq!(rt; window, *wanted);
     meeting.check(rt, wanted.from as usize);
 }
 
-// Asserts what comes of a window of a field by a crew of pieces, whose workers meet and announce each of its turns
+// Asserts the result of a window of a field by a crew of pieces, whose workers meet and announce each of its turns
 // once.
 fn check_field_in_pieces<R: Threads + Sync + Abort>(
     rt: &R,
@@ -322,7 +322,7 @@ fn check_field_on_board<R: Threads + Sync + Abort>(
     Ok(())
 }
 
-// Asserts what comes of a window of that round by a crew of pieces.
+// Asserts the result of a window of that round by a crew of pieces.
 fn check_pieces<R: Threads + Sync + Abort>(
     rt: &R,
     alloc: Global,
@@ -333,7 +333,7 @@ fn check_pieces<R: Threads + Sync + Abort>(
     check_field_in_pieces(rt, alloc, &mut field, wanted)
 }
 
-// The same of a crew with a board.
+// The same for a crew with a board.
 fn check_board<R: Threads + Sync + Abort>(
     rt: &R,
     alloc: Global,
@@ -344,7 +344,7 @@ fn check_board<R: Threads + Sync + Abort>(
     check_field_on_board(rt, alloc, &mut field, wanted)
 }
 
-// Asserts of each window what comes of it by both crews.
+// Asserts the result of each window by both crews.
 fn check_each<R: Threads + Sync + Abort>(
     rt: &R,
     alloc: Global,
@@ -358,7 +358,7 @@ fn check_each<R: Threads + Sync + Abort>(
     Ok(())
 }
 
-// Asserts of each window of that round what comes of it by both crews.
+// Asserts the result of each window of that round by both crews.
 fn check_windows<R: Threads + Sync + Abort>(
     rt: &R,
     alloc: Global,
@@ -373,9 +373,9 @@ fn crews_of_two_and_three_look_at_the_same_time(rt: HostRuntime) -> Result<(), F
     check_windows(&rt, rt.alloc(), &WINDOWS)
 }
 
-// Words of the same round, how many workers meet in it, and its counts where they are asked for. No more meet than
-// there are turns; one that stands by calls the gate also where it is alone, and all of them do in each window, or the
-// committer would in their place.
+// Words of the same round, how many workers meet in it, and its counts if they are requested. No more meet than there
+// are turns. A worker that stays ready calls the gate even if it is alone, and all of them do so in each window;
+// otherwise the committer would do it for them.
 const MET: [(&str, usize, &str); 9] = [
     (
         "run w r b --seed 12345 --rounds 1 --dump 1 --workers 2",
@@ -420,7 +420,7 @@ const MET: [(&str, usize, &str); 9] = [
     ),
 ];
 
-// Asserts what is written of that round by so many workers, who meet and announce each of its turns once.
+// Asserts what is written for that round by this many workers, which meet and announce each of its turns once.
 fn check_run<R: Threads + Wait + Sync + Abort>(
     rt: &R,
     alloc: Global,
@@ -434,7 +434,7 @@ fn check_run<R: Threads + Wait + Sync + Abort>(
     Ok(())
 }
 
-// Asserts the same of the words of each row.
+// Asserts the same for the words of each row.
 fn check_runs<R: Threads + Wait + Sync + Abort>(
     rt: &R,
     alloc: Global,
@@ -459,7 +459,7 @@ struct Round<'t> {
     turns: usize,
 }
 
-// A workload; and a game that is saved, one that goes on, and one that is saved again.
+// A workload; and a game that is saved, one that is continued, and one that is saved again.
 static ROUNDS: [Round<'static>; 4] = [
     Round {
         job: Job {
@@ -497,7 +497,7 @@ static ROUNDS: [Round<'static>; 4] = [
     },
 ];
 
-// Asserts that a command is done by workers who meet, and who announce each turn of its one round once.
+// Asserts that a command is done by workers which meet and announce each turn of its one round once.
 fn check_meeting<R: Threads + Wait + Sync + Abort>(
     rt: &R,
     alloc: Global,
@@ -509,7 +509,7 @@ fn check_meeting<R: Threads + Wait + Sync + Abort>(
     Ok(())
 }
 
-// Asserts that a command is done, whose workers call this gate.
+// Asserts that a command whose workers call this gate is done.
 fn check_done<R: Threads + Wait + Sync + Abort, G: Gate>(
     rt: &R,
     alloc: Global,
@@ -522,7 +522,7 @@ fn check_done<R: Threads + Wait + Sync + Abort, G: Gate>(
     Ok(())
 }
 
-// Asserts the same of each command.
+// Asserts the same for each command.
 fn check_meetings<R: Threads + Wait + Sync + Abort>(
     rt: &R,
     alloc: Global,

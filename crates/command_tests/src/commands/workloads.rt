@@ -12,8 +12,8 @@ pub const UNTOUCHED: &str = "workload seed 12345 rounds 0\n\
     score: red 0 black 0\n\
     turns 0 taken 0 redone 0\n";
 
-// The world of the seed 55 after 100 rounds, as another program plays them too: two black ants died, and food came to
-// the red hill.
+// The world of the seed 55 after 100 rounds, as another program plays them too: two black ants died, and there is food
+// on the red hill.
 const PLAYED: &str = "workload seed 55 rounds 100\n\
     ants 254\n\
     food 1375\n\
@@ -21,8 +21,8 @@ const PLAYED: &str = "workload seed 55 rounds 100\n\
     score: red 6 black 0\n\
     turns 25400 taken 25377 redone 23\n";
 
-// The world of the seed 12345 after a thousand rounds, as another program plays them too: no ant died, and no food is
-// at a hill.
+// The world of the seed 12345 after a thousand rounds, as another program plays them too: no ant died, and there is no
+// food on a hill.
 const THOUSAND: &str = "workload seed 12345 rounds 1000\n\
     ants 254\n\
     food 1375\n\
@@ -30,7 +30,7 @@ const THOUSAND: &str = "workload seed 12345 rounds 1000\n\
     score: red 0 black 0\n\
     turns 254000 taken 253622 redone 378\n";
 
-// Workloads, and what is told of them.
+// Workloads, and what is printed of them.
 const PLAYED_OUT: [(&str, &str); 4] = [
     ("workload 12345 0 4", UNTOUCHED),
     ("workload 0000012345 00 16", UNTOUCHED),

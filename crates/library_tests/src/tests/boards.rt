@@ -1,5 +1,5 @@
 // The steps of a board for the seven turns of a round, on one thread: which seat finds the book and which look, and
-// what a closed board leaves. And that a worker alone brings the book to the window's end.
+// what is left of a closed board. Also, a worker alone brings the book to the window's end.
 ghost use Rattle.std.specs.Prelude.{◌≡◌, ◌+◌, ◌<◌, ◌≤◌, ◌^◌, true, IfOk};
 ghost use Rattle.round_book.specs.Book.{CanBegin, IsLentFor, StandsFor, window_of};
 ghost use Rattle.round_book.specs.Machine.{times};
@@ -57,7 +57,7 @@ fn put(board: &Board, field: &Field<'_>, seat: &mut Seat, turn: u32)
     board.put(seat, look);
 }
 
-// Takes the look at the next turn, which is this one, and settles it: the look holds.
+// Takes the look at the next turn, which is this one, and settles it: the look is valid.
 fn settle<R: Abort>(rt: &R, board: &Board, seat: &mut Seat, book: &mut Book, turn: u32)
     requires board { IsSeatOf board.now seat.old }
     requires from { (basis_of board.now).from ≡ 0 }
@@ -69,7 +69,7 @@ fn settle<R: Abort>(rt: &R, board: &Board, seat: &mut Seat, book: &mut Book, tur
     ensures took { known seat.new ≡ took_look (known seat.old) turn }
     ensures stands { StandsFor (board_window board.now) book.new }
 {
-    // for its clause: the conditions of `settle` are met
+    // called for its clause: the conditions of `settle` are met
     standing_books_settle();
     assert_eq!(rt; book.next(), turn);
     let Some(look) = board.take_look(seat, turn) else {
@@ -80,7 +80,7 @@ fn settle<R: Abort>(rt: &R, board: &Board, seat: &mut Seat, book: &mut Book, tur
     };
 }
 
-// Asserts which looks a closed board leaves.
+// Asserts which looks are left of a closed board.
 fn check_left<R: Abort>(rt: &R, looks: &[Option<Look>], wanted: &[bool]) {
     assert_eq!(rt; looks.len(), wanted.len());
     for (look, there) in looks.iter().zip(wanted) {

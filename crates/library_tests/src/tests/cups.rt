@@ -19,7 +19,7 @@ use tournament::{
 // More bytes than any text of these tests has.
 const ROOM: u64 = 2000;
 
-// Turns after which a game that waits for another one gives up.
+// The number of turns after which a game that waits for another one gives up.
 const PATIENCE: u32 = 100000000;
 
 // One seed, no leads, and the games of all players.
@@ -84,7 +84,7 @@ impl Referee for Meeting {
     }
 }
 
-// Says that one game has begun, and whether the other one begins within its patience.
+// Announces that one game has begun, and returns whether the other one begins within its patience.
 fn meets(own: &AtomicBool, other: &AtomicBool) -> bool {
     own.store(true, Ordering::SeqCst);
     for _ in 0..PATIENCE {
@@ -105,7 +105,7 @@ fn named(alloc: Global, list: &[&str]) -> Result<Names, Fail> {
     Ok(names)
 }
 
-// Plays games on this thread where one worker is asked for, else by workers.
+// Plays games on this thread if one worker is requested, otherwise by workers.
 fn played<R: Threads + Sync, F: Referee>(
     rt: &R,
     alloc: Global,
@@ -159,7 +159,8 @@ fn the_winner_stands_first_with_any_number_of_workers(rt: HostRuntime) -> Result
     )
 }
 
-// Asserts what is told of a cup of players a and b on worlds of these names with 1, 2 and 16 workers, and how it ends.
+// Asserts what is printed of a cup of players a and b on worlds of these names with 1, 2 and 16 workers, and how it
+// ends.
 fn check_told<R: Threads + Sync + Abort, F: Referee>(
     rt: &R,
     alloc: Global,
@@ -275,7 +276,7 @@ fn check_gauntlet<R: Threads + Sync + Abort, F: Referee>(
     Ok(())
 }
 
-// The first player plays each other one twice, and the others don't meet.
+// The first player plays each other one twice, and the others don't play.
 #[test]
 fn a_gauntlet_has_the_games_of_the_first_player(rt: HostRuntime) -> Result<(), Fail> {
     check_gauntlet(
@@ -286,7 +287,7 @@ fn a_gauntlet_has_the_games_of_the_first_player(rt: HostRuntime) -> Result<(), F
     )
 }
 
-// A game on world 7, without a cup: its winner stands first, and a player of no game last.
+// A game on world 7, without a cup: its winner is first, and a player without games last.
 #[test]
 fn a_standing_of_one_game_counts_it_alone(rt: HostRuntime) -> Result<(), Fail> {
     let played = Played {

@@ -1,4 +1,4 @@
-// What no clause says: that a value of each type that is displayed is, the longest text too.
+// What no clause says: that a value of each type that is displayed is, even the longest text.
 use ant_asm::AsmFault;
 use ant_base::{Failed, FetchFault, OutOfMemory};
 use brain_read::BrainFault;
@@ -13,7 +13,7 @@ use text_fault::{TextFault, TextStop};
 use world_gen::GenFault;
 use world_read::WorldFault;
 
-// Whether a fault is displayed so.
+// Whether a fault is displayed with this text.
 fn says<F: fmt::Display>(alloc: Global, fault: &F, text: &str) -> bool {
     match format!(in alloc; "{fault}") {
         Ok(shown) => shown.as_str() == text,

@@ -7,7 +7,7 @@ use std::alloc::{AllocError, Global};
 use std::fs;
 use std::io::BufWriter;
 
-// A sink of this room, whose pushes of these numbers fail.
+// A sink with this room, whose pushes with these numbers fail.
 fn sink_with(alloc: Global, room: u64, failing: &[u64]) -> Result<MemSink, OutOfMemory> {
     let mut calls = Calls::new(alloc);
     for number in failing {
@@ -91,7 +91,7 @@ fn fails<S: Shelf>(shelf: &mut S, alloc: Global, name: &str) -> bool {
     matches!(shelf.fetch(alloc, name), Err(FetchFault::Failed))
 }
 
-// A shelf of three files, two of them of one name, whose second fetch fails.
+// A shelf of three files, two of them with the same name, whose second fetch fails.
 fn shelf_of_three(alloc: Global) -> Result<MemShelf, OutOfMemory> {
     let mut files = Files::new(alloc);
     for (name, bytes) in [("w", "first"), ("", "empty name"), ("w", "second")] {
@@ -107,24 +107,24 @@ fn a_shelf_in_memory_gives_what_was_added_first(rt: HostRuntime) {
     let alloc = rt.alloc();
     let mut shelf = shelf_of_three(alloc).expect(&rt, "memory");
     assert!(rt; gives(&mut shelf, alloc, "w", "first"));
-    // call 2, and no such name
+    // call 2 fails, and this name is missing
     for name in ["w", "r"] {
         assert!(rt; fails(&mut shelf, alloc, name));
     }
     assert!(rt; gives(&mut shelf, alloc, "", "empty name"));
 }
 
-// So many bytes.
+// This many bytes.
 fn content_of(alloc: Global, length: usize) -> Result<Vec<u8>, AllocError> {
     vec![in alloc; b'x'; length]
 }
 
-// The length of what a fetch gives, where it isn't too long.
+// The length of what a fetch gives, if it isn't too long.
 fn length_of<S: Shelf>(shelf: &mut S, alloc: Global, name: &str) -> Result<usize, FetchFault> {
     shelf.fetch(alloc, name).map(|content| content.len())
 }
 
-// Whether the first file is given whole and the second is too long.
+// Whether the first file is returned whole and the second is too long.
 fn stops_after_the_longest<S: Shelf>(shelf: &mut S, alloc: Global) -> bool {
     length_of(shelf, alloc, "longest") == Ok(4194304)
         && length_of(shelf, alloc, "longer") == Err(FetchFault::TooLong)
@@ -147,7 +147,7 @@ fn is_written<R: fs::Files>(rt: &R, name: &str, bytes: &[u8]) -> bool {
     fs::write(rt, name, bytes).is_ok()
 }
 
-// Whether a file could be taken away.
+// Whether a file could be removed.
 fn is_removed<R: fs::Files>(rt: &R, name: &str) -> bool {
     fs::remove_file(rt, name).is_ok()
 }
@@ -225,7 +225,7 @@ fn a_file_holds_what_was_pushed(rt: HostRuntime) {
     assert!(rt; is_removed(&rt, "pushed"));
 }
 
-// A gate that was passed by its own caller alone.
+// A gate that only its own caller has passed.
 fn pass<G: Gate>(gate: &G) {
     gate.before_look(0, 7);
 }

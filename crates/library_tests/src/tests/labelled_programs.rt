@@ -5,7 +5,7 @@ use brain_read::{Instr, Side};
 use std::alloc::Global;
 use std::process::Abort;
 
-/// A text, its instructions, and the address of each, of at most two numbers.
+/// A text, its instructions, and the address of each, which has at most two numbers.
 type Program = (&'static [u8], &'static [Instr], &'static [&'static [u32]]);
 
 const PROGRAMS: [Program; 6] = [

@@ -1,4 +1,4 @@
-// The task's own numbers of seed 12345, each call once on its happy path, and the decimal texts of numbers.
+// The task's own numbers of seed 12345, each call once if it succeeds, and the decimal texts of numbers.
 ghost use Rattle.std.specs.Prelude.{◌≡◌, ◌-◌, ◌^◌, ◌<◌};
 
 use ant_base::{Calls, MemSink, push_number};
@@ -56,7 +56,7 @@ fn a_far_place_is_reached_at_once(rt: HostRuntime) {
     }
 }
 
-// Numbers with their decimal texts: the least and the greatest, and each side of a power of ten and of two.
+// Numbers with their decimal texts: the least and the greatest, and those on each side of a power of ten and of two.
 const DECIMALS: [(u64, &str); 6] = [
     (0, "0"),
     (9, "9"),
@@ -66,7 +66,7 @@ const DECIMALS: [(u64, &str); 6] = [
     (18446744073709551615, "18446744073709551615"),
 ];
 
-// Asserts the text that is pushed of a number.
+// Asserts the text that is pushed for a number.
 fn check_pushed<R: Abort>(rt: &R, alloc: Global, number: u64, text: &str) -> Result<(), Fail> {
     let mut sink = MemSink::with_room(alloc, 20, Calls::new(alloc))?;
     let pushed = push_number(&mut sink, number);

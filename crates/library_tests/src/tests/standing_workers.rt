@@ -1,5 +1,5 @@
-// Errands by far workers, who look at the same time. Looks that agree with a field, and looks that don't. And what
-// takes memory, with it.
+// Errands by far workers, which look at the same time. Looks that agree with a field, and looks that don't. And what
+// takes memory, if there is memory.
 ghost use Rattle.std.specs.Prelude.{◌≡◌, ◌+◌, ◌<◌, ◌≤◌, ◌^◌, true, IfOk, length};
 ghost use Rattle.std.specs.List.{AllByRecursion};
 ghost use Rattle.std.specs.Option.{ForSome};
@@ -33,7 +33,7 @@ const MOVES: &str = "Move 0 0";
 
 const SEED: u32 = 12345;
 
-// The guesses of the seven turns: each red ant draws, and no black one.
+// The guesses for the seven turns: each red ant draws, and no black one.
 const GUESSES: [u64; 7] = [0, 0, 0, 1, 1, 2, 2];
 
 // Turns of the looks with guesses, and whether they agree with the field on which they were made.
@@ -59,7 +59,7 @@ const LATER: [(u32, u64, bool); 7] = [
     (6, 2, true),
 ];
 
-// The guesses of the next round, in which the dead ant doesn't draw.
+// The guesses for the next round, in which the dead ant doesn't draw.
 const NEXT_GUESSES: [u64; 7] = [1, 1, 1, 1, 1, 2, 2];
 
 // Looks that were made at them on the field after the round, with that field: the dead ant is dead in both.
@@ -225,7 +225,7 @@ impl Errand for Early {
     }
 }
 
-// Asserts that an errand comes out of a scope of so many workers as it went in.
+// Asserts that an errand is returned unchanged from a scope of this many workers.
 fn check_early<R: Threads + Wait + Sync + Abort>(rt: &R, alloc: Global, workers: u32) {
     assert!(rt; 1 <= workers && workers <= 16);
     let Ok(done) = with_far(rt, alloc, workers, &NoGate, Early { number: workers }) else {
@@ -240,7 +240,7 @@ fn an_errand_may_end_early(rt: HostRuntime) {
     check_early(&rt, rt.alloc(), 16);
 }
 
-// Turns after which a worker that waits for the other one gives up.
+// The number of turns after which a worker that waits for the other one gives up.
 const PATIENCE: u32 = 100_000_000;
 
 // A gate at which two workers wait for each other, each up to its patience: which of them has called it, how often each
@@ -266,7 +266,7 @@ impl Pair {
         })
     }
 
-    // Asserts that the two alone called it, that they met, and that each turn was announced once.
+    // Asserts that only the two called it, that they met, and that each turn was announced once.
     fn check<R: Abort>(&self, rt: &R) {
         assert!(rt;
             !self.missed.load(Ordering::SeqCst),
@@ -299,7 +299,7 @@ impl Gate for Pair {
     }
 }
 
-// Says that one worker has begun, and whether the other does before the patience is at its end.
+// Announces that one worker has begun, and returns whether the other begins within its patience.
 fn meets(own: &AtomicBool, other: &AtomicBool) -> bool {
     own.store(true, Ordering::SeqCst);
     for _ in 0..PATIENCE {
@@ -311,7 +311,7 @@ fn meets(own: &AtomicBool, other: &AtomicBool) -> bool {
     false
 }
 
-// How often a gate was called, and the sum of the numbers with which it was.
+// How often a gate was called, and the sum of the numbers with which it was called.
 #[derive(Drop)]
 struct Told {
     calls: AtomicU32,
@@ -349,7 +349,7 @@ fn the_committer_announces_each_look_by_the_number_of_workers(rt: HostRuntime) -
     check_unstarted(&rt, rt.alloc(), &players)
 }
 
-// What came of two windows: how many looks were taken and turns executed anew in each, and the place to which they led.
+// The result of two windows: how many looks were used and turns executed again in each, and the place after them.
 #[derive(Clone, Copy, Debug, PartialEq, Eq)]
 struct Played {
     first: (u32, u32),
@@ -357,8 +357,7 @@ struct Played {
     place: u64,
 }
 
-// An errand that plays the first round of a game, which it has, in two windows, the first of three turns; and what came
-// of it.
+// An errand that plays the first round of its game in two windows, the first of three turns; and its result.
 #[derive(Drop)]
 struct FirstRound<'b> {
     alloc: Global,
@@ -390,7 +389,7 @@ impl Errand for FirstRound<'_> {
     }
 }
 
-// Plays the first round of a game in two windows by a crew, where there is memory.
+// Plays the first round of a game in two windows by a crew, if there is memory.
 fn play_first_round<C: Crew>(alloc: Global, field: &mut Field<'_>, crew: &mut C) -> Option<Played>
     requires ready { C.ready crew.old }
     requires whole { field.old.whole ≡ true }
@@ -410,7 +409,7 @@ fn play_first_round<C: Crew>(alloc: Global, field: &mut Field<'_>, crew: &mut C)
     })
 }
 
-// Asserts what comes of the round by two workers that stand by, who look at the same time and at each turn once.
+// Asserts the result of the round by two workers that stay ready, which look at the same time and at each turn once.
 fn check_pair<R: Threads + Wait + Sync + Abort>(
     rt: &R,
     alloc: Global,
@@ -431,7 +430,8 @@ fn check_pair<R: Threads + Wait + Sync + Abort>(
     Ok(())
 }
 
-// The red ant of id 2 dies in turn 1, so that its own turn is executed anew. The second window's guesses know of it.
+// The red ant with id 2 dies in turn 1, so its own turn is executed again. The second window's guesses take that into
+// account.
 const PLAYED: Played = Played {
     first: (2, 1),
     second: (4, 0),

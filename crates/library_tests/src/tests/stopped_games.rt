@@ -1,4 +1,4 @@
-// Where a game stands when its sink had no room for its text.
+// The state of a game whose sink had no room for its text.
 use crate::tests::standing_workers::{Players, field_on, make_players, opened_world};
 use ant_base::{Calls, Failed, LONGEST, MemSink};
 use ant_turn::{Brains, Sheet};
@@ -12,10 +12,10 @@ use std::test::Fail;
 const WORLD: &str = "3\n3\n# # #\n # + #\n# # #\n";
 
 // How many bytes the sink takes of the text of three rounds, each of which has a dump of 236 bytes, and how many rounds
-// are done then: in the first dump or at its last byte; in the second; and behind all three, at the score.
+// are done then: in the first dump or at its last byte; in the second; and after all three, at the score.
 const ROOMS: [(u64, u32); 6] = [(10, 1), (235, 1), (236, 2), (471, 2), (708, 3), (720, 3)];
 
-// Asserts how many rounds are done, and how many turns the crew has played, where the sink takes so many bytes.
+// Asserts how many rounds are done, and how many turns the crew has played, if the sink takes this many bytes.
 fn check_stop<R: Abort>(
     rt: &R,
     alloc: Global,
@@ -51,7 +51,7 @@ fn check_stop<R: Abort>(
     Ok(())
 }
 
-// Asserts how many rounds are done of a game that is just played, where the sink takes so many bytes.
+// Asserts how many rounds are done of a game played alone, if the sink takes this many bytes.
 fn check_stop_alone<R: Abort>(
     rt: &R,
     alloc: Global,
@@ -77,7 +77,7 @@ fn check_stop_alone<R: Abort>(
     Ok(())
 }
 
-// Asserts both of each row.
+// Asserts both for each row.
 fn check_stops<R: Abort>(rt: &R, alloc: Global, rows: &[(u64, u32)]) -> Result<(), Fail> {
     let players = make_players(rt, alloc)?;
     for (room, done) in rows {

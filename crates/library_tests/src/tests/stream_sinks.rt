@@ -1,4 +1,4 @@
-// Sinks over writers that take what they like, and over the standard streams.
+// Sinks over writers that take as many bytes as they choose, and over the standard streams.
 ghost use Rattle.std.specs.Prelude.{◌≡◌, true};
 
 use ant_base::{ErrSink, OutSink, Sink, StreamSink, Writer};
@@ -6,7 +6,7 @@ use std::alloc::Global;
 use std::io;
 use std::io::{BufWriter, ErrorKind, Write};
 
-// A writer that takes at most so many bytes at a time, and then stops taking.
+// A writer that takes at most this many bytes at a time, and then stops taking.
 #[derive(Drop)]
 struct Slow {
     got: Vec<u8>,
@@ -27,7 +27,7 @@ enum Stop {
 }
 
 impl Stop {
-    // How many bytes there is still room for, where so many were taken.
+    // How many bytes there is still room for, after this many were taken.
     fn left(self, taken: usize) -> io::Result<usize> {
         match self {
             Stop::TakesNothing(room) => Ok(room.saturating_sub(taken)),
@@ -59,7 +59,7 @@ impl Write for Slow {
     }
 }
 
-// Such a writer, lent to a sink.
+// Such a writer, borrowed by a sink.
 #[derive(Drop)]
 struct Lent<'s> {
     slow: &'s mut Slow,
@@ -75,7 +75,7 @@ impl Write for Lent<'_> {
     }
 }
 
-// What it holds back isn't told, nor is it sure.
+// It doesn't report what it holds back, and isn't sure.
 impl Writer for Lent<'_> {
     ghost use Rattle.std.specs.Prelude.{[], false};
 
@@ -123,7 +123,7 @@ impl Writer for Nowhere {
     }
 }
 
-// A push to a sink over it is done: its clause says so.
+// A push to a sink over it succeeds: its clause says so.
 fn push_to_nowhere(sink: &mut StreamSink<Nowhere>, piece: &[u8])
     requires { sink.old.sure ≡ true }
     ensures { sink.new.sure ≡ true }
@@ -143,7 +143,7 @@ fn a_push_fails_only_where_the_stream_does(rt: HostRuntime) {
     assert!(rt; sink.faults() == 0);
 }
 
-// A writer of which nothing was asked.
+// A writer that wasn't used yet.
 fn slow_writer(alloc: Global, most: usize, stop: Stop) -> Slow {
     Slow {
         got: Vec::new(alloc),

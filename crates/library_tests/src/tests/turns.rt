@@ -13,7 +13,7 @@ use hex_geometry::Pos;
 use std::alloc::{AllocError, Global};
 use std::process::Abort;
 
-// The brain of one instruction.
+// The brain with one instruction.
 fn brain_of(alloc: Global, instruction: Instr) -> Result<Brain, AllocError>
     requires { IsSound 1 instruction }
     ensures { IfOk result (λ b. b ≡ instruction ∷ []) }
@@ -21,7 +21,7 @@ fn brain_of(alloc: Global, instruction: Instr) -> Result<Brain, AllocError>
     Ok(Brain::from_list(vec![in alloc; instruction]?))
 }
 
-// A red ant among four black ones, a fifth about to come.
+// A red ant among four black ones, with a fifth about to arrive.
 const CLOSING: [Kind; 42] = [
     ROCK, ROCK, ROCK, ROCK, ROCK, ROCK, ROCK, ROCK, CLEAR, CLEAR, CLEAR, CLEAR, CLEAR, ROCK, ROCK,
     CLEAR, CLEAR, BLACK, ROCK, CLEAR, ROCK, ROCK, BLACK, CLEAR, RED, BLACK, ROCK, ROCK, ROCK, RED,
@@ -48,7 +48,7 @@ fn check_after<R: Abort>(rt: &R, world: &World) {
     assert_eq!(rt; world.score(), Score { red: 3, black: 0 });
 }
 
-// Asserts both of a round.
+// Asserts both for a round.
 fn check_round<R: Abort>(rt: &R, world: &mut World, brains: Brains<'_>)
     requires { Fits (world_of world.old) (minds_of brains) }
 {
@@ -88,7 +88,7 @@ fn brains_may_go_to_threads(rt: HostRuntime) {
     assert_eq!(rt; shared(&brains).black.len(), 1);
 }
 
-// Whether the red ant of id 2 is surrounded.
+// Whether the red ant with id 2 is surrounded.
 fn is_ant_surrounded<R: Abort>(rt: &R, world: &mut World, sheet: Sheet) -> bool {
     assert!(rt; world.width() == 7 && world.height() == 6);
     surrounded(world, sheet, Pos { x: 3, y: 3 })

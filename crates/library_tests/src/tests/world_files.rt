@@ -27,7 +27,7 @@ fn are_equal(a: &World, b: &World) -> bool {
     true
 }
 
-// Texts that are spelled as a world is written.
+// Texts that are spelled as worlds are written.
 const CANONICAL: [&str; 8] = [
     "3\n3\n# # #\n # + #\n# # #\n",
     "4\n3\n# # # #\n # + . #\n# # # #\n",
@@ -39,7 +39,7 @@ const CANONICAL: [&str; 8] = [
     "4\n4\n# # # #\n # . . #\n# . . #\n # # # #\n",
 ];
 
-// Asserts that what was written of a world is the text from which it was read, and is read as an equal world.
+// Asserts that the text written for a world is the text from which it was read, and is read as an equal world.
 fn check_bytes<R: Abort>(
     rt: &R,
     alloc: Global,
@@ -54,7 +54,7 @@ fn check_bytes<R: Abort>(
     Ok(())
 }
 
-// Asserts that the world of this text is written as it.
+// Asserts that the world of this text is written as this text.
 fn check_written<R: Abort>(rt: &R, alloc: Global, text: &str) -> Result<(), Fail> {
     let bytes = text.as_bytes();
     assert!(rt; bytes.len() <= LONGEST);

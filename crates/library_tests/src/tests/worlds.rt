@@ -1,5 +1,5 @@
-// What no clause says: that there is memory for worlds and for a copy, and that what workers share and own may go to
-// threads.
+// What no clause says: that there is memory for worlds and for a copy, and that what workers share and own may be
+// passed to threads.
 use crate::tests::{RED, ROCK, shared};
 use brain_read::Brain;
 use cell_world::{Ant, Cell, Colour, Kind, Marks, Part, Parts, Score, World};
@@ -12,7 +12,7 @@ use std::process::Abort;
 // One hill cell between rocks.
 const ONE_HILL: [Kind; 9] = [ROCK, ROCK, ROCK, ROCK, RED, ROCK, ROCK, ROCK, ROCK];
 
-// The ant of the first hill cell, as a game begins.
+// The ant of the first hill cell at the start of a game.
 const FIRST_ANT: Ant = Ant {
     id: 0,
     colour: Colour::Red,
@@ -65,10 +65,10 @@ fn a_copy_is_an_equal_world(rt: HostRuntime) {
     assert_eq!(rt; (copy.width(), ants), (3, (Some(Pos { x: 1, y: 1 }), 1)));
 }
 
-// Compiles only for a type whose values may be handed to threads and shared by them.
+// Compiles only for a type whose values may be passed to threads and shared by them.
 fn may_go_to_threads<T: Send + Sync>() {}
 
-// Compiles only for a type whose values may be handed to threads.
+// Compiles only for a type whose values may be passed to threads.
 fn may_be_sent<T: Send>() {}
 
 #[test]
