@@ -185,8 +185,8 @@ extern "C" {
 enum ants_status {
     ANTS_DONE = 0, // Done.
     ANTS_UNREADABLE = 1, // The words of a command, or the names and sizes of its files, can't be read.
-    ANTS_NUMBER = 2, // A number is beyond its limits, or the words are not a command.
-    ANTS_NO_FILE = 3, // A file that the words of a command name isn't there.
+    ANTS_NUMBER = 2, // A number is outside its limits, or the words are not a command.
+    ANTS_NO_FILE = 3, // The words of a command name a file that is missing.
     ANTS_NO_ROOM = 4, // The caller's room is too small.
     ANTS_REFUSED = 5, // A text was refused, or an element of a generated world has no room.
     ANTS_MEMORY = 6, // Out of memory.
@@ -237,7 +237,7 @@ enum ants_kind {
     ANTS_KIND_BREAKS_TOO_MANY = 74, // too many breaks
 };
 
-// An ant: 16 bytes. Of one that is dead all numbers are 0.
+// An ant: 16 bytes. For a dead ant all numbers are 0.
 struct ants_ant_data {
     // The state of its colour's brain that it executes next.
     uint32_t state;
@@ -247,13 +247,13 @@ struct ants_ant_data {
     uint16_t column;
     // Its row, from 0.
     uint16_t row;
-    // 1 where it is alive, else 0.
+    // 1 if it is alive, otherwise 0.
     uint8_t alive;
     // 0 for red, 1 for black.
     uint8_t colour;
     // Its direction: 0 is east, 1 southeast, and so on clockwise to 5.
     uint8_t direction;
-    // 1 where it carries food, else 0.
+    // 1 if it carries food, otherwise 0.
     uint8_t laden;
 };
 

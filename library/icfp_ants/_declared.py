@@ -6,8 +6,8 @@ from ctypes import POINTER, c_char_p, c_size_t, c_uint16, c_uint32, c_uint64, c_
 VERSION = "1.2.0-dev"
 DONE = 0  # Done.
 UNREADABLE = 1  # The words of a command, or the names and sizes of its files, can't be read.
-NUMBER = 2  # A number is beyond its limits, or the words are not a command.
-NO_FILE = 3  # A file that the words of a command name isn't there.
+NUMBER = 2  # A number is outside its limits, or the words are not a command.
+NO_FILE = 3  # The words of a command name a file that is missing.
 NO_ROOM = 4  # The caller's room is too small.
 REFUSED = 5  # A text was refused, or an element of a generated world has no room.
 MEMORY = 6  # Out of memory.

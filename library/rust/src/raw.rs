@@ -10,9 +10,9 @@ pub const VERSION: &str = "1.2.0-dev";
 pub const DONE: u32 = 0;
 /// The words of a command, or the names and sizes of its files, can't be read.
 pub const UNREADABLE: u32 = 1;
-/// A number is beyond its limits, or the words are not a command.
+/// A number is outside its limits, or the words are not a command.
 pub const NUMBER: u32 = 2;
-/// A file that the words of a command name isn't there.
+/// The words of a command name a file that is missing.
 pub const NO_FILE: u32 = 3;
 /// The caller's room is too small.
 pub const NO_ROOM: u32 = 4;
@@ -107,7 +107,7 @@ pub mod kind {
     pub const BREAKS_TOO_MANY: u32 = 74;
 }
 
-/// An ant: 16 bytes. Of one that is dead all numbers are 0.
+/// An ant: 16 bytes. For a dead ant all numbers are 0.
 #[repr(C)]
 #[derive(Clone, Copy, Debug, Default, PartialEq, Eq)]
 pub struct Ant {
@@ -119,13 +119,13 @@ pub struct Ant {
     pub column: u16,
     /// Its row, from 0.
     pub row: u16,
-    /// 1 where it is alive, else 0.
+    /// 1 if it is alive, otherwise 0.
     pub alive: u8,
     /// 0 for red, 1 for black.
     pub colour: u8,
     /// Its direction: 0 is east, 1 southeast, and so on clockwise to 5.
     pub direction: u8,
-    /// 1 where it carries food, else 0.
+    /// 1 if it carries food, otherwise 0.
     pub laden: u8,
 }
 
