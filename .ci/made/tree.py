@@ -20,7 +20,7 @@ def exists(path):
 
 
 class Crate:
-    """A line of crates.txt: the name, what it stands on, and the heading above it."""
+    """A line of crates.txt: the name, the crates on which it depends, and the heading above it."""
 
     def __init__(self, name, stands_on, layer):
         self.name, self.stands_on, self.layer = name, stands_on, layer
@@ -54,7 +54,7 @@ def crates():
 
 
 def below(name):
-    """The names of a crate and of those of the repository that it stands on."""
+    """The names of a crate and of those of the repository on which it depends."""
     stands_on = {it.name: it.stands_on for it in crates()}
     found, left = set(), [name]
     while left:

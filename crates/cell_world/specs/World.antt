@@ -35,8 +35,8 @@ abbrev pub sum_over : ℕ → (Pos → ℕ) → ℕ → ℕ
 sum_over width f zero = 0
 sum_over width f (suc n) = sum_over width f n + f (pos_at width n)
 
--- the first position, in row order, at which the test holds, if there is one among the first n positions. For n + 1 it
--- is the one among the first n, and otherwise the position with number n
+-- the first of the first n positions, in row order, at which the test holds, if there is one: for n + 1 it is the one
+-- among the first n if there is one, and otherwise the position with number n if the test holds there
 abbrev pub first_of : ℕ → (Pos → Bool) → ℕ → Option Pos
 first_of width test zero = None
 first_of width test (suc n) =

@@ -93,8 +93,8 @@ pub record AreParts (views : List View) : Type 0 where
   pub few : made_by views ≤ most_workers
   pub first : summed is_first views ≡ 1
 
--- the tickets of all seats are the numbers below the ticket word, each once; the word exceeds the number of turns at
--- most by the number of tickets drawn after the window
+-- the tickets of all seats are the numbers below the ticket word, each once; the word is at most the number of turns
+-- plus the number of tickets that were drawn after the window
 pub record AreDealt (turns word : ℕ) (views : List View) : Type 0 where
   pub each : (x : ℕ) → summed (λ v. times x v.drawn) views ≡ once_below x word
   pub within : word ≤ turns + summed (λ v. late_among turns v.drawn) views

@@ -71,7 +71,7 @@ abbrev pub HasPrinted : SinkState → SinkState → Format → List (List ℕ) �
 HasPrinted old new format worlds players score printed =
     PushedAll old new (games_text format worlds players (first_played format players printed score) 1)
 
--- the lines of all games on some of them were pushed, and nothing else
+-- the lines of all games on some number of the first worlds were pushed, and nothing else
 pub record PrintedWorlds (old new : SinkState) (format : Format) (worlds players : List (List ℕ))
     (score : ℕ → ℕ → ℕ → Score) : Type 0 where
   pub printed : ℕ
