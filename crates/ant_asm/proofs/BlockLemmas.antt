@@ -149,7 +149,7 @@ last-outer p free = go p.outer refl free
     go None is q = is
     go (Some outer) is q = (let never : Some (Misplaced outer.line) ≡ None = q in absurd (cc))
 
--- the fault of main, where no block is left without an end
+-- the fault of main, if no block is left without an end
 pub last-main : (p : Program) → p.outer ≡ None → last_fault (program_seen p).begun (program_seen p)
     ≡ (if length p.current.items.items == 0 then Some Empty else option_map NoLabel (earlier p.unknown (unknown_of (open_seen (trees_of p.bodies.items) p.current))))
 last-main p none =

@@ -16,7 +16,7 @@ use Rattle.ant_asm.specs.declared.action.Label.{Label}
 use Rattle.ant_asm.specs.Inner.Emission.{Numbers, number_first, offset}
 use Rattle.ant_asm.specs.Inner.Flat.{AreGood, HasGiven, IsGood, IsGoodItem, IsLabelOf, IsPlace, most, tree_at, tree_of, trees_from, trees_of}
 
--- what stands before a place, and what stands from it on, is all
+-- what precedes a place, and what stands from it on, is all
 pub offset-rest : (k : ℕ) (items : Items) → offset k items + size_of (from_place k items) ≡ size_of items
 offset-rest (suc k) (Do action others) = let e : offset k others + size_of (from_place k others) ≡ size_of others = offset-rest k others in omega arith
 offset-rest (suc k) (Use handed block others) = let e : offset k others + size_of (from_place k others) ≡ size_of others = offset-rest k others in omega arith
@@ -220,7 +220,7 @@ module _ {bodies : List Body} {number : ℕ} {body : Body} {k : ℕ} {item : Ite
   pub item_start : (start : ℕ) → start ≡ slice_index_or body.starts.items k start → start ≡ offset k (tree_at bodies number)
   item_start start there = start_at bodies number body a.good a.known a.is k start (let i : k < length body.items.items = a.inside in omega arith) there
 
-  -- what stands before a use, and its block, are at most all
+  -- what precedes a use, and its block, are at most all
   pub use_fits : (block : ℕ) (handed : Vec Label Global) → item ≡ Item.Use block handed → offset k (tree_at bodies number) + size_of (tree_at bodies block) ≤ size_of (tree_at bodies number)
   use_fits block handed puts =
       let rest : offset k (tree_at bodies number) + size_of (from_place k (tree_at bodies number)) ≡ size_of (tree_at bodies number) = offset-rest k (tree_at bodies number) in

@@ -122,7 +122,7 @@ module _ (main : Items) (brain : List Instr) (list : List Address) (assembled : 
     others_there address p found q apart ant is =
         others_stay address ant (λ id. apart (valid.once t p q (place_in-holds w t p found) (subst (λ u. holds_id u (w.cells q) ≡ true) (sym id) (holds_id-own (w.cells q) ant is)))) (states q ant is)
 
-    -- the address of t after it acted, where it is of the side
+    -- the address of t after it acted, if it is of the side
     taken_address : (ant : Ant) (address : Address) → ant.colour ≡ side → (if same_colour side ant.colour then address else addresses t) ≡ address
     taken_address ant address mine = ap (λ (b : Bool). if b then address else addresses t) (same_colour-side side ant.colour mine)
 

@@ -1,4 +1,4 @@
--- What is told of a line of a body that is put in place, and of the lines after it.
+-- What is told of a line of a body that is used, and of the lines after it.
 use Rattle.std.proofs.Common.{◌≡◌, ℕ, zero, suc, ◌+◌, ◌<◌, ◌≤◌, List, [], ◌∷◌, ◌++◌, drop, length, Some, refl, sym, ap, ◌∙◌, subst, arith}
 use Rattle.std.specs.Prelude.{◌==◌, if◌then◌else◌, slice_get, slice_index_or}
 use Rattle.std.proofs.lemmas.List.{drop_more}
@@ -15,7 +15,7 @@ use Rattle.ant_asm.proofs.LabelTexts.{labels_text-append}
 use Rattle.ant_asm.proofs.LabelWalk.{AreTold, state-is, told-none}
 use Rattle.ant_asm.proofs.OutlineLemmas.{IsNamedAt, line_before-size, named-at, use_below-more}
 
--- the labels of the block that a line puts in place, if it does
+-- the labels of the block that a line uses, if it does
 abbrev pub used_states : List Outline → NamedLine → ℕ → ℕ → List WayStep → List LabelState
 used_states blocks (NamedLine.Use line name block) at follows way = all_states (slice_index_or blocks block Closed) at follows (further way name.items line)
 used_states blocks it at follows way = []
@@ -58,7 +58,7 @@ the_named [] number known = absurd (omega arith)
 the_named (body ∷ bodies) zero known = (body, refl)
 the_named (body ∷ bodies) (suc number) known = the_named bodies number (omega arith)
 
--- a line tells its size, where that is at most so much
+-- a line tells its size, if that is at most this much
 pub line-size : (bodies : List NamedBody) (line : NamedLine) → AreGoodNamed [] bodies → IsUseBelow (length bodies) line → outline_size (line_before (outlines_of bodies) line Closed) ≤ most_size →
     line_size bodies line ≡ outline_size (line_before (outlines_of bodies) line Closed)
 line-size bodies (NamedLine.Use line name block) good below few =
@@ -97,7 +97,7 @@ module _ {bodies : List NamedBody} {number : ℕ} {body : NamedBody} (a : AtBody
       (ap (λ (l : List NamedLine). lines_before blocks l Closed) same ∙ sym named.is)
       (told-none tell (lines_before blocks list Closed) base (base + outline_size (lines_before blocks list Closed)) state refl)
 
-  -- a line of it, where these are its lines
+  -- a line of it, if these are its lines
   module _ (list : List NamedLine) (same : list ≡ body.lines.items) (i : ℕ) (line : NamedLine) (inside : i < length list) (at : line ≡ slice_index_or list i line) where
     abbrev rest : Outline
     rest = lines_before blocks (drop (i + 1) list) Closed

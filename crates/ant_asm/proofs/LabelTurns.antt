@@ -103,7 +103,7 @@ module _ (P : Address → Type 0) (side : Colour) (seed : ℕ) (cells : Cells) (
   address_from-has None = stood
   address_from-has (Some p) = address_at-has p (cells p).ant
 
--- the addresses with one that has a fact, where all had it
+-- the addresses with one that has a fact, if all had it
 pub with_address-has : (P : Address → Type 0) (addresses : ℕ → Address) (t : ℕ) (address : Address) → ((u : ℕ) → P (addresses u)) → P address → (u : ℕ) → P (with_address addresses t address u)
 with_address-has P addresses t address all new u = cond_both (t == u) address (addresses u) P (λ _. new) (λ _. all u)
 

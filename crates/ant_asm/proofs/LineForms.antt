@@ -114,7 +114,7 @@ then_name : (positions : List Position) (k : List ℕ × List (List ℕ) → Rea
 unfolding read_name
 then_name positions k S decides = then_taken name_token (λ number. refl) positions k S decides
 
--- what stands after the word of a condition, at the end of a line that this condition makes
+-- what follows the word of a condition, at the end of a line that this condition makes
 abbrev pub SpelledRest : (Cond → Line) → ConditionWord → List (List ℕ) → Line → Type 0
 SpelledRest make ConditionWord.Friend = SpelledEnd (make Friend)
 SpelledRest make ConditionWord.Foe = SpelledEnd (make Foe)

@@ -43,7 +43,7 @@ mapped-by way state (Sense sight met unmet condition) = refl
 mapped-by way state action = refl
 
 module _ (text : List ℕ) where
-  -- the line of this number says this, where its names stand for something
+  -- the line of this number says this, if its names stand for something
   record SaidBy (number : ℕ) (action : Action Label) : Type 0 where
     place : ℕ
     line : TokenLine

@@ -89,7 +89,7 @@ module _ (make : Cond → Line) (line : Line) (P : List (List ℕ) → Type 0) (
   by_condition tokens s =
       by_token (word_place condition_words) (λ i. SpelledRest make (condition_word_at i)) tokens line P s (λ token rest i found s1. rest_said (condition_word_at i) token rest (word-found condition_names token i found) s1)
 
--- what stands after the word of a form, as it was read, is spelled so
+-- what follows the word of a form, as it was read, is spelled so
 form_said : (form : Form) (first : List ℕ) (rest : List (List ℕ)) (line : Line) → IsSameWord (word_of_form form) first → SpelledForm form rest line → Says (first ∷ rest) line
 form_said Form.Sense first rest line same s =
     by_token (word_place sight_words) (λ i. SpelledBy label_of (λ met. SpelledBy label_of (λ unmet. SpelledCondition (λ c. Instructs (Sense (sight_at i) met unmet c))))) rest line (λ r. Says (first ∷ r) line) s (λ t1 r1 i h1 s1.

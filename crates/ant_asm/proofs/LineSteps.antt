@@ -29,7 +29,7 @@ Decides-same same decides = record {
   faulted = λ number tokens. decides.faulted number tokens ∙ ap (fault_of_read number) (sym (same tokens));
 }
 
--- what a token is read as, where it is one of these
+-- what a token is read as, if it is one of these
 abbrev pub read_token : {A : Type 0} → (List ℕ → Option A) → SpellingFault → List ℕ → Read A
 read_token of fault token = good_token token (or_fault (of token) fault)
 
@@ -141,7 +141,7 @@ AreTokensOf of [] [] = Unit {0}
 AreTokensOf of (token ∷ tokens) (x ∷ xs) = (of token ≡ Some x) × AreTokensOf of tokens xs
 AreTokensOf of it that = ⊥
 
--- the tokens are at most n of these, and the line is made of them
+-- the tokens are at most n of these, and the line is built from them
 pub record SpelledAllBy {A : Type 0} (of : List ℕ → Option A) (n : ℕ) (make : List A → Line) (tokens : List (List ℕ)) (line : Line) : Type 0 where
   pub items : List A
   pub are : AreTokensOf of tokens items

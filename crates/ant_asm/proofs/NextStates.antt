@@ -20,7 +20,7 @@ use Rattle.ant_turn.specs.Sheet.{Sheet}
 use Rattle.ant_turn.specs.Turn.{Outcome, arrived, execute, in_state, is_blocked, left_by_ant, marked, stepped, unmarked, with_ant}
 use Rattle.ant_turn.proofs.Checks.{check_at-cases}
 
--- the state in which an instruction of the ant of p goes on
+-- the state in which an instruction of the ant of p continues
 abbrev pub state_taken : ℕ → Cells → ℕ → Pos → Ant → Instr → ℕ
 state_taken seed cells place p ant (Sense sight met unmet condition) = if meets (cells (sensed_pos p ant.facing sight)) condition ant.colour then met else unmet
 state_taken seed cells place p ant (Mark i next) = next

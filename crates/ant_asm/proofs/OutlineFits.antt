@@ -94,7 +94,7 @@ IsTold P Q (At number (Uses name handed)) = Q number name
 IsTold P Q (At number says) = Unit {0}
 
 module _ (P : ℕ → Action Label → Type 0) (Q : ℕ → List ℕ → Type 0) where
-  -- that of a block's items, where there is the block
+  -- that of a block's items, if there is the block
   abbrev FitsBlock : Option Outline → Option Block → Type 0
   FitsBlock outline None = Unit {0}
   FitsBlock None (Some block) = ⊥

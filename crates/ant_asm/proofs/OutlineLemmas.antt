@@ -79,7 +79,7 @@ outlines_from-front blocks (body ∷ bodies) =
     let later = outlines_from-front (blocks ++ outline_in blocks body ∷ []) bodies in
     (outline_in blocks body ∷ later.0, later.1 ∙ append_assoc blocks (outline_in blocks body ∷ []) later.0)
 
--- what is known of the body of a number, behind so many blocks
+-- what is known of the body of a number, after this many blocks
 record IsAt (blocks : List Outline) (bodies : List NamedBody) (n : ℕ) (body : NamedBody) : Type 0 where
   uses : AllByRecursion (IsUseBelow n) body.lines.items
   counted : body.counted.items ≡ counted_from 0 body.lines.items

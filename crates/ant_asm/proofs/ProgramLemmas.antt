@@ -76,7 +76,7 @@ module _ (p : Program) (action : Action Named) (number : ℕ) where
     is = current-with p draft ∙ ap (with_current (program_seen p)) (is ∙ ap (λ (d : Draft). with_line d number (Instruction action)) (sym (current-seen p)));
   }
 
--- a block put in place
+-- a block used
 module _ (p : Program) (name : List ℕ) (handed : List Named) (number : ℕ) where
   pub put-none : known_as p.blocks.entries name ≡ None → place_fault (program_seen p) number (Uses name handed) ≡ Some (NoBlock number)
   put-none none = ap (λ (o : Option ℕ). use_fault (current (program_seen p)).size (block_in p.bodies.items o) handed number) none

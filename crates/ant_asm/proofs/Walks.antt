@@ -384,7 +384,7 @@ module _ (old : Walk) (is : IsWalk old) (line : NamedLine) (behind : Spot) (next
               (subst (IsSpotIn bodies (0 + length old.outer.items)) (sym at-use) (subst (λ (n : ℕ). IsSpotIn bodies n behind) (let e : length old.outer.items ≡ 0 + length old.outer.items = omega arith in e) behind-spot)));
         }
 
-    -- what is left is told behind the use
+    -- what is left is told after the use
     later-left : {A : Type 0} (tell : Spot → List WayStep → List A) → left_in tell outer.items [] ≡ tell behind way ++ left_in tell old.outer.items []
     later-left tell =
         ap (λ (l : List Level). left_in tell l []) pushed ∙ left-last tell old.outer.items level []

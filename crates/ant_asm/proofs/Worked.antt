@@ -84,7 +84,7 @@ worked_empty = refl
 worked_kinds : place_fault (below nothing_yet 1 (Marks (codes "a"))) 2 (Begins (codes "a") []) ≡ None
 worked_kinds = refl
 
--- block b / Drop next / Drop next / end, below that so many instructions / use b
+-- block b / Drop next / Drop next / end, below that this many instructions / use b
 abbrev after_so_many : ℕ → Standing
 after_so_many size =
     let two : Standing = below_all nothing_yet 1 (Begins (codes "b") [] ∷ Instructs (Drop NextWord) ∷ Instructs (Drop NextWord) ∷ Ends ∷ []) in
@@ -94,7 +94,7 @@ worked_room : (place_fault (after_so_many 9998) 5 (Uses (codes "b") []) ≡ None
     × (place_fault (after_so_many 9999) 5 (Instructs (Drop NextWord)) ≡ None) × (place_fault (after_so_many 10000) 5 (Instructs (Drop NextWord)) ≡ Some (TooMany 5))
 worked_room = (refl, refl, refl, refl)
 
--- block z, below so many blocks
+-- block z, below this many blocks
 worked_blocks : (place_fault (record nothing_yet { count = 255 }) 1 (Begins (codes "z") []) ≡ None) × (place_fault (record nothing_yet { count = 256 }) 1 (Begins (codes "z") []) ≡ Some (TooMany 1))
 worked_blocks = (refl, refl)
 

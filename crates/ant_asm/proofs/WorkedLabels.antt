@@ -43,7 +43,7 @@ worked_used_lines : state_lines_text (state_lines_of (items_of (below_lines noth
 unfolding digits
 worked_used_lines = refl
 
--- without blocks, where no line has a token but the second, the fourth and the ninth: go: / Move go next / Turn Left go
+-- without blocks, if only the second, the fourth and the ninth line have a token: go: / Move go next / Turn Left go
 abbrev plain : List NumberedLine
 plain = At 2 (Marks (codes "go")) ∷ At 4 (Instructs (Move (Name (codes "go")) NextWord)) ∷ At 9 (Instructs (Turn Left (Name (codes "go")))) ∷ []
 

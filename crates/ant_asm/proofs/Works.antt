@@ -185,7 +185,7 @@ module _ (bodies : List Body) (old : Work) (is : IsWork bodies old) where
         end = λ never. absurd (cc);
       }
 
--- the next item of the body that is put in place
+-- the next item of the body that is used
 module _ (bodies : List Body) (top : Put) (is : IsPutIn bodies top) (spot : Spot) (same : spot.bodies.now ≡ bodies) (number : spot.number ≡ top.number) (place : spot.place ≡ top.place) (numbers-are : numbers_of spot.frame ≡ numbers_in top) where
   there-too : (body : Body) → slice_get spot.bodies.now spot.number ≡ Some body → slice_get bodies top.number ≡ Some body
   there-too body there = sym (ap₂ (λ (b : List Body) (n : ℕ). slice_get b n) same number) ∙ there

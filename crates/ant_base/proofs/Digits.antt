@@ -37,11 +37,11 @@ read_more text at n lt test small read =
       rest = read.rest ∙ ap all_ascii_digits (drop_more text at 0 lt) ∙ rw test refl;
     }
 
--- a byte that is no digit
+-- a byte that is not a digit
 pub read_other : (text : List ℕ) (at n : ℕ) → at < length text → is_ascii_digit (get_or text at 0) ≡ false → Read text at n → all_ascii_digits text ≡ false
 read_other text at n lt other read = read.rest ∙ ap all_ascii_digits (drop_more text at 0 lt) ∙ rw other refl
 
--- a text with a byte that is no digit is no number
+-- a text with a byte that is not a digit is not a number
 pub none_of_other : (text : List ℕ) → all_ascii_digits text ≡ false → decimal_value text ≡ None
 unfolding decimal_value
 none_of_other text other =

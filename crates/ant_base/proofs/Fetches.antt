@@ -37,7 +37,7 @@ empty_text : (texts : List ℕ) → 0 ≡ length texts → texts ≡ []
 empty_text [] none = refl
 empty_text (byte ∷ texts) none = absurd (omega (arith, none))
 
--- a name and its bytes behind all others
+-- a name and its bytes after all others
 files_in-append : (entries : List Sizes) (sizes : Sizes) (texts name bytes : List ℕ) → bytes_in entries ≡ length texts → sizes.name ≡ length name → sizes.bytes ≡ length bytes
     → files_in (entries ++ sizes ∷ []) (texts ++ (name ++ bytes)) ≡ files_in entries texts ++ (name, bytes) ∷ []
 files_in-append [] sizes texts name bytes full named under =
@@ -83,7 +83,7 @@ none_fails-failing : (failing : List ℕ) (number : ℕ) → is_failing failing 
 none_fails-failing [] number e = sym e
 none_fails-failing (_ ∷ failing) number e = refl
 
--- where some call fails, the shelf is sure of no name
+-- if some call fails, the shelf is sure of no name
 pub unsure_by_call : (s : MemShelfState) (number : ℕ) (name : List ℕ) → is_failing s.failing number ≡ true → (shelf_of s).sure name ≡ false
 unsure_by_call s number name e = ap (λ b. b && is_some (content_of s.files name)) (none_fails-failing s.failing number e)
 

@@ -24,7 +24,7 @@ first_line-take (byte ∷ text) = go (is_lf byte) (first_line-take text) where
   go true same = refl
   go false same = let next : 1 + line_length text ≡ suc (line_length text) = omega arith in rw next (ap (λ line. byte ∷ line) same)
 
--- what stands after the first line begins after the first LF
+-- what follows the first line begins after the first LF
 pub after_line-drop : (text : List ℕ) → after_line text ≡ drop 1 (drop (line_length text) text)
 after_line-drop [] = refl
 after_line-drop (byte ∷ text) = go (is_lf byte) (after_line-drop text) where

@@ -8,7 +8,7 @@ use Rattle.ant_base.specs.Lines.{ends_in_lf}
 use Rattle.ant_base.specs.Faults.{Rose}
 use Rattle.ant_base.specs.Sink.{SinkState, NothingWaits, PushedAll, PushedFront, Pushed}
 
--- the bytes held after some more, where they are told
+-- the bytes held after some more, if they are told
 abbrev with_more : Option (List ℕ) → List ℕ → Option (List ℕ)
 with_more held more = option_map (λ bytes. bytes ++ more) held
 
@@ -41,7 +41,7 @@ front_then old mid new a b p q = record {
   later = (let quiet = p.quiet in let later = q.later in omega arith);
 }
 
--- a text that goes on is ended by what it goes on with
+-- a text that continues is ended by what it continues with
 pub ends_in_lf-append : (a : List ℕ) (byte : ℕ) (b : List ℕ) → ends_in_lf (a ++ byte ∷ b) ≡ ends_in_lf (byte ∷ b)
 ends_in_lf-append a byte b =
     let more = length-append a (byte ∷ b) in

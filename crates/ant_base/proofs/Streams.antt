@@ -68,7 +68,7 @@ fault_none read fault is n some = cc
 pub interrupted_none : (read : Result (Option ℕ) FetchFault) (field : Option ℕ) → read ≡ Ok field → field ≡ None → (n : ℕ) → read ≡ Ok (Some n) → ⊥
 interrupted_none read field is none n some = cc
 
--- what was taken where nothing more is
+-- what was taken if nothing more is
 pub read_stopped : {T E : Type 0} (result : Result T E) (start before after : Option (List ℕ)) (content : List ℕ) (len room most : ℕ) → Consumes start before content → Keeps before after → len ≡ length content → len + room ≤ most → OnErr result (TakesAtMost most start after)
 read_stopped (Ok value) start before after content len room most first keeps all few = tt
 read_stopped (Err fault) start before after content len room most first keeps all few = record { bytes = content; taken = Consumes-kept start before after content first keeps; few = omega arith }
@@ -86,12 +86,12 @@ pub read_on : (sure left len longer given : ℕ) (chunk : List ℕ) → longer �
 read_on sure left len longer zero chunk is fits less = tt
 read_on sure left len longer (suc n) chunk is fits less = rw (ne_eqb (suc n) 0 (omega arith)) (omega (arith, length-take (suc n) chunk), omega (arith, length-take (suc n) chunk))
 
--- where nothing was given, nothing is left
+-- if nothing was given, nothing is left
 pub read_ended : (given len longer : ℕ) (chunk : List ℕ) (after : Option (List ℕ)) → (given ≡ 0 → 0 < length chunk → IsAtEnd after) → 0 < length chunk → longer ≡ len + length (take given chunk) → ◌≡◌ {A = Result Bool FetchFault} (Ok (eqb given 0)) (Ok true) → IsAtEnd after × (longer ≡ len)
 read_ended zero len longer chunk after end some is done = (end refl some, omega (arith, is))
 read_ended (suc n) len longer chunk after end some is done = let more = ne_eqb (suc n) 0 (omega arith) in absurd (cc)
 
--- what was to be read fits behind the content
+-- what was to be read fits after the content
 pub read_room : (len all new room most : ℕ) → len ≡ all → new ≡ room → len + room ≤ most → all + new ≤ most
 read_room len all new room most same as_long fits = omega arith
 
@@ -115,7 +115,7 @@ read_first most sure len none = (omega arith, λ enough. (omega arith, omega ari
 pub read_next : (most sure left len longer turn : ℕ) → (most ≤ sure + len) × (turn ≤ len) → (len < longer) × (sure + len ≤ left + longer) → (most ≤ left + longer) × (turn + 1 ≤ longer)
 read_next most sure left len longer turn before now = (omega arith, omega arith)
 
--- it is sure of as much as it is asked for
+-- it is sure of as much as is requested from it
 pub read_asks : (most sure len size n at : ℕ) (chunk : List ℕ) → n ≡ min size (most - at) → at ≡ len → most ≤ sure + len → length (take n chunk) ≤ sure
 read_asks most sure len size n at chunk asks is enough = omega (arith, length-take n chunk)
 
@@ -154,14 +154,14 @@ none_taken : (kind : ErrorKind) (n : ℕ) → taken_at kind ≡ Ok n → 0 ≡ n
 none_taken Interrupted n is = cc
 none_taken _ n is = absurd (cc)
 
--- a write that wasn't a fault took so many bytes
+-- a write that wasn't a fault took this many bytes
 pub write_took : (tells told : Option (List ℕ)) (answer : Result ℕ Error) (rest : List ℕ) (n : ℕ) → WriteAppends tells told answer rest → taken_of answer ≡ Ok n → Appends tells told (take n rest)
 write_took tells told (Ok zero) rest n appends is = absurd (cc)
 write_took tells told (Ok (suc m)) rest n appends is = let same : suc m ≡ n = cc in subst (λ k. Appends tells told (take k rest)) same appends
 write_took tells told (Err error) rest n appends is =
     subst (λ k. Appends tells told (take k rest)) (none_taken (error_kind error) n is) (keeps_is_nothing tells told appends)
 
--- what is behind the bytes that were taken
+-- what is after the bytes that were taken
 pub rest_left : (n : ℕ) (rest : List ℕ) → take (length rest - n) (drop n rest) ≡ drop n rest
 rest_left n rest = take_all (length rest - n) (drop n rest) (omega (arith, length-drop n rest))
 

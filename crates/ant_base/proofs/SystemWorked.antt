@@ -15,7 +15,7 @@ use Rattle.ant_base.specs.declared.shelf.FetchFault.TheVariants as fault
 texts_ended : map ends_in_lf (codes "a\n" ∷ codes "\n" ∷ codes "\na" ∷ codes "a" ∷ (97 ∷ 13 ∷ []) ∷ [] ∷ []) ≡ true ∷ true ∷ false ∷ false ∷ false ∷ false ∷ []
 texts_ended = refl
 
--- nothing waits where no byte does; one byte waits, also an LF
+-- nothing waits if no byte does; one byte waits, also an LF
 nothing_waits : NothingWaits (Some [])
 nothing_waits = refl
 
@@ -26,7 +26,7 @@ lf_waits e = (let never : ◌≡◌ {A = List ℕ} (10 ∷ []) [] = e in absurd 
 counts_stay : map one_more (0 ∷ 7 ∷ 18446744073709551614 ∷ 18446744073709551615 ∷ []) ≡ 1 ∷ 8 ∷ 18446744073709551615 ∷ 18446744073709551615 ∷ []
 counts_stay = refl
 
--- a count that stayed or fell didn't rise, but at the last value, where it stays
+-- a count that stayed or fell didn't rise, but at the last value, if it stays
 stayed_counts : (Rose 3 3 → ⊥) × (Rose 3 2 → ⊥) × Rose 3 4 × Rose 3 9 × Rose 18446744073709551615 18446744073709551615
 stayed_counts = ((λ rose. omega (arith, rose)), (λ rose. omega (arith, rose)), omega arith, omega arith, omega arith)
 

@@ -31,7 +31,8 @@ use Rattle.ant_commands.specs.Files.{AreAccepted}
 use Rattle.ant_commands.specs.Inner.Cups.{AreReady, CanBePlayed, Opens}
 use Rattle.ant_commands.specs.Outputs.{brain_file, cup_contents, cup_files, nowhere, score_between, score_in_cup}
 
--- what was read of the files of a cup: so many worlds at the start of a game, and so many brains with a state at least
+-- what was read of the files of a cup: this many worlds at the start of a game, and this many brains with a state at
+-- least
 pub record IsRoster (world_count player_count : ℕ) (worlds : List Grid) (players : List (List Instr)) : Type 0 where
   pub worlds_counted : length worlds ≡ world_count
   pub players_counted : length players ≡ player_count

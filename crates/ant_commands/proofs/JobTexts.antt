@@ -220,10 +220,10 @@ pub record JobLaws (a : PlainAsked) (job : Job) : Type 0 where
       → (ends_in_lf text ≡ true) ⊎ TellsNoLabel a text
   -- there is at most one
   pub one : (contents : List FileContent) (text other : List ℕ) → job.IsText contents text → job.IsText contents other → text ≡ other
-  -- there is one, where each element has room
+  -- there is one, if each element has room
   pub has : AskedWithin a → (fetches : List Fetched) (contents : List FileContent) → AreAccepted job.files fetches contents → ((element : ℕ) → ¬ job.Lacks element)
       → (text : List ℕ) × job.IsText contents text
-  -- where an element has no room, there is no file, and no output
+  -- if an element has no room, there is no file, and no output
   pub crowded : (element : ℕ) → job.Lacks element → (job.files ≡ []) × ((contents : List FileContent) (text : List ℕ) → job.IsText contents text → ⊥)
 
 -- the laws of a job whose text is a function of what was read; it may write while it plays, and name workers

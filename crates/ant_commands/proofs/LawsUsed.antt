@@ -388,8 +388,8 @@ run_promise_used law = (
   λ before after run. law.every [] before after 0 run (λ e. omega (arith, e)) none_among,
 )
 
--- where it says that a file wasn't read, the shelf wasn't sure of it and failed; and each fetch agrees with what the
--- shelf tells
+-- if it says that a file wasn't read, the shelf wasn't sure of it and failed; and each fetch agrees with what the shelf
+-- tells
 run_shelf_used : RunShelf → (before after : Outside) → IsRunTo plain_words before after 3
     → ((name : List ℕ) × (before.shelf.sure name ≡ false) × Rose before.shelf.faults after.shelf.faults) × (fetches : List Fetched) × FetchesEach before.shelf after.shelf fetches
 run_shelf_used law before after run =
@@ -437,8 +437,8 @@ IsAfter game round saved = IsSavedAs (codes "w") (codes "r") (codes "b") counted
 abbrev resumed : Job
 resumed = resume_job (codes "s") (record { rounds = 5; dumps = EveryDump; workers = 16; stats = true })
 
--- the save is accepted, from a shelf too; what `resume` prints goes on where the save was made, and after round 4 too,
--- to which `advance` goes on
+-- the save is accepted, from a shelf too; what `resume` prints continues where the save was made, and after round 4
+-- too, to which `advance` continues
 saves_are_resumed_used : SavesAreResumed → (game : ReadGame) → IsGameOf (codes "w") (codes "r") (codes "b") counted game →
     ((text : List ℕ) → IsSave game text → (saved : SavedValue) × Reads (SaveFile 5) text (SaveContent saved))
     × ((text : List ℕ) (at : List ℕ → Option (List ℕ)) → IsSave game text → at (codes "s") ≡ Some text → (saved : SavedValue) × IsJudged at (files_of resumed) (AllAccepted (SaveContent saved ∷ [])))

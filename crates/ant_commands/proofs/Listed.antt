@@ -60,7 +60,7 @@ stopped_at contents_of first second third kind words i word name contents result
     (reads_then first second third (files_named kind (texts (take i words))) (file_of kind word ∷ []) contents (Stopped (reason_of why)) one
     (subst (λ (n : List ℕ). ReadsFiles second third (record { name = n; kind = kind } ∷ []) (Stopped (reason_of why))) named two)))))
 
--- memory was wanting for what was read of the next file, and so the reading of all stopped
+-- memory ran out for what was read of the next file, and so the reading of all stopped
 pub wanting_at : {W : Type 0} (contents_of : W → List FileContent) (first third : ShelfState) (kind : FileKind) (words : List (String Global)) (i : ℕ) (contents : List FileContent) (result : Result W CommandStop)
     → IsErrAnd result (λ other. other ≡ stop.Memory) → ReadsFiles first third (files_named kind (texts (take i words))) (Contents contents) → ReadsFiles first third (files_named kind (texts words)) (outcome_of contents_of result)
 wanting_at contents_of first third kind words i contents result same one =

@@ -47,7 +47,7 @@ module _ (worlds brains : List (List ℕ)) (format : Format) (rounds workers : �
         left = lf_some _ (lf_last rest.0 (standing_text format.leads brains standing.0) (lf_standing format.leads format.gauntlet brains (length brains) (length worlds * format.seeds.count) score standing.0 some standing.1));
       }
 
-  -- its files were read, and its games were printed; or the output failed, or memory was wanting after the lines of its
+  -- its files were read, and its games were printed; or the output failed, or memory ran out after the lines of its
   -- first worlds
   pub carries_cup : {U : Type 0} (result : Result U CommandStop) (last : Result (Unit {0}) PushFault) → ending_of result ≡ play_ending last
       → ReadsFiles shelf new_shelf (cup_files worlds brains) (Contents (roster_contents cup)) → 1 ≤ length brains

@@ -128,7 +128,7 @@ read_save name rounds = record {
       (saved.0, alone (save_file name rounds) contents (SaveContent saved.0) it saved.1);
 }
 
--- a game's files, and others behind them
+-- a game's files, and others after them
 record GameFirst (world red black : List ℕ) (files : List File) (contents : List FileContent) : Type 0 where
   game : ReadGame
   more : List FileContent
@@ -238,7 +238,7 @@ module _ {A : Type 0} {files : List File} {contents_of : A → List FileContent}
   pub one_text_of : (text_of : A → List ℕ) (contents : List FileContent) (text other : List ℕ) → Tells contents_of (is_text_of text_of) contents text → Tells contents_of (is_text_of text_of) contents other → text ≡ other
   one_text_of text_of contents text other a b = one_told contents text other (λ value x y. x ∙ sym y) a b
 
-  -- where each value has a text, accepted files have one
+  -- if each value has a text, accepted files have one
   pub has_told : {IsText : A → List ℕ → Type 0} (fetches : List Fetched) (contents : List FileContent) → AreAccepted files fetches contents
       → ((value : A) → AreAccepted files fetches (contents_of value) → (text : List ℕ) × IsText value text) → (text : List ℕ) × Tells contents_of IsText contents text
   has_told fetches contents are has =

@@ -143,7 +143,7 @@ pub reads_stopped : (first second : ShelfState) (a b : List File) (reason : Reas
 reads_stopped first second a b reason reads =
     record { fetches = reads.fetches; fetched = reads.fetched; comes = reading_stops_first first second a b reads.fetches reason reads.comes }
 
--- files were read, and then memory was wanting
+-- files were read, and then memory ran out
 pub reads_wanting : (first second : ShelfState) (files : List File) (contents : List FileContent) → ReadsFiles first second files (Contents contents) → ReadsFiles first second files (Stopped AtMemory)
 reads_wanting first second files contents reads =
     record { fetches = reads.fetches; fetched = reads.fetched; comes = accepted_begun files reads.fetches contents reads.comes }
@@ -173,14 +173,14 @@ pub carries_cut : (command : Job) (shelf new_shelf : ShelfState) (out new_out : 
 carries_cut command shelf new_shelf out new_out contents reads text is pushed =
     record { fetches = reads.fetches; fetched = reads.fetched; ends = λ err new_err. record { contents = contents; accepted = reads.comes; text = text; is_text = is; cut = pushed } }
 
--- a command's files were read, and a proper prefix of its text was written before memory was wanting
+-- a command's files were read, and a proper prefix of its text was written before memory ran out
 pub carries_broken : (command : Job) (shelf new_shelf : ShelfState) (out new_out : SinkState) (contents : List FileContent) → ReadsFiles shelf new_shelf (files_of command) (Contents contents)
     → (text : List ℕ) → IsJobText command contents text → (broken : PushedProperPrefix out new_out text) → WritesInPlay command contents broken.front
     → CarriesOut command shelf new_shelf out new_out (Some AtMemory)
 carries_broken command shelf new_shelf out new_out contents reads text is pushed in_play =
     record { fetches = reads.fetches; fetched = reads.fetched; ends = λ err new_err. inr (record { contents = contents; accepted = reads.comes; text = text; is_text = is; broken = pushed; in_play = in_play }) }
 
--- memory was wanting before a file was fetched
+-- memory ran out before a file was fetched
 pub carries_nothing : (command : Job) (shelf : ShelfState) (out : SinkState) → CarriesOut command shelf shelf out out (Some AtMemory)
 carries_nothing command shelf out = record { fetches = []; fetched = fetches_none shelf; ends = λ err new_err. inl (record { begun = begun_none (files_of command); unwritten = refl }) }
 
@@ -211,7 +211,7 @@ carries_words words command shelf new_shelf out new_out stop is carried =
       ends = λ err new_err. ends_as words command (outside_of shelf out err) (outside_of new_shelf new_out new_err) carried.fetches stop is (carried.ends err new_err);
     }
 
--- words that are no command were refused
+-- words that are not a command were refused
 pub carries_no_words : (words : List (List ℕ)) (word : ℕ) (shelf : ShelfState) (out : SinkState) → IsRefusedAt words word → CarriesOutWords words shelf shelf out out (RefusedWord word)
 carries_no_words words word shelf out refused =
     record { fetches = []; fetched = fetches_none shelf; ends = λ err new_err. record { refused = refused; unfetched = refl; kept = refl; unwritten = refl } }

@@ -1,4 +1,4 @@
--- Games are saved and gone on with.
+-- Games are saved and continued.
 use Rattle.std.proofs.Common.{◌≡◌, ℕ, ◌+◌, ◌≤◌, List, [], ◌∷◌, ◌++◌, length, Ok, Option, Some, refl, sym, ◌∙◌, ap, subst, arith, append_assoc}
 use Rattle.std.specs.List.{AllByRecursion}
 use Rattle.ant_base.specs.Fetched.{Fetched}

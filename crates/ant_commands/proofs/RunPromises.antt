@@ -327,7 +327,7 @@ stopped_short {asked} {before} {after} stop = elim stop.such [
   | inr wanting ↦ NoBytes stop.kind stop.name (subst (StopsAtFile asked before after stop.kind stop.name) wanting stop.at)
 ]
 
--- memory was wanting before the text was begun, or after a proper prefix of it
+-- memory ran out before the text was begun, or after a proper prefix of it
 wants_memory : (world red black : List ℕ) (setup : RunSetup) (before after : Outside) → setup.stats ≡ false → HasStopped world red black setup before after AtMemory
     → IsOutOfMemory (asked_for world red black setup) before after
 unfolding fault_line

@@ -240,7 +240,7 @@ dumps_fit : {dumps : ℕ → Bool} {word : List ℕ} → IsDumps dumps word → 
 unfolding is_dumps
 dumps_fit is = ap is_some (dumps_spelled is).is
 
--- the words behind an option's name fit its places
+-- the words after an option's name fit its places
 words_fit : {asked new : RunAsked} {name : List ℕ} {words : List (List ℕ)} (is : IsOption asked name words new) → FitAll (values_of (in_table is)) (parts_of words)
 words_fit (Seed n word is) = (number_fits SeedNumber n word is, tt)
 words_fit (Rounds n word is) = (number_fits RoundCount n word is, tt)
@@ -252,7 +252,7 @@ words_fit (Corpse n word is) = (number_fits CorpseFood n word is, tt)
 words_fit (Rest n word is) = (number_fits RestRounds n word is, tt)
 words_fit Far = tt
 
--- options are pairs of a name and the words behind it
+-- options are pairs of a name and the words after it
 abbrev pub Named : Type 0
 Named = List ℕ × List (List ℕ)
 

@@ -23,7 +23,7 @@ use Rattle.ant_commands.specs.RunPromise.IsNotBegun.{NothingFetched, BytesCame, 
 use Rattle.ant_commands.specs.RunPromise.TextKind.{OfWorld, OfBrain}
 use Rattle.ant_commands.proofs.RunWords.{table_run}
 
--- what is asked for where no option says otherwise, and then with a seed, a number of rounds and a choice of them
+-- what is requested if no option says otherwise, and then with a seed, a number of rounds and a choice of them
 abbrev bare : RunAsked
 bare = record { world = codes "w"; red = codes "r"; black = codes "b"; seed = 0; rounds = 0; dumps = λ round. false; sheet = record { surround = 5; corpse = 3; rest = 14 } }
 
@@ -190,7 +190,7 @@ pub no_rounds : (asked : RunAsked) → ¬ IsRunOf (words_of (codes "run w r b --
 unfolding command_kind_of choice_of is_among rest_after is_file_name is_dumps dumps_of decimal_value
 no_rounds = no_run (words_of (codes "run w r b --seed 1")) 7 refl
 
--- an option in the place of a name, and two commas between two numbers
+-- an option instead of a name, and two commas between two numbers
 pub no_brain : (asked : RunAsked) → ¬ IsRunOf (words_of (codes "run w r --seed 1 --rounds 2")) asked
 unfolding command_kind_of choice_of is_among rest_after is_file_name is_dumps dumps_of decimal_value
 no_brain = no_run (words_of (codes "run w r --seed 1 --rounds 2")) 4 refl
@@ -210,7 +210,7 @@ long_is_unfit = (refl, refl)
 printed_alone : (asked : RunAsked) (before after : Outside) → IsPrinted asked before after → (after.err ≡ before.err) × NothingWaits after.out.waiting
 printed_alone asked before after is = (is.silent, is.flushed)
 
--- where a run stopped at a file, nothing was written
+-- if a run stopped at a file, nothing was written
 stopped_alone : {asked : RunAsked} {before after : Outside} {kind : TextKind} {name : List ℕ} {answer : Result (List ℕ) FetchFault} → StopsAtFile asked before after kind name answer
     → after.out ≡ before.out
 stopped_alone at = at.unwritten

@@ -83,12 +83,12 @@ pub lf_some : (text : List ℕ) → EndsInLf text → 1 ≤ length text
 lf_some [] ends = absurd (false≢true ends.is)
 lf_some (byte ∷ text) ends = omega arith
 
--- what stands before a text that ends in LF changes nothing
+-- what precedes a text that ends in LF changes nothing
 pub lf_last : (a b : List ℕ) → EndsInLf b → EndsInLf (a ++ b)
 lf_last a [] ends = absurd (false≢true ends.is)
 lf_last a (byte ∷ b) ends = record { is = ends_in_lf-append a byte b ∙ ends.is }
 
--- nor does what stands behind it, if that are lines
+-- nor does what follows it, if it is lines
 lf_then : (a b : List ℕ) → EndsInLf a → AreLines b → EndsInLf (a ++ b)
 lf_then a b ends lines =
     elim lines [

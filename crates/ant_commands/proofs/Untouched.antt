@@ -8,7 +8,7 @@ use Rattle.ant_commands.specs.Inner.Reading.{CarriesOut}
 use Rattle.ant_commands.specs.FaultLines.Reason.{AtMemory}
 use Rattle.ant_commands.proofs.Readings.{carries_nothing}
 
--- memory was wanting, and neither the shelf nor the output was touched
+-- memory ran out, and neither the shelf nor the output was touched
 pub carries_untouched : (command : Job) (shelf new_shelf : ShelfState) (out new_out : SinkState) → shelf ≡ new_shelf → out ≡ new_out → CarriesOut command shelf new_shelf out new_out (Some AtMemory)
 carries_untouched command shelf new_shelf out new_out same_shelf same_out =
     subst (λ (o : SinkState). CarriesOut command shelf new_shelf out o (Some AtMemory)) same_out

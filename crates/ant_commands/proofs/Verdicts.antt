@@ -1,5 +1,5 @@
--- What the end of a run says of its status: when the words are no command, when input is refused, and that nothing else
--- is in the way.
+-- What the end of a run says of its status: when the words are not a command, when input is refused, and that nothing
+-- else is in the way.
 use Rattle.std.proofs.Common.{◌≡◌, ◌≢◌, ◌⊎◌, inl, inr, ℕ, ◌<◌, ◌≤◌, true, List, [], ◌∷◌, ◌++◌, length, map, Ok, Err, Option, Some, None, refl, sym, ◌∙◌, ap, subst, arith}
 use Rattle.std.specs.List.{AllByRecursion}
 use Rattle.std.specs.Prelude.{IsSomeAnd}
@@ -102,7 +102,7 @@ never_sure : (shelf : ShelfState) (name : List ℕ) (file : File) (fetch other :
 never_sure shelf name file fetch other unsure named sure =
     false≢true (sym unsure.unsure ∙ ap shelf.sure (sym unsure.named ∙ sym named) ∙ sure)
 
--- where the shelf was sure of all files up to the verdict, no reading stopped at one of which it wasn't
+-- if the shelf was sure of all files up to the verdict, no reading stopped at one of which it wasn't
 sure_accepted : (shelf : ShelfState) (name : List ℕ) (files : List File) (first second : List Fetched) (contents : List FileContent) → AreSure shelf second → StopsAt (IsUnsure shelf name) files first → AreAccepted files second contents → ⊥
 sure_accepted shelf name [] first second contents sure stops are = stops
 sure_accepted shelf name (file ∷ files) [] second contents sure stops are = stops
@@ -216,7 +216,7 @@ orderly_run words before after ended run = λ command is fetches logged.
     let same = same_rest before.shelf.log run.fetches fetches (sym run.fetched.log ∙ logged) in
     subst (AreInOrder (files_of (job_of command))) same (in_order_by (job_of command) before after run.fetches it.stop it.ends)
 
--- a run whose files are all accepted is done, or wants memory
+-- a run whose files are all accepted is done, or runs out of memory
 complete_by : (at : At) (command : Job) (before after : Outside) (fetches told : List Fetched) (contents : List FileContent) (stop : Option Reason) → AllByRecursion (IsTold (Some at)) fetches
     → AllByRecursion (IsTold (Some at)) told → AreAccepted (files_of command) told contents → HasRoom command → EndsBy command before after fetches stop → ¬ Rose before.shelf.faults after.shelf.faults → ¬ Rose before.out.faults after.out.faults
     → (ending_status (ending_by stop) ≡ status.Done) ⊎ (ending_status (ending_by stop) ≡ status.Memory)
@@ -238,7 +238,7 @@ complete_run words before after ended run = λ contents is room shelf_held out_h
     subst (λ (s : Status). (s ≡ status.Done) ⊎ (s ≡ status.Memory)) (sym (status_by words is.command before after ended run it))
     (complete_by is.at (job_of is.command) before after run.fetches is.judged.fetches contents it.stop (told_of_run words before after ended is.at run is.told) is.judged.told is.judged.judged room it.ends shelf_held out_held)
 
--- a run of which an element has no room ends so, or wants memory
+-- a run of which an element has no room ends so, or runs out of memory
 crowding_by : (command : PlainAsked) (before after : Outside) (fetches : List Fetched) (element : ℕ) (stop : Option Reason) → LacksRoom (job_of command) element → EndsBy (job_of command) before after fetches stop
     → (ending_status (ending_by stop) ≡ status.Input) ⊎ (ending_status (ending_by stop) ≡ status.Memory)
 crowding_by command before after fetches element None lacks ends = absurd (((laws_of command).crowded element lacks).1 ends.contents ends.text ends.is_text)
@@ -254,7 +254,7 @@ crowding_run words before after ended run = λ command element is lacks.
     subst (λ (s : Status). (s ≡ status.Input) ⊎ (s ≡ status.Memory)) (sym (status_by words command before after ended run it))
     (crowding_by command before after run.fetches element it.stop lacks it.ends)
 
--- a run of which a file is refused ends so, or wants memory
+-- a run of which a file is refused ends so, or runs out of memory
 refusing_by : (at : At) (command : Job) (before after : Outside) (fetches told : List Fetched) (name : List ℕ) (fault : FileFault) (stop : Option Reason) → AllByRecursion (IsTold (Some at)) fetches
     → AllByRecursion (IsTold (Some at)) told → StopsAt (IsRefusedAs name fault) (files_of command) told → EndsBy command before after fetches stop → ¬ Rose before.shelf.faults after.shelf.faults
     → (ending_status (ending_by stop) ≡ status.Input) ⊎ (ending_status (ending_by stop) ≡ status.Memory)
@@ -290,7 +290,7 @@ stops_apart : (reason : Reason) → status_of reason ≡ status.Words → ⊥
 stops_apart (AtFile name) same = cc
 stops_apart reason same = cc
 
--- the status says Words exactly where the words are no command
+-- the status says Words exactly if the words are not a command
 no_command_by : (words : List (List ℕ)) (before after : Outside) (fetches : List Fetched) (ending : Ending) → Ends words before after fetches ending → ending_status ending ≡ status.Words → IsNoCommand words
 no_command_by words before after fetches Done ends same = cc
 no_command_by words before after fetches (RefusedWord word) ends same = λ command is. words_laws.never_both words command word is ends.refused

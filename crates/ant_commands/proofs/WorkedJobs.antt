@@ -123,7 +123,7 @@ pub advance_asked : job_of (asked_in Advance (words_of (codes "advance s --worke
 unfolding is_among rest_after is_file_name is_dumps dumps_of decimal_value
 advance_asked = refl
 
--- its save is one of at most so many rounds
+-- its save is one of at most this many rounds
 pub advance_reads : files_of (advance_job (codes "s") 5 4) ≡ record { name = codes "s"; kind = SaveFile 5 } ∷ []
 advance_reads = refl
 

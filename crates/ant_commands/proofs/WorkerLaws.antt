@@ -30,7 +30,7 @@ has-of Workers is = false
 has-of Far is = false
 has-of choice is = is
 
--- what is asked for, but for workers
+-- what is requested, except for workers
 abbrev without : CommandKind → PlainAsked → PlainAsked
 without kind a = record a {
   number = λ place. number-of (slice_get (places_of kind) place) (a.number place);

@@ -49,7 +49,7 @@ pub next_state-low : (seed i : ℕ) → next_state (state_at seed i % 2 ^ 32) �
 unfolding next_state state_at
 next_state-low seed i = rw (add-one i) (step_of_low (state_at seed i) 22695477 1)
 
--- so many steps from a state lead to the state so many places on
+-- this many steps from a state lead to the state this many places on
 pub iterate-next_state : (seed i n : ℕ) → iterate next_state n (state_at seed i % 2 ^ 32) ≡ state_at seed (i + n) % 2 ^ 32
 iterate-next_state seed i zero = let e : i + 0 ≡ i = omega arith in ap (λ (k : ℕ). state_at seed k % 2 ^ 32) (sym e)
 iterate-next_state seed i (suc n) =

@@ -4,7 +4,7 @@ use Rattle.std.proofs.Math.Nat.{div-eq_of_lt, pow-le-pow_right}
 use Rattle.std.proofs.lemmas.Nat.{shr-shr}
 use Rattle.std.proofs.lemmas.Bool.{cases_lt}
 
--- so many digits of a number are dealt with, at two steps each and one before
+-- this many digits of a number are dealt with, at two steps each and one before
 pub record IsWalked (whole left before now : ℕ) : Type 0 where
   pub digits : ℕ
   pub left_is : left ≡ whole / 2 ^ digits
@@ -20,7 +20,7 @@ walked_none whole before now one = record {
   steps = omega arith;
 }
 
--- where something is left, fewer digits are dealt with than the number has
+-- if something is left, fewer digits are dealt with than the number has
 fewer : (whole digits k : ℕ) → 0 < whole / 2 ^ digits → whole < 2 ^ k → digits + 1 ≤ k
 fewer whole digits k left short =
     elim (cases_lt digits k) [

@@ -11,7 +11,7 @@ use Rattle.ant_turn.specs.Deaths.{dead_all, dead_around, dead_at, placed, with_n
 use Rattle.ant_turn.specs.Kills.{ants_among, has_foes, is_surrounded, after_kill, check_at, check_all, id_of, killed_at, killed_all, places_around, check_around_at, killed_around}
 use Rattle.ant_turn.specs.Sheet.{Sheet}
 
--- no ant is surrounded where none is
+-- no ant is surrounded if there is none
 pub is_surrounded-none : (sheet : Sheet) (cells : Cells) (p : Pos) → (cells p).ant ≡ None → is_surrounded sheet cells p ≡ false
 unfolding is_surrounded
 is_surrounded-none sheet cells p is = ap (has_foes sheet cells (neighbours_of p)) is

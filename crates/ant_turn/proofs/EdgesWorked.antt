@@ -128,7 +128,7 @@ stays_kill_nobody : ((execute contest 12345 surrounded 0 middle (red_ant false) 
 unfolding is_surrounded check_at killed_at places_around with_foes put_cell same_pos neighbours_of adjacent_pos directions floor
 stays_kill_nobody = (refl, refl, refl)
 
--- a red ant behind the one that goes has five foes; it is beside the old cell and not beside the new one, so it isn't
+-- a red ant after the one that goes has five foes; it is beside the old cell and not beside the new one, so it isn't
 -- checked
 abbrev behind : Cells
 behind = put_cell (put_cell (with_foes (at 1 3 ∷ at 0 3 ∷ at 0 2 ∷ at 0 1 ∷ at 1 1 ∷ [])) (at 1 2) (hill_cell Red 5)) middle (holding floor (red_ant false))

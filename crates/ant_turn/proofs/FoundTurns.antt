@@ -21,7 +21,7 @@ found-id w t result it told holds is =
     let held = place_in-ant w t it.place (found-place (place_in w t) result it told is) in
     ap (λ (a : Ant). a.id) (same_Some it.ant held.ant (sym (found-holds w result it holds is) ∙ held.is)) ∙ held.id
 
--- nothing happens where none was found
+-- nothing happens if none was found
 pub takes-none : {minds : Minds} {t : ℕ} {w after : World} {room left : ℕ} {s : SeedAndPlace} {deed : Deed} (result : Option PlacedAnt)
     → option_map (λ (s : PlacedAnt). s.place) result ≡ place_in w t → result ≡ None
     → Fits w minds → after ≡ w → left ≡ room → Valid after → deed.drew ≡ false → deed.killed.items ≡ []

@@ -50,7 +50,7 @@ Fits-put minds w p cell fits new = record {
   below = put_cell-all w p cell (λ q c. (ant : Ant) → c.ant ≡ Some ant → ant.state < length (mind_of minds ant.colour)) new (λ q _. fits.below q);
 }
 
--- a world with one cell replaced keeps what it had, where the brains fit the new cell's ant
+-- a world with one cell replaced keeps what it had, if the brains fit the new cell's ant
 pub Keeps-put : (minds : Minds) (w : World) (p : Pos) (cell : Cell) → Valid w → Fits w minds → (w.cells p).rocky ≡ false → Replaces (w.cells p) cell → HasMarksOfSix cell → ((ant : Ant) → cell.ant ≡ Some ant → ant.state < length (mind_of minds ant.colour)) → Keeps minds w (put w p cell)
 Keeps-put minds w p cell valid fits clear replaces six new = record {
   width = refl;

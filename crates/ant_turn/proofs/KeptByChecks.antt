@@ -21,7 +21,7 @@ after_kill-twice sheet cell =
     let plain : Cell → ℕ → Cell = λ c n. record c { food = n; ant = None } in
     ap (plain cell) (add-zero (cell.food + corpse_food sheet cell.ant))
 
--- after a check each cell is as it was, or its ant was killed
+-- after a check each cell is unchanged, or its ant was killed
 pub check_at-cell : (sheet : Sheet) (cells : Cells) (p q : Pos) → (check_at sheet cells p q ≡ cells q) ⊎ (check_at sheet cells p q ≡ after_kill sheet (cells q))
 check_at-cell sheet cells p q =
     check_at-cases sheet cells p (λ now _. (now q ≡ cells q) ⊎ (now q ≡ after_kill sheet (cells q)))

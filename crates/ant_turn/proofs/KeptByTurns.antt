@@ -81,7 +81,7 @@ module _ (sheet : Sheet) (w : World) (p : Pos) (ant : Ant) (q : Pos) (next : ℕ
   left_nowhere = put_cell-all w p (left_by_ant (w.cells p)) (λ r c. holds_id ant.id c ≡ false) refl
       (λ r apart. false_from_ne_true (holds_id ant.id (w.cells r)) (λ held. apart (valid.once ant.id p r (holds_id-own (w.cells p) ant is) held)))
 
-  -- where it left its cell, it may be set on the other
+  -- if it left its cell, it may be set on the other
   pub CanSet-arrived : (room : ℕ) → 1 ≤ room → CanSet (put w p (left_by_ant (w.cells p))) room q (with_ant (w.cells q) (arrived sheet ant next))
   CanSet-arrived room left =
       let clear : (w.cells q).rocky ≡ false = free_clear (w.cells q) free in

@@ -38,7 +38,7 @@ cond-map g false x y = refl
 abbrev pub ActsAlike : (f : Colour → ℕ → ℕ) (minds other : Minds) → Ant → Type 0
 ActsAlike f minds other ant = instruction_at (mind_of other ant.colour) (f ant.colour ant.state) ≡ redirected (f ant.colour) (instruction_at (mind_of minds ant.colour) ant.state)
 
--- so does the ant whose turn it is, where one stands at a place
+-- so does the ant whose turn it is, if one stands at a place
 abbrev pub ActsAlikeAt : (f : Colour → ℕ → ℕ) (minds other : Minds) → Cells → Option Pos → Type 0
 ActsAlikeAt f minds other cells place = (p : Pos) (ant : Ant) → place ≡ Some p → (cells p).ant ≡ Some ant → ActsAlike f minds other ant
 
@@ -194,7 +194,7 @@ module _ (state rest : Ant → ℕ) where
         record { cells = put_cell (mapped_cells cells) p (with_ant cell (renumbered_ant f ant)); drew = drew; killed = [] } ≡ after (record { cells = put_cell cells p (with_ant cell ant); drew = drew; killed = [] })
     ant-mapped drew cells p cell ant same = cell-mapped drew cells p (with_ant cell ant) _ (own_cell cell ant same)
 
-    -- an ant that goes on in one of two states
+    -- an ant that continues in one of two states
     branches-mapped : (drew : Bool) (cells : Cells) (p : Pos) (ant : Ant) (b now : Bool) (met unmet : ℕ) → now ≡ b → ant.id ≡ t →
         record { cells = put_cell (mapped_cells cells) p (with_ant (cells p) (in_state ant (if now then f ant.colour met else f ant.colour unmet))); drew = drew; killed = [] }
         ≡ after (record { cells = put_cell cells p (with_ant (cells p) (in_state ant (if b then met else unmet))); drew = drew; killed = [] })
@@ -272,7 +272,7 @@ module _ (state rest : Ant → ℕ) where
           turn_at-mapped seed w.cells place p (w.cells p).ant (λ ant is. alike p ant refl is)
           (λ ant is. ap (λ (a : Ant). a.id) (same_Some ant it.ant (sym is ∙ it.is)) ∙ it.id)
 
-      -- its turn does the same, where it acts alike
+      -- its turn does the same, if it acts alike
       pub turn-mapped : (seed : ℕ) (w : World) (place : ℕ) → ActsAlikeAt f minds other w.cells (place_in w t) → turn other seed (with_cells w (mapped_cells w.cells)) place t ≡ after (turn minds seed w place t)
       unfolding turn
       turn-mapped seed w place alike =

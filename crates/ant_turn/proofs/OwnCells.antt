@@ -60,7 +60,7 @@ stays_alike instruction cell alike ant after kind hill food six marks id colour 
   state = state;
 }
 
--- an ant that goes on in a state that its instruction names
+-- an ant that continues in a state that its instruction names
 stays_in_state : (instruction : Instr) (cell : Cell) (ant : Ant) (state : ℕ) → ((n : ℕ) → IsSound n instruction → state < n) → Stays instruction cell ant (with_ant cell (in_state ant state))
 stays_in_state instruction cell ant state named = stays_alike instruction cell cell ant (in_state ant state) refl refl refl (λ _ _ kept. kept) refl refl refl refl (λ n _. named n)
 
@@ -98,7 +98,7 @@ one_picked_up : (laden : Bool) (food : ℕ) → (laden || food == 0) ≡ false �
 one_picked_up true food free = absurd (cc)
 one_picked_up false food free = let some : 1 ≤ food = grind arith in omega arith
 
--- a PickUp, where it is barred or not
+-- a PickUp, whether it is barred or not
 picked_up : (barred : Bool) (cell : Cell) (ant : Ant) (met unmet : ℕ) → (ant.laden || cell.food == 0) ≡ barred → Stays (PickUp met unmet) cell ant
     (if barred then with_ant cell (in_state ant unmet) else record cell { food = cell.food - 1; ant = Some (record ant { laden = true; state = met }) })
 picked_up true cell ant met unmet _ = stays_in_state (PickUp met unmet) cell ant unmet (λ n sound. sound.1)

@@ -18,7 +18,7 @@ use Rattle.ant_turn.specs.Rounds.{Moment, after_round, after_rounds, after_turn,
 use Rattle.ant_turn.specs.Turn.{turn}
 use Rattle.ant_turn.proofs.LawsUsed.{start, start_valid}
 
--- there is no ant 7, and where ant 0 rests for so many turns
+-- there is no ant 7, and where ant 0 rests for this many turns
 dead_is_nowhere : place_in start 7 ≡ None
 unfolding place_in cell_in opening rock floor
 dead_is_nowhere = refl

@@ -135,7 +135,7 @@ unfolding stepped
 left_empty sheet cells p ant ahead next apart =
     ap (λ (cell : Cell). cell.ant) (put_cell-other (put_cell cells p (left_by_ant (cells p))) ahead (with_ant (cells ahead) (arrived sheet ant next)) p (λ e. apart (sym e)) ∙ put_cell-same cells p (left_by_ant (cells p)))
 
--- where an ant is left on its own cell, it stayed
+-- if an ant is left on its own cell, it stayed
 does-stayed : (instruction : Instr) (sheet : Sheet) (cells : Cells) (p : Pos) (ant left : Ant) (outcome : Outcome) (q : Pos) → Does instruction sheet cells p ant outcome → (cells p).ant ≡ Some ant → p ≢ q → (outcome.cells p).ant ≡ Some left → outcome.cells q ≡ cells q
 does-stayed instruction sheet cells p ant left outcome q (inl stayed) is apart there =
     ap (λ (now : Cells). now q) stayed.cells_after ∙ put_cell-other cells p stayed.new q apart

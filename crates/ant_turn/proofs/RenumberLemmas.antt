@@ -30,7 +30,7 @@ module _ (f : Colour → ℕ → ℕ) where
   pub meets-renumbered : (cell : Cell) (condition : Cond) (colour : Colour) → meets (renumbered_cell f cell) condition colour ≡ meets cell condition colour
   meets-renumbered cell condition colour = meets-mapped state_of rest_of cell condition colour
 
-  -- a turn commutes with new numbers of states, whatever they are, where the ant whose turn it is acts alike
+  -- a turn commutes with new numbers of states, whatever they are, if the ant whose turn it is acts alike
   pub turn-alike : (minds other : Minds) → other.sheet ≡ minds.sheet → (seed : ℕ) (w : World) (place t : ℕ) → ActsAlikeAt f minds other w.cells (place_in w t) →
       turn other seed (renumbered_world f w) place t ≡ after (turn minds seed w place t)
   turn-alike minds other rules seed w place t alike = turn-mapped state_of rest_of t f (λ ant same. refl) minds other rules seed w place alike

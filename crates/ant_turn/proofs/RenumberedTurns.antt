@@ -67,7 +67,7 @@ module _ (P : Colour → ℕ → Type 0) where
       (put_cell-have cells p (left_by_ant (cells p)) all (λ other is. absurd (cc)))
       (has P (with_ant (cells q) (arrived sheet ant next)) (arrived sheet ant next) refl holds)
 
-  -- an ant that goes on in this state
+  -- an ant that continues in this state
   goes_on : (cells : Cells) (p : Pos) (cell : Cell) (ant : Ant) → AllHave P cells → cell.ant ≡ Some ant → P ant.colour ant.state → AllHave P (put_cell cells p cell)
   goes_on cells p cell ant all is holds = put_cell-have cells p cell all (has P cell ant is holds)
 
@@ -129,7 +129,7 @@ redirected-self it = refl
 abbrev HasNumber : Numbers → Colour → Colour → ℕ → Type 0
 HasNumber numbers colour own state = own ≡ colour → IsSome (numbers state)
 
--- the number, where there is one
+-- the number, if there is one
 pub the_number : (o : Option ℕ) → IsSome o → (k : ℕ) × (o ≡ Some k)
 the_number None none = absurd (cc)
 the_number (Some k) some = (k, refl)
@@ -148,7 +148,7 @@ carried_side numbers Red Black minds brain state carries some = sym (redirected-
 carried_side numbers Black Red minds brain state carries some = sym (redirected-self (instruction_at minds.red state))
 carried_side numbers Black Black minds brain state carries some = carried numbers minds.black brain state carries (some refl)
 
--- where nothing is asked, it holds of all
+-- if nothing is asked, it holds of all
 AllByRecursion-any : {P : ℕ → Type 0} → ((n : ℕ) → P n) → (list : List ℕ) → AllByRecursion P list
 AllByRecursion-any each [] = tt
 AllByRecursion-any each (n ∷ list) = (each n, AllByRecursion-any each list)

@@ -63,7 +63,7 @@ does-others instruction sheet cells p ant outcome q other (inr went) is apart =
     stepped-ant sheet cells p ant ahead went.next q other
     (check_all-ant sheet (places_around ahead) (stepped sheet cells p ant ahead went.next) q other (ap (λ (o : Outcome). (o.cells q).ant) (sym went.is) ∙ is)) apart
 
--- after the turn of an id each other ant is as it was, where it was
+-- after the turn of an id each other ant is unchanged, and where it was
 turn-others : (minds : Minds) (seed : ℕ) (w : World) (place t : ℕ) (q : Pos) (other : Ant) → ((turn minds seed w place t).cells q).ant ≡ Some other → other.id ≢ t → (w.cells q).ant ≡ Some other
 turn-others minds seed w place t q other is apart =
     elim (turn_parts minds seed w place t) [
@@ -118,7 +118,7 @@ pub TellsWhoActs-next : (acts : ℕ → Bool) (minds : Minds) (seed : ℕ) (m : 
 TellsWhoActs-next acts minds seed m from n tells p ant is late early =
     tells p ant (after_turn-others minds seed m from p ant is (λ one. let e : ant.id ≡ from = one in omega arith)) (omega arith) (omega arith)
 
--- where the first acts, it needn't be among those with one less to rest
+-- if the first acts, it doesn't have to be among those with one less to rest
 pub rested-acting : (w : World) (from to : ℕ) → ((p : Pos) (ant : Ant) → (w.cells p).ant ≡ Some ant → ant.id ≡ from → ant.resting ≡ 0) → rested from to w ≡ rested (from + 1) to w
 rested-acting w from to up =
     ap (with_cells w) (fun_ext λ p. same_rest (one_less from to) (one_less (from + 1) to) (w.cells p) λ ant is.
@@ -128,12 +128,12 @@ rested-acting w from to up =
       | inr apart ↦ sym (one_less-fewer from to ant.id ant.resting apart)
     ])
 
--- where it is dead, neither
+-- if it is dead, neither
 rested-dead : (w : World) (from to : ℕ) → Valid w → place_in w from ≡ None → rested from to w ≡ rested (from + 1) to w
 rested-dead w from to valid dead =
     rested-acting w from to λ p ant is own. absurd (both_ways (holds_id from (w.cells p)) (place_in-none w from p valid dead) (ap (λ t. holds_id t (w.cells p)) (sym own) ∙ holds_id-own (w.cells p) ant is))
 
--- where it rests, one less to rest is its turn
+-- if it rests, one less to rest is its turn
 rested-resting : (w : World) (from to : ℕ) (p : Pos) (ant : Ant) (left : ℕ) → Valid w → from < to → (w.cells p).ant ≡ Some ant → ant.id ≡ from → ant.resting ≡ left + 1 →
     rested from to w ≡ rested (from + 1) to (put w p (with_ant (w.cells p) (record ant { resting = left })))
 rested-resting w from to p ant left valid early is own tired =
@@ -163,7 +163,7 @@ tired_by : (n : ℕ) → false ≡ nat_eq n 0 → n ≡ n - 1 + 1
 tired_by zero e = absurd (cc)
 tired_by (suc n) e = omega arith
 
--- the turn of the first, where it doesn't act
+-- the turn of the first, if it doesn't act
 pub turn-resting : (acts : ℕ → Bool) (minds : Minds) (seed : ℕ) (m : Moment) (from n to : ℕ) → from < to → Valid m.world → TellsWhoActs acts m.world from (suc n) → acts from ≡ false →
     (place : Option Pos) → place_in m.world from ≡ place → rested_moment from to m ≡ rested_moment (from + 1) to (after_turn minds seed m from)
 turn-resting acts minds seed m from n to early valid tells rests None dead =
@@ -176,7 +176,7 @@ turn-resting acts minds seed m from n to early valid tells rests (Some p) found 
     ap (λ (w : World). let now : Moment = record m { world = w } in now) (rested-resting m.world from to p it.ant (it.ant.resting - 1) valid early it.is it.id tired)
     ∙ ap (rested_moment (from + 1) to) (sym (after_turn-rests minds seed m from p it.ant (it.ant.resting - 1) found it.is tired))
 
--- the turn of the first, where it acts
+-- the turn of the first, if it acts
 pub turn-acting : (acts : ℕ → Bool) (minds : Minds) (seed : ℕ) (m : Moment) (from n to : ℕ) → TellsWhoActs acts m.world from (suc n) → acts from ≡ true →
     after_turn minds seed (rested_moment from to m) from ≡ rested_moment (from + 1) to (after_turn minds seed m from)
 turn-acting acts minds seed m from n to tells ready =
@@ -216,7 +216,7 @@ ids_where-late acts from (suc n) least early =
     (λ _. (λ same. let e : from ≡ least = same in omega arith, ids_where-late acts (from + 1) n least (omega (arith, early))))
     (λ _. ids_where-late acts (from + 1) n least (omega (arith, early)))
 
--- their ants don't rest, also where others have less to rest
+-- their ants don't rest, even if others have less to rest
 AreUp-listed : (acts : ℕ → Bool) (w : World) (first last from n : ℕ) → from + n ≤ w.ids → TellsWhoActs acts w from n → AreUp (rested first last w) (ids_where acts from n)
 AreUp-listed acts w first last from zero made tells = tt
 AreUp-listed acts w first last from (suc n) made tells =

@@ -60,7 +60,8 @@ sensed_cells : map (sensed_pos here East) (Here ∷ Ahead ∷ LeftAhead ∷ Righ
 unfolding sensed_pos adjacent_pos turned_by directions
 sensed_cells = refl
 
--- Sense goes to its first state where the cell meets the condition for the ant's own colour, and else to its second
+-- Sense goes to its first state where the cell meets the condition for the ant's own colour, and otherwise to its
+-- second
 sense-met : (colour : Colour) → after (ant_of colour false) floor (record floor { food = 1 }) (Sense Ahead 7 8 Food) ≡ then_in (ant_of colour false) 7 floor
 unfolding after around put_cell same_pos sensed_pos adjacent_pos meets floor
 sense-met Red = refl
@@ -104,7 +105,7 @@ pick_up : (after (ant_of Red false) (record floor { food = 2 }) floor (PickUp 7 
 unfolding after around put_cell same_pos floor
 pick_up = (refl, refl, refl)
 
--- Drop lays the particle down, if the ant carries one, and goes on in any case
+-- Drop lays the particle down, if the ant carries one, and continues in any case
 drop : (after (ant_of Black true) (record floor { food = 2 }) floor (Drop 7) ≡ then_in (ant_of Black false) 7 (record floor { food = 3 }))
     × (after (ant_of Black false) floor floor (Drop 7) ≡ then_in (ant_of Black false) 7 floor)
 unfolding after around put_cell same_pos floor
@@ -163,7 +164,7 @@ friends_and_foes : (said Friend with_red ≡ red_alone) × (said Friend with_lad
 unfolding meets floor
 friends_and_foes = (refl, refl, refl, refl, refl, refl)
 
--- and with food only where that ant carries it
+-- and with food only if that ant carries it
 friends_and_foes_with_food : (said FriendWithFood with_laden_black ≡ black_alone) × (said FriendWithFood with_red ≡ neither_of)
     × (said FoeWithFood with_laden_black ≡ red_alone) × (said FoeWithFood with_red ≡ neither_of)
 unfolding meets floor
@@ -186,8 +187,8 @@ homes : (said Home (record floor { hill = Some Red; food = 3 }) ≡ red_alone) �
 unfolding meets floor
 homes = (refl, refl, refl, refl)
 
--- one red ant in three by three cells that flips in each round: the second round goes on in the stream where the first
--- stopped
+-- one red ant in three by three cells that flips in each round: the second round continues in the stream where the
+-- first stopped
 flips-go_on : (after_rounds (contest_minds (Flip 4 0 1 ∷ Flip 4 2 1 ∷ Drop 2 ∷ []) (Drop 0 ∷ [])) 12345
     (start_of (world_of (opening 3 3 (Rock ∷ Rock ∷ Rock ∷ Rock ∷ RedHill ∷ Rock ∷ Rock ∷ Rock ∷ Rock ∷ [])))) 2).place ≡ 2
 unfolding after_round after_turn turn place_in cell_in opening floor rock put_cell same_pos drawn random_at state_at

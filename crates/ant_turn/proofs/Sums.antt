@@ -27,7 +27,7 @@ use Rattle.ant_turn.proofs.KeptByTurns.{free_apart, free_clear, free_empty}
 use Rattle.ant_turn.proofs.OwnCells.{Stays, stays_weight}
 use Rattle.ant_turn.proofs.TurnParts.{Does, turn_parts}
 
--- what is counted in each cell changes with kills alone: by so much up and so much down for each
+-- what is counted in each cell changes with kills alone: by this much up and this much down for each
 pub record CountsKills (sheet : Sheet) (f : Cell → ℕ) (up down : ℕ) : Type 0 where
   pub kill : (cell : Cell) (ant : Ant) → cell.ant ≡ Some ant → f (after_kill sheet cell) + down ≡ f cell + up
   pub stay : (instruction : Instr) (cell : Cell) (ant : Ant) (new : Cell) → cell.ant ≡ Some ant → Stays instruction cell ant new → f new ≡ f cell
@@ -41,7 +41,7 @@ AreInside w = (p : Pos) (ant : Ant) → (w.cells p).ant ≡ Some ant → IsInsid
 inside : (w : World) → Valid w → AreInside w
 inside w valid p ant is = clear_inside w p valid (ant-clear w p ant valid is)
 
--- the count after so many kills
+-- the count after this many kills
 abbrev Counted : (Cell → ℕ) → ℕ → ℕ → World → World → List ℕ → Type 0
 Counted f up down w now killed = total f now + down * length killed ≡ total f w + up * length killed
 
@@ -129,7 +129,7 @@ food-counts sheet = record {
       omega arith;
 }
 
--- a corpse comes in place of an ant's nine
+-- a corpse replaces an ant's nine
 weight-counts : (sheet : Sheet) → sheet.corpse ≤ 9 → CountsKills sheet cell_weight 0 (9 - sheet.corpse)
 unfolding cell_weight
 weight-counts sheet small = record {

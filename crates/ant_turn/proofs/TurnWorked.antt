@@ -36,7 +36,7 @@ meets-rock condition colour = refl
 abbrev pub middle : Pos
 middle = record { x = 2; y = 2 }
 
--- these cells, and black ants on so many neighbours of the middle
+-- these cells, and black ants on this many neighbours of the middle
 unfoldable pub with_foes : List Pos → Cells
 with_foes [] = λ q. floor
 with_foes (q ∷ places) = put_cell (with_foes places) q (hill_cell Black 1)

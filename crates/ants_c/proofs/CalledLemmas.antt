@@ -18,7 +18,7 @@ same_test a b c there back = go (nat_le a c) refl (nat_le b c) refl
     go true is false also = let under = there (leb-true a c is) in absurd (grind (arith, under, also))
     go false is true also = let under = back (leb-true b c also) in absurd (grind (arith, under, is))
 
--- a text that was laid over a room is no longer than it, by the count of its bytes, just where it is by its length
+-- a text that was laid over a room is no longer than it, by the count of its bytes, exactly if it is by its length
 counted_fits : (text room laid : List ℕ) (used : ℕ) → laid ≡ overlaid room text → used ≡ counted text → length laid < 2 ^ 63 → nat_le used (length laid) ≡ nat_le (length text) (length room)
 counted_fits text room laid used over count short =
     let same : length laid ≡ length room = ap length over ∙ overlaid-length room text in

@@ -1,5 +1,5 @@
 -- A run over two sinks that held something is a run over two empty ones, and leaves in each what it held with the run's
--- text behind.
+-- text after it.
 use Rattle.std.proofs.Common.{◌≡◌, ◌∙◌, ap, sym, refl, append-nil, ℕ, List, [], ◌∷◌, ◌++◌, drop, length, arith, Some, inl, inr}
 use Rattle.std.specs.Prelude.{Ok, Err}
 use Rattle.ant_base.specs.Fetched.{Fetched}
@@ -178,7 +178,7 @@ never_cut words before after fetches ending none still ends same = cc
 pub never_failed : (words : List (List ℕ)) (before after : Outside) (ended : Status) → before.out.faults ≡ 0 → after.out.faults ≡ 0 → IsRun words before after ended → ended ≡ status.Write → ⊥
 never_failed words before after ended none still run same = never_cut words before after run.fetches run.ending none still run.ends (sym run.is_status ∙ same)
 
--- what two logs have more, where each begins with a number of its own
+-- what two logs have more, if each begins with a number of its own
 pub same_name : (name new_name : ℕ) (log new_log text : List ℕ) → new_name ∷ new_log ≡ (name ∷ log) ++ text → new_name ≡ name
 same_name name new_name log new_log text same = cc
 

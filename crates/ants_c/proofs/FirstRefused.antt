@@ -25,8 +25,8 @@ not-refused text grid refusal gives refused = elim refused.why [ Long more is �
 numbered : (number : ℕ) (Wrong : List ℕ → TextFault → Type 0) (text : List ℕ) (refusal : Refusal) → IsRefusedText number Wrong text refusal → refusal.text ≡ number
 numbered number Wrong text refusal refused = ap (λ (r : Refusal). r.text) refused.is
 
--- where the world of a game is at fault, it is refused whatever the brains are; and the red brain is, whatever the
--- black one is
+-- if the world of a game is at fault, it is refused whatever the brains are; and the red brain is, whatever the black
+-- one is
 pub world_first : (world red black : List ℕ) (why : WorldFault) (refusal : Refusal) → IsWorldFault world why → IsRefusedGame world red black refusal → refusal.text ≡ 1
 world_first world red black why refusal is (IsRefusedGame.World refused) = numbered 1 IsNoWorld world refusal refused
 world_first world red black why refusal is (IsRefusedGame.Red grid gives refused) = absurd (one-world world grid why gives is)

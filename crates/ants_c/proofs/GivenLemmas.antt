@@ -37,7 +37,7 @@ pub not_all : (front rest : List (List ℕ)) (line : List ℕ) → (IsUtf8 line 
 not_all [] rest line not_one all = not_one all.0
 not_all (first ∷ front) rest line not_one all = not_all front rest line not_one all.1
 
--- where no size is left, no name and no byte is
+-- if no size is left, no name and no byte is
 nothing : (sizes : List ℕ) → length sizes ≡ 0 → sum sizes ≡ 0
 nothing [] none = refl
 nothing (size ∷ sizes) none = absurd (omega (arith, none))

@@ -8,6 +8,6 @@ without_sizes : (names : List (List ℕ)) (bytes name : List ℕ) → None ≡ c
 without_sizes [] bytes name = refl
 without_sizes (other ∷ names) bytes name = refl
 
--- where no size is left, no name has a content
+-- if no size is left, no name has a content
 pub none_sized : (names : List (List ℕ)) (sizes bytes name : List ℕ) (i : ℕ) → length sizes ≤ i → None ≡ content_of (files_in names (drop i sizes) bytes) name
 none_sized names sizes bytes name i all = without_sizes names bytes name ∙ sym (ap (λ (left : List ℕ). content_of (files_in names left bytes) name) (drop_all i sizes all))

@@ -1,4 +1,4 @@
--- Looks one behind the other: what stands in the caller's rooms, and where the game stands.
+-- Looks one after the other: what stands in the caller's rooms, and where the game stands.
 use Rattle.std.proofs.Common.{◌≡◌, ℕ, ◌+◌, ◌*◌, ◌-◌, ◌<◌, ◌≤◌, List, [], ◌∷◌, ◌++◌, length, take, drop, map, slice_set, slice_index_or, sym, ap, ap₂, ◌∙◌, subst, arith}
 use Rattle.std.proofs.lemmas.List.{append_assoc, append-nil, drop_more, length-append, length-drop, length-map, length-take-le, map_more, take-append-drop, take_more}
 use Rattle.std.proofs.lemmas.Grind.{flat_map-append}
@@ -23,7 +23,7 @@ use Rattle.ants_c.specs.Played.{game_score}
 use Rattle.ants_c.specs.declared.ant.AntsAnt.{AntsAnt}
 use Rattle.ants_c.specs.declared.score.AntsScore.{AntsScore}
 
--- one more behind a front that lies over a room
+-- one more after a front that lies over a room
 one_more : {A : Type 0} (front old : List A) (n : ℕ) (a : A) → length front ≡ n → n < length old → slice_set (front ++ drop n old) n a ≡ (front ++ a ∷ []) ++ drop (n + 1) old
 one_more front old n a long below =
     rw (drop_more old n a below, ← long) (set-append_seam front _ _ a ∙ sym (append_assoc front (a ∷ []) _))
@@ -52,7 +52,7 @@ AreRising-from : (least from : ℕ) (rounds : List ℕ) → least ≤ from → A
 AreRising-from least from [] below rising = rising
 AreRising-from least from (round ∷ rounds) below rising = let later = rising.0 in (omega (arith, below, later), rising.1, rising.2)
 
--- a game stands where so many rounds of it led, and the rounds to come rise from there on
+-- a game stands where this many rounds of it led, and the rounds to come rise from there on
 pub record Looking (world : Grid) (red black : List Instr) (seed : ℕ) (rounds : List ℕ) (index : ℕ) (game : GameAloneValue) : Type 0 where
   pub minds : game.minds ≡ contest_minds red black
   pub same_seed : game.seed ≡ seed
@@ -102,7 +102,7 @@ score_more f rounds old index below long =
     one_more (map f (take index rounds)) old index (f (slice_index_or rounds index 0)) many (omega (arith, below, long))
     ∙ ap (λ front. front ++ drop (index + 1) old) (sym (map_more f rounds index 0 below))
 
--- a piece more behind a front that lies over a room
+-- a piece more after a front that lies over a room
 piece_more : {A : Type 0} (front old piece : List A) (a k : ℕ) → length front ≡ a → length piece ≡ k → a + k ≤ length old
     → put_mid a k (front ++ drop a old) piece ≡ (front ++ piece) ++ drop (a + k) old
 piece_more front old piece a k long many fits =

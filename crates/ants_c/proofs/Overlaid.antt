@@ -24,7 +24,7 @@ overlaid-length [] text = refl
 overlaid-length (byte ∷ room) [] = refl
 overlaid-length (byte ∷ room) (code ∷ text) = ap suc (overlaid-length room text)
 
--- a text and then another behind it
+-- a text and then another after it
 pub overlaid-append : (room text more : List ℕ) → overlaid room (text ++ more) ≡ take (length text) (overlaid room text) ++ overlaid (drop (length text) (overlaid room text)) more
 overlaid-append [] [] more = refl
 overlaid-append [] (code ∷ text) more = refl
@@ -38,7 +38,7 @@ beyond [] text (suc place) long = refl
 beyond (byte ∷ room) text zero long = absurd (omega arith)
 beyond (byte ∷ room) text (suc place) long = ap (λ (rest : List ℕ). byte ∷ rest) (beyond room text place (omega arith))
 
--- a piece is laid from behind a text, however its bytes were counted
+-- a piece is laid from after a text, however its bytes were counted
 counted_place : (room piece text : List ℕ) → length room ≤ most → take (min (length text) most) room ++ overlaid (drop (min (length text) most) room) piece
     ≡ take (length text) room ++ overlaid (drop (length text) room) piece
 counted_place room piece text short = elim (cases_lt most (length text)) [

@@ -147,7 +147,7 @@ classes_from brain (suc fuel) classes work are =
 classes_of : (brain : List Instr) → Classes brain
 classes_of brain = classes_from brain (slack 0 (replicate (length brain) 0)) (replicate (length brain) 0) (omega arith) (AreClasses-one brain (length brain) refl)
 
--- where a class stands among the keys, if it does
+-- the place of a class among the keys, if it is there
 record At (keys : List ℕ) (class : ℕ) : Type 0 where
   at : ℕ
   within : at < length keys

@@ -40,8 +40,8 @@ different_stay_used law new others is differ =
 abbrev tens : Minds
 tens = contest_minds ten ten
 
--- by the eight in red's place the game is the same, with the same score and the same dumps, but for the states of red's
--- ants
+-- by the eight in red's place the game is the same, with the same score and the same dumps, except for the states of
+-- red's ants
 plays_alike_used : PlaysAlike → (kinds : List Kind) → game (with_mind tens Red eight) 12345 7 6 kinds 5 ≡ renumbered_moment (new_number numbers) Red (game tens 12345 7 6 kinds 5)
 plays_alike_used law kinds = law tens Red eight numbers 12345 7 6 kinds 5 ten_minimised
 

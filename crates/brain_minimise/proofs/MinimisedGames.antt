@@ -106,7 +106,7 @@ others-stay numbers Red Black state other = refl
 others-stay numbers Black Red state other = refl
 others-stay numbers it that state other = absurd (other refl)
 
--- an ant is the same but for its state
+-- an ant is the same except for its state
 IsMatchingAnt-renumbered : (numbers : Numbers) (side : Colour) (o : Option Ant) → IsMatchingAnt side o (option_map (renumbered_ant (side_states numbers side)) o)
 IsMatchingAnt-renumbered numbers side None = tt
 IsMatchingAnt-renumbered numbers side (Some ant) = (refl, λ other. others-stay numbers side ant.colour ant.state other)

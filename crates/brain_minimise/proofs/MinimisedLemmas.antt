@@ -25,7 +25,7 @@ use Rattle.brain_minimise.proofs.RedirectedLemmas.{Contains-map, IsSound-redirec
 pub successors-reached : (brain : List Instr) (state : ℕ) → IsReachable brain state → AllByRecursion (IsReachable brain) (states_of (instruction_at brain state))
 successors-reached brain state reached = AllByRecursion-each (IsReachable brain) (states_of (instruction_at brain state)) (λ next named. Next state next reached named)
 
--- a test of two numbers, where there are two
+-- a test of two numbers, if there are two
 both : Relation → Option ℕ → Option ℕ → Bool
 both related (Some a) (Some b) = related a b
 both related it o = false

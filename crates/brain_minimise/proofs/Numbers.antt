@@ -119,7 +119,7 @@ IsNumbering-skip classes seen keys numbers i before unseen =
       rising = rising-push numbers None before.rising (λ number lower is. absurd (none-some number is));
     }
 
--- a state that was seen: its class has this number among the keys, where it stood already or was put last
+-- a state that was seen: its class has this number among the keys, if it stood already or was put last
 pub IsNumbering-more : (classes : List ℕ) (seen : List Bool) (keys after : List ℕ) (numbers : List (Option ℕ)) (i number class : ℕ) → IsNumbering classes seen keys numbers i → is_seen seen i ≡ true → class ≡ slice_index classes i →
     (after ≡ keys) ⊎ (after ≡ keys ++ class ∷ []) → IsDistinct nat_eq after → number < length after → slice_index after number ≡ class → IsNumbering classes seen after (numbers ++ Some number ∷ []) (i + 1)
 IsNumbering-more classes seen keys after numbers i number class before there is_class which distinct within stored =

@@ -55,7 +55,7 @@ least_below numbers number (suc n) =
       ]
     ]
 
--- where a state has a number, some state is the least that has it
+-- if a state has a number, some state is the least that has it
 least_of : (numbers : List (Option ℕ)) (number state : ℕ) → new_number numbers state ≡ Some number → (least : ℕ) × (least ≤ state) × IsLeast numbers number least
 least_of numbers number state has =
     elim (least_below numbers number (suc state)) [
@@ -185,7 +185,7 @@ left_of-length (o ∷ numbers) [] each = absurd (omega arith)
 left_of-length (None ∷ numbers) (x ∷ brain) each = left_of-length numbers brain (omega arith)
 left_of-length (Some k ∷ numbers) (x ∷ brain) each = ap suc (left_of-length numbers brain (omega arith))
 
--- where each state has a number, as many as there are have one
+-- if each state has a number, as many as there are have one
 kept_before-all : (numbers : List (Option ℕ)) (n : ℕ) → ((state : ℕ) → state < n → IsSome (new_number numbers state)) → kept_before numbers n ≡ n
 kept_before-all [] zero each = refl
 kept_before-all (o ∷ numbers) zero each = refl
@@ -235,7 +235,7 @@ module _ (old new : List Instr) (numbers : List (Option ℕ)) (minimised : IsMin
       ap (slice_get left) rank ∙ left_of-at numbers old it.0 k minimised.each it.1 ∙ slice_get-get_or old it.0 (Drop 0) inside in
       minimised.acts it.0 k it.1 ∙ sym (slice_get-map f left k ∙ ap (λ o. option_map f o) there))
 
-  -- where all can be reached, each state keeps its number
+  -- if all can be reached, each state keeps its number
   pub number-same : ((state : ℕ) → state < length old → IsReachable old state) → (state : ℕ) → state < length old → new_number numbers state ≡ Some state
   number-same all state below =
       let it = the_number (new_number numbers state) (minimised.kept state (all state below)) in

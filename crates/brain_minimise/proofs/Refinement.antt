@@ -25,7 +25,7 @@ module _ (brain : List Instr) (classes : List ℕ) where
   older : (finer : List ℕ) (class state : ℕ) → state < length finer → slice_index (finer ++ class ∷ []) state ≡ slice_index finer state
   older finer class state below = get_or_append_left finer (class ∷ []) 0 state below
 
-  -- a new class, where the list of heirs keeps what it had
+  -- a new class, if the list of heirs keeps what it had
   moved : (heirs others : List (Option ℕ)) (state class other : ℕ) → class ≡ other → ((first : ℕ) → slice_index_or heirs (slice_index classes state) None ≡ Some first → slice_index_or others (slice_index classes state) None ≡ Some first) → IsNewClass brain classes heirs state class → IsNewClass brain classes others state other
   moved heirs others state class other one keeps (Stays alike is) = Stays alike (sym one ∙ is)
   moved heirs others state class other one keeps (Parts unlike is) = Parts unlike (ap (slice_index_or others (slice_index classes state)) refl ∙ keeps class is ∙ ap Some one)
@@ -180,7 +180,7 @@ module _ (brain : List Instr) (classes : List ℕ) where
               absurd (it.2 (ap (λ s. redirected (slice_index classes) (instruction_at brain s)) (sym one)))
         ]
 
--- how far the names are below their states sinks where no name is lower
+-- how far the names are below their states sinks if no name is lower
 slack-le : (i : ℕ) (classes finer : List ℕ) → length classes ≡ length finer → ((k : ℕ) → k < length classes → slice_index classes k ≤ slice_index finer k) → slack i finer ≤ slack i classes
 slack-le i [] [] same no_lower = omega arith
 slack-le i (c ∷ classes) (d ∷ finer) same no_lower =

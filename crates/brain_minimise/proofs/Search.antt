@@ -27,7 +27,7 @@ pub record AreFollowed (brain : List Instr) (seen : List Bool) (state : ℕ) : T
   pub first : is_seen seen (first_next (instruction_at brain state)) ≡ true
   pub last : is_seen seen (last_next (instruction_at brain state)) ≡ true
 
--- what stays in the search, but for the successors of one state: what was seen can be reached, and waits or was
+-- what stays in the search, except for the successors of one state: what was seen can be reached, and waits or was
 -- followed
 pub record ExploresBut (but : ℕ) (brain : List Instr) (seen : List Bool) (waiting : List ℕ) : Type 0 where
   pub each : length seen ≡ length brain

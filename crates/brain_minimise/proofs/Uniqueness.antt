@@ -31,7 +31,7 @@ module _ (old new other : List Instr) (numbers others : List (Option ℕ)) (firs
       let same : j ≡ k = same_Some j k (sym it.2 ∙ one ∙ is) in
       omega arith
 
-  -- a state has the same number by both, where those before it do
+  -- a state has the same number by both, if those before it do
   same_at : (n : ℕ) (o p : Option ℕ) → new_number numbers n ≡ o → new_number others n ≡ p → ((state : ℕ) → state < n → new_number numbers state ≡ new_number others state) → o ≡ p
   same_at n None None is too before = refl
   same_at n None (Some j) is too before = let some = subst IsSome is (first.kept n (second.dropped n j too)) in absurd (cc)

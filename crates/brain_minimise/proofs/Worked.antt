@@ -82,7 +82,7 @@ black_stays same = let states = same.1 (λ is. cc) in omega (arith, states)
 red_turned : IsMatchingAnt Red (Some (ant Red 1 East)) (Some (ant Red 2 West)) → ⊥
 red_turned same = let facing : West ≡ East = ap (λ (a : Ant). a.facing) same.0 in cc
 
--- or one where there was none
+-- or one if there was none
 red_added : IsMatchingAnt Red None (Some (ant Red 1 East)) → ⊥
 red_added same = same
 

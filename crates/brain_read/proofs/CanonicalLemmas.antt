@@ -147,7 +147,7 @@ text_again list b bounds =
       states = all_below (length list) list all;
     }
 
--- a canonical text, cut behind one of its lines
+-- a canonical text, cut after one of its lines
 pub brain_text-cut : (list : List Instr) (i : ℕ) (d : Instr) → i < length list → brain_text list ≡ (flat_map instruction_text (take i list) ++ instruction_text (get_or list i d)) ++ flat_map instruction_text (drop (i + 1) list)
 unfolding brain_text
 brain_text-cut list i d within =

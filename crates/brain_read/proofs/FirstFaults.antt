@@ -1,4 +1,4 @@
--- The first state of a text's instructions that there isn't, as the search finds it and as what stands before it.
+-- The first state of a text's instructions that there isn't, as the search finds it and as what precedes it.
 use Rattle.std.proofs.Common.{◌≡◌, ◌<◌, ◌≤◌, ℕ, suc, Bool, true, false, not, List, [], ◌∷◌, ◌++◌, length, Option, Some, None, option_map, cond, nat_lt, refl, sym, ap, ◌∙◌, subst, arith, ltb-true, lt-ltb}
 use Rattle.std.specs.Option.{option_or}
 use Rattle.std.specs.List.{AllByRecursion}

@@ -1,4 +1,4 @@
--- That out of memory is no text's fault.
+-- That out of memory is not a text's fault.
 use Rattle.std.proofs.Common.{◌≡◌, ℕ, Bool, true, false, if◌then◌else◌, List, [], ◌∷◌, ◌++◌, Option, Some, None, subst}
 use Rattle.std.specs.Option.{option_or}
 use Rattle.std.specs.Prelude.{⊤, length, nat_le}
@@ -14,7 +14,7 @@ use Rattle.brain_read.specs.Judgement.Position.{FormToken}
 use Rattle.brain_read.specs.Soundness.{most_states}
 use Rattle.line_tokens.specs.Tokens.{has_bad_byte}
 
--- where there is a fault, it isn't out of memory
+-- if there is a fault, it isn't out of memory
 abbrev OfText : Option BrainFault → Type 0
 OfText (Some OutOfMemory) = ⊥
 OfText it = ⊤
@@ -53,14 +53,14 @@ first_fault-of_text line (token ∷ tokens) (position ∷ positions) =
     either_later (has_bad_byte token) (BadByte line) (judged (accepted position token) (fault_of position line) (λ brings. first_fault line tokens (brings ++ positions))) tt
     (judged-of_text (accepted position token) (fault_of position line) (λ brings. first_fault line tokens (brings ++ positions)) (fault_of-of_text position line) (λ brings. first_fault-of_text line tokens (brings ++ positions)))
 
--- that of a line before which so many instructions stand
+-- that of a line before which this many instructions stand
 line_fault-of_text : (before : ℕ) (line : TokenLine) → OfText (line_fault before line)
 line_fault-of_text before line =
     option_or-of_text (too_many most_states TooMany before line.number) (first_fault line.number line.tokens (FormToken ∷ []))
     (either_later (nat_le most_states before) (TooMany line.number) None tt tt)
     (first_fault-of_text line.number line.tokens (FormToken ∷ []))
 
--- out of memory is no text's fault
+-- out of memory is not a text's fault
 pub no_want : (text : List ℕ) → IsBrainFault text OutOfMemory → ⊥
 no_want text (OfLine at) = subst OfText at.wrong (line_fault-of_text (length at.before) at.line)
 no_want text (OfNothing none is) = (let never : OutOfMemory ≡ Empty = is in cc)

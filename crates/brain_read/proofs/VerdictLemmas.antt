@@ -53,10 +53,10 @@ pub settle_of : (drafts : List DraftLine) → eqb (length drafts) 0 ≡ false �
 settle_of [] some = (let never : true ≡ false = some in absurd (cc))
 settle_of (draft ∷ drafts) some = ap (λ n. settle_all n (map placed_of (draft ∷ drafts))) (length-map (draft ∷ drafts) placed_of)
 
--- where there is a brain, it is answered, or memory was wanted
+-- if there is a brain, it is answered, or memory ran out
 pub failed_brain : (text : List ℕ) (brain : List Instr) → IsBrainText text brain → (fault : BrainFault) → FailsAs fault (read_text text) → fault ≡ OutOfMemory
 failed_brain text brain b fault e = fault-of_value (read_text text) brain OutOfMemory fault (brain_read_again text brain b) (told fault (read_text text) e)
 
--- where there is a fault, it is answered, or memory was wanted
+-- if there is a fault, it is answered, or memory ran out
 pub failed_fault : (text : List ℕ) (fault : BrainFault) → IsBrainFault text fault → (answered : BrainFault) → FailsAs answered (read_text text) → (answered ≡ fault) ⊎ (answered ≡ OutOfMemory)
 failed_fault text fault b answered e = fault-of_fault (read_text text) fault OutOfMemory answered (fault_read_again text fault b) (told answered (read_text text) e)

@@ -45,7 +45,7 @@ lines_refused : map (λ line. read_line (tokens_of line)) (codes "" ∷ codes "J
 unfolding decimal_value read_line read_sense read_marked read_branches read_drop read_turn read_flip take_sight take_side take_state take_marker take_bound take_condition form_words sight_words side_words condition_words
 lines_refused = refl
 
--- every state has to be below the number of states; else the first that isn't
+-- every state has to be below the number of states; otherwise the first that isn't
 states_settled : draft_settled 8 (Turn Left 7) ∷ draft_settled 7 (Turn Left 7) ∷ draft_settled 4 (Move 5 4) ∷ draft_settled 5 (Move 4 5) ∷ draft_settled 1 (Mark 5 0) ∷ []
     ≡ Ok (Turn Left 7) ∷ Err 7 ∷ Err 5 ∷ Err 5 ∷ Ok (Mark 5 0) ∷ []
 states_settled = refl

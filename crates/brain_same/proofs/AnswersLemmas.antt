@@ -15,7 +15,7 @@ use Rattle.brain_minimise.proofs.RedirectedLemmas.{successors-below}
 use Rattle.brain_same.specs.Answers.{IsMetFirst, IsNoLater, led_to, next_by}
 use Rattle.brain_same.specs.Answers.IsNoLater.{IsShorter, IsAsLong}
 
--- the number of a list of answers, where the list before it has this number: they are numbered in their order
+-- the number of a list of answers, if the list before it has this number: they are numbered in their order
 unfoldable pub branch : Bool → ℕ → ℕ
 branch true n = 2 * n + 1
 branch false n = 2 * n + 2
@@ -197,7 +197,7 @@ same_first a b left right same = cc
 same_rest : {A : Type 0} (a b : A) (left right : List A) → a ∷ left ≡ b ∷ right → left ≡ right
 same_rest a b left right same = cc
 
--- where all shapes are the same, so is the last one
+-- if all shapes are the same, so is the last one
 pub last-shape : (first second : List Instr) (answers : List Bool) (x y a b : ℕ) → shapes_along first answers x ≡ shapes_along second answers y → led_to first answers x ≡ Some a → led_to second answers y ≡ Some b →
     shape_of (instruction_at first a) ≡ shape_of (instruction_at second b)
 last-shape first second [] x y a b same one other =

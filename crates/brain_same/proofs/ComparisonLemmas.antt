@@ -92,7 +92,7 @@ module _ (first second : List Instr) (sound : IsBrain first) (too : IsBrain seco
     agree zero few u t known low = absurd (omega arith)
     agree (suc n) few u t known low = agree-step n (omega arith) (agree n (omega arith)) t u known low
 
-    -- no list of answers of a lower number tells the brains apart
+    -- no list of answers of a lower number distinguishes the brains
     none-apart : (v : List Bool) (a b : ℕ) → number v < bound → TellsApart first second v a b → ⊥
     none-apart v a b low apart =
         elim searches.start [
@@ -109,7 +109,7 @@ least-first w ways rising v known =
     ]
 
 module _ (first second : List Instr) (sound : IsBrain first) (too : IsBrain second) where
-  -- no list that tells the brains apart comes before that of the first pair
+  -- no list that distinguishes the brains comes before that of the first pair
   pub least-front : (classes : List ℕ) (pair : Pair) (rest : List Pair) (front : Front first second classes pair rest) (others : List Bool) (c d : ℕ) → TellsApart first second others c d → IsNoLater front.w others
   least-front classes pair rest front others c d apart =
       elim (cases_lt (number others) (number front.w)) [

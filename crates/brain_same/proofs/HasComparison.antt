@@ -21,7 +21,7 @@ use Rattle.brain_same.proofs.ClassesLemmas.{AreJoined-first, AreJoined-second}
 use Rattle.brain_same.proofs.ComparisonLemmas.{AreSame-searched, IsFirstDifference-front}
 use Rattle.brain_same.proofs.SearchLemmas.{Front, Front-inside, Front-taken, Searching, Searching-on, Searching-start, step-work}
 
--- so many classes, each named by its state
+-- this many classes, each named by its state
 record Apart (count : ℕ) : Type 0 where
   classes : List ℕ
   apart : AreApart count classes

@@ -82,14 +82,14 @@ way_leads_used law = (one_step (law straight crossed 1 1 2 met_differs).1, λ di
 abbrev ringed : Minds
 ringed = contest_minds two_ring two_ring
 
--- by the ring of three in red's place the game is the same but for the states of red's ants
+-- by the ring of three in red's place the game is the same except for the states of red's ants
 plays_same_used : PlaysSame → (kinds : List Kind) →
     DiffersInStates Red (game ringed 12345 7 6 kinds 5).world (game (with_mind ringed Red three_ring) 12345 7 6 kinds 5).world
     × ((game (with_mind ringed Red three_ring) 12345 7 6 kinds 5).place ≡ (game ringed 12345 7 6 kinds 5).place)
     × (score_of (game (with_mind ringed Red three_ring) 12345 7 6 kinds 5).world ≡ score_of (game ringed 12345 7 6 kinds 5).world)
 plays_same_used law kinds = let same = law ringed Red three_ring 12345 7 6 kinds 5 rings in (same.world, same.place, same.score)
 
--- and on both sides, but for the states of all ants
+-- and on both sides, except for the states of all ants
 both_play_same_used : BothPlaySame → (kinds : List Kind) →
     (without_states (game (contest_minds three_ring three_ring) 12345 7 6 kinds 5).world ≡ without_states (game ringed 12345 7 6 kinds 5).world)
     × ((game (contest_minds three_ring three_ring) 12345 7 6 kinds 5).place ≡ (game ringed 12345 7 6 kinds 5).place)

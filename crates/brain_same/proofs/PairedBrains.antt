@@ -104,7 +104,7 @@ module _ (first second : List Instr) (same : AreSame first second) where
   pairs : List Two
   pairs = (0, 0) ∷ rows (length second) (length first)
 
-  -- the state of a pair, where there are two
+  -- the state of a pair, if there are two
   joint_state : Option ℕ → Option ℕ → Option ℕ
   joint_state None p = None
   joint_state (Some a) None = None

@@ -30,13 +30,13 @@ use Rattle.brain_same.proofs.ComparisonLemmas.{AreSame-done, least-front}
 use Rattle.brain_same.proofs.SearchLemmas.{Front, Front-few, Front-inside, Lead, Searches, Searches-follow, Searches-over, Searches-start, entry, entry-after, lead-after, one_after, other_after, same_pair, short, ways_after}
 use Rattle.brain_same.proofs.WayLemmas.{led-last, state_after-is}
 
--- what stands behind the first part of a list
+-- what follows the first part of a list
 slice_get-seam : {X : Type 0} (xs : List X) (y : X) (ys : List X) → slice_get (xs ++ y ∷ ys) (length xs) ≡ Some y
 slice_get-seam [] y ys = refl
 slice_get-seam (x ∷ xs) y ys = slice_get-seam xs y ys
 
 module _ (first second : List Instr) where
-  -- what is known of a pair stays known with more behind
+  -- what is known of a pair stays known with more after it
   IsFrom-more : (ways more : List (List Bool)) (place : ℕ) (it : Reached) (way : List Bool) → IsFrom ways place it way → IsFrom (ways ++ more) place it way
   IsFrom-more ways more place it way (Starts start none) = Starts start none
   IsFrom-more ways more place it way (Follows less before there is) = Follows less before (slice_get-front ways more it.from (slice_get_within ways it.from before there) ∙ there) is
@@ -285,7 +285,7 @@ module _ (first second : List Instr) where
       (sym (told ways way are (ap (slice_get ways) (sym at) ∙ led) ∙ ap (λ w. way_by first second w 0 0) (sym by)))
       (ByWay that.pair.answers that.pair.first that.pair.second difference))
 
-  -- the steps from the pair of a place on, where these are the steps behind it, the last one first
+  -- the steps from the pair of a place on, if these are the steps after it, the last one first
   pub record Rest (reached : List Reached) (at : ℕ) (back : List Step) (ways : List (List Bool)) (way : List Bool) : Type 0 where
     pub before : List Bool
     pub tail : List Bool

@@ -77,7 +77,7 @@ DiffersInStates-both numbers others side w = record {
   ants = λ p. IsMatchingAnt-both numbers others side (w.cells p).ant;
 }
 
--- so they are the same but for states
+-- so they are the same except for states
 same-of_one : (side : Colour) (old new : Moment) → AreOfOne side old new → IsSameBut side old new
 same-of_one side old new one =
     subst (λ (m : Moment). IsSameBut side m new) (sym one.first)
@@ -122,8 +122,8 @@ both_play_same minds red black seed width height kinds r first second =
     let other = same_but_states-of_one Black (game middle seed width height kinds r) (game (with_mind middle Black black) seed width height kinds r) (games-of_one middle Black black seed width height kinds r second) in
     record { world = other.world ∙ one.world; place = other.place ∙ one.place; score = other.score ∙ one.score }
 
--- what moments that are the same but for the states of one side's ants have alike, and those that are so but for all
--- states
+-- what moments that are the same except for the states of one side's ants have alike, and those that are so except for
+-- all states
 same_but_tells : (side : Colour) (old new : Moment) → IsSameBut side old new → DiffersInStates side old.world new.world × (new.place ≡ old.place) × (score_of new.world ≡ score_of old.world)
 same_but_tells side old new same = (same.world, same.place, same.score)
 

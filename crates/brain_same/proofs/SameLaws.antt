@@ -195,7 +195,7 @@ related-led first second related bisimulation (met ∷ answers) x y a b holds on
     related-led first second related bisimulation answers s t a b
     (related-next related (instruction_at first x) (instruction_at second y) met s t (bisimulation.onward x y holds) to to_too) on on_too))
 
--- no list of answers tells them apart
+-- no list of answers distinguishes them
 pub same_is_not_apart : SameIsNotApart
 same_is_not_apart first second same answers a b apart =
     apart.differ (same.bisimulation.shape a b (related-led first second same.related same.bisimulation answers 0 0 a b same.holds apart.one apart.other))

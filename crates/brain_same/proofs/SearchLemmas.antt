@@ -123,7 +123,7 @@ module _ (first second : List Instr) where
     pub before : (u w : List Bool) → Contains done u → Contains waiting w → number u < number w
     pub rising : Rising waiting
     pub near : (v w : List Bool) → Contains waiting v → Contains waiting w → number v ≤ 2 * number w
-    -- the instructions to which they led are the same but for the states that they name, and the states are of one
+    -- the instructions to which they led are the same except for the states that they name, and the states are of one
     -- class
     pub alike : (w : List Bool) → Contains done w → shape_of (instruction_at first (one_after w)) ≡ shape_of (instruction_at second (other_after w))
     pub joined : (w : List Bool) → Contains done w → slice_index classes (one_after w) ≡ slice_index classes (length first + other_after w)

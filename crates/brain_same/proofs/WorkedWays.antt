@@ -23,7 +23,7 @@ use Rattle.brain_same.proofs.Worked.{crossed, met_apart, none_before_met, straig
 abbrev pub step : ℕ → Instr → ℕ → Instr → Bool → Step
 step a one b other met = record { first = record { state = a; instruction = one }; second = record { state = b; instruction = other }; met = met }
 
--- where both answers lead to a difference the way goes by the met one, from the states 0
+-- if both answers lead to a difference the way goes by the met one, from the states 0
 met_goes : (comparison : Comparison) (steps : List Step) → IsWayComparison straight crossed comparison steps → steps ≡ step 0 (Move 1 2) 0 (Move 2 1) true ∷ []
 met_goes comparison steps (NoWay same) = absurd (same_is_not_apart straight crossed same (true ∷ []) 1 2 met_apart)
 met_goes comparison steps (ByWay many a b difference) =

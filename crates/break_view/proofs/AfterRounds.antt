@@ -11,7 +11,7 @@ use Rattle.match_run.specs.Inner.Alone.{RoundTaken, moment_from}
 use Rattle.match_run.specs.Run.{world_after}
 use Rattle.round_book.proofs.BookLemmas.{moment_at}
 
--- a world and a stream are those after so many rounds of a game that starts in w
+-- a world and a stream are those after this many rounds of a game that starts in w
 pub record IsAfter (minds : Minds) (seed : ℕ) (w : World) (round : ℕ) (grid : Grid) (stream : SeedAndPlace) : Type 0 where
   pub moment : moment_from grid stream ≡ after_rounds minds seed (start_of w) round
   pub same_seed : stream.seed ≡ seed

@@ -31,11 +31,11 @@ use Rattle.ant_turn.proofs.KeptByTurns.{free_apart, free_clear}
 use Rattle.spec_record.proofs.QuietMoves.{stepped-from}
 use Rattle.break_view.specs.Inner.CellScores.{cell_at, score_in_any, IsCounted, CanCount}
 
--- the food that the cell at a position gives, where there is a position
+-- the food that the cell at a position gives, if there is a position
 abbrev pub score_at : World → Option Pos → Score
 score_at w o = score_in_any (cell_at w o)
 
--- these cells have the food of a world on its hills, but for what the cell at p gives
+-- these cells have the food of a world on its hills, except for what the cell at p gives
 abbrev CountsAt : World → Pos → Cells → Type 0
 CountsAt w p cells = (colour : Colour) → hill_food_of (with_cells w cells) colour + hill_food_in colour (w.cells p) ≡ hill_food_of w colour + hill_food_in colour (cells p)
 

@@ -28,6 +28,6 @@ pub record IsSeen (items : List Break) (i number : ℕ) (w : World) (r t : ℕ) 
   pub rest : first_met number (drop i items) w r t ≡ first_met 1 items w r t
   pub counted : number ≡ i + 1
 
--- behind the list no break holds
+-- after the list no break holds
 pub met-end : (items : List Break) (i number : ℕ) (w : World) (r t : ℕ) → length items ≤ i → first_met number (drop i items) w r t ≡ None
 met-end items i number w r t all = ap (λ (ls : List Break). first_met number ls w r t) (drop_all i items all)

@@ -1,4 +1,4 @@
--- Rounds without a stop, and a view from behind them.
+-- Rounds without a stop, and a view from after them.
 use Rattle.std.proofs.Common.{◌≡◌, ◌<◌, ◌≤◌, ℕ, Bool, true, false, List, Option, Some, None, nat_lt, refl, sym, ◌∙◌, arith, ltb-true, ltb-false}
 use Rattle.cell_world.specs.World.{World}
 use Rattle.ant_turn.specs.Minds.{Minds}

@@ -59,7 +59,7 @@ put_looks w p t new found is stays food (Killed id) r _ _ asks =
     (place_in-put_other w p new id (ap (is_ant id) is ∙ ap (λ (i : ℕ). nat_eq i id) (sym stays.same_id) ∙ sym (ap (is_ant id) stays.holds)))
 put_looks w p t new found is stays food (Score colour least) r _ _ asks = ap (nat_le least) (put-keeps w p new (place_in-inside w t p found) stays.same_hill food colour)
 
--- where an ant is left on its own cell and nobody was killed, it stayed
+-- if an ant is left on its own cell and nobody was killed, it stayed
 does_stay : (instruction : Instr) (sheet : Sheet) (cells : Cells) (p : Pos) (ant : Ant) (outcome : Outcome) → (cells p).ant ≡ Some ant → Does instruction sheet cells p ant outcome → outcome.killed ≡ [] → has_ant (outcome.cells p).ant ≡ true
     → Stayed instruction cells p ant outcome
 does_stay instruction sheet cells p ant outcome is (inl stayed) none there = stayed
@@ -131,7 +131,7 @@ module _ (w v : World) (r t u : ℕ) (looks : LooksSame w v) (red black : List B
       ap (λ (b : Bool). cond b (Some number) (first_met (number + 1) items v r u)) (item_unmet item named.0 unmet) ∙ list_unmet items (number + 1) named.1 rest)
       none
 
--- where no break held after the turn before, and none but those of states can have changed, none holds unless one of a
+-- if no break held after the turn before, and none but those of states can have changed, none holds unless one of a
 -- state
 pub still_quiet : (items : List Break) (w v : World) (r t u : ℕ) → LooksSame w v → first_met 1 items w r t ≡ None → IsQuietButStates items v r u
 still_quiet items w v r t u looks none = λ red black named away. list_unmet w v r t u looks red black away items 1 named none

@@ -33,10 +33,10 @@ told it judged e = inr e
 pub faults : (text : List ℕ) (fault : BreakFault) → FailsAs fault (read_text text) → IsFaultOr OutOfMemory (IsBreakFault text) fault
 faults text fault e = elim (told fault (read_text text) e) [ inl want ↦ inr want | inr is ↦ inl (fault_read_of text fault is) ]
 
--- where there is a list, it is answered, or memory was wanted
+-- if there is a list, it is answered, or memory ran out
 pub failed_list : (text : List ℕ) (list : List Break) → IsBreakText text list → (fault : BreakFault) → FailsAs fault (read_text text) → fault ≡ OutOfMemory
 failed_list text list b fault e = fault-of_value (read_text text) list OutOfMemory fault (list_read_again text list b) (told fault (read_text text) e)
 
--- where there is a fault, it is answered, or memory was wanted
+-- if there is a fault, it is answered, or memory ran out
 pub failed_fault : (text : List ℕ) (fault : BreakFault) → IsBreakFault text fault → (answered : BreakFault) → FailsAs answered (read_text text) → (answered ≡ fault) ⊎ (answered ≡ OutOfMemory)
 failed_fault text fault b answered e = fault-of_fault (read_text text) fault OutOfMemory answered (fault_read_again text fault b) (told answered (read_text text) e)

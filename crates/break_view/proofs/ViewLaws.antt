@@ -17,14 +17,14 @@ record IsFound (items : List Break) (w : World) (r t : ℕ) : Type 0 where
   stands : Contains items item
   holds : is_met item w r t ≡ true
 
--- what holds in front of a list, or behind its first break
+-- what holds in front of a list, or after its first break
 found_first : (item : Break) (items : List Break) (w : World) (r t : ℕ) → is_met item w r t ≡ true → IsFound (item ∷ items) w r t
 found_first item items w r t holds = record { item = item; stands = (0, omega arith, refl); holds = holds }
 
 found_later : (item : Break) (items : List Break) (w : World) (r t : ℕ) → IsFound items w r t → IsFound (item ∷ items) w r t
 found_later item items w r t found = let there = found.stands in record { item = found.item; stands = (suc there.0, omega (arith, there.1), there.2); holds = found.holds }
 
--- where a number is given, a break holds
+-- if a number is given, a break holds
 found : (items : List Break) (number : ℕ) (w : World) (r t which : ℕ) → first_met number items w r t ≡ Some which → IsFound items w r t
 found [] number w r t which e = (let never : None ≡ Some which = e in absurd (cc))
 found (item ∷ items) number w r t which e = go (is_met item w r t) refl (found items (number + 1) w r t which) e
@@ -33,7 +33,7 @@ found (item ∷ items) number w r t which e = go (is_met item w r t) refl (found
     go true is later q = found_first item items w r t is
     go false is later q = found_later item items w r t (later q)
 
--- where none is given, no break holds
+-- if none is given, no break holds
 absent : (items : List Break) (number : ℕ) (w : World) (r t : ℕ) → first_met number items w r t ≡ None → (item : Break) → Contains items item → is_met item w r t ≡ false
 absent [] number w r t none item there = absurd (omega (arith, there.1))
 absent (first ∷ items) number w r t none item there = go (is_met first w r t) refl (absent items (number + 1) w r t) none
@@ -46,7 +46,7 @@ absent (first ∷ items) number w r t none item there = go (is_met first w r t) 
     go true is later q = (let never : Some number ≡ None = q in absurd (cc))
     go false is later q = pick there.0 there.1 there.2 is (later q)
 
--- where no break of a list holds, none of fewer breaks does
+-- if no break of a list holds, none of fewer breaks does
 none_in : (few more : List Break) → StandIn few more → (w : World) (r t : ℕ) → first_met 1 more w r t ≡ None → first_met 1 few w r t ≡ None
 none_in few more stand w r t none = go (first_met 1 few w r t) refl
   where

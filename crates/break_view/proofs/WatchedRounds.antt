@@ -31,7 +31,7 @@ quiet-more minds seed m items r n quiet none = λ t below. go t below (nat_lt t 
     go t below true e = quiet t (ltb-true t n e)
     go t below false e = let same : n ≡ t = (let from = ltb-false t n e in omega (arith, from, below)) in subst (λ k. met_in_round minds seed m items r k ≡ None) same none
 
--- the round so far: so many turns were taken, none of them with a stop
+-- the round so far: this many turns were taken, none of them with a stop
 pub record IsWatching (minds : Minds) (items : List Break) (r : ℕ) (first : Grid) (start : SeedAndPlace) (turns : ℕ) (grid : Grid) (stream : SeedAndPlace) (score : Score) : Type 0 where
   pub scored : score ≡ score_of (world_of grid)
   pub taken : IsTaken minds first start turns grid stream
@@ -43,7 +43,7 @@ pub met-taken : {minds : Minds} {first : Grid} {start : SeedAndPlace} {grid : Gr
 unfolding world_in_round
 met-taken items r id taken = ap (λ (m : Moment). first_met 1 items m.world r id) (sym taken.moment)
 
--- the game so far: so many rounds were played, none of them with a stop
+-- the game so far: this many rounds were played, none of them with a stop
 pub record IsWatched (minds : Minds) (seed from : ℕ) (w : World) (items : List Break) (round : ℕ) (grid : Grid) (stream : SeedAndPlace) (score : Score) : Type 0 where
   pub scored : score ≡ score_of (world_of grid)
   pub after : IsAfter minds seed w round grid stream

@@ -22,7 +22,7 @@ kinds =
 abbrev start : World
 start = world_of (opening 4 3 kinds)
 
--- the same with two food particles in place of the ant
+-- the same with two food particles instead of the ant
 abbrev ended : World
 ended = record start { cells = put_cell start.cells (record { x = 1; y = 1 }) (record floor { hill = Some Red; food = 2 }) }
 
@@ -50,12 +50,12 @@ killed_here : (is_met (Break.Killed 0) start 1 0 ≡ false) × (is_met (Break.Ki
 unfolding opening cell_in rock floor place_in put_cell same_pos
 killed_here = (refl, refl, refl)
 
--- at least so much food on the hill
+-- at least this much food on the hill
 score_here : (is_met (Break.Score Red 0) start 1 0 ≡ true) × (is_met (Break.Score Red 1) start 1 0 ≡ false) × (is_met (Break.Score Red 2) ended 1 0 ≡ true) × (is_met (Break.Score Red 3) ended 1 0 ≡ false) × (is_met (Break.Score Black 1) ended 1 0 ≡ false)
 unfolding opening cell_in rock floor hill_food_of put_cell same_pos
 score_here = (refl, refl, refl, refl, refl)
 
--- the first of two breaks that hold, and the number of one that holds behind one that doesn't
+-- the first of two breaks that hold, and the number of one that holds after one that doesn't
 first_here : (first_met 1 (Break.Round 1 ∷ Break.Killed 0 ∷ []) ended 1 0 ≡ Some 1) × (first_met 1 (Break.Round 2 ∷ Break.Killed 0 ∷ []) ended 1 0 ≡ Some 2) × (first_met 1 (Break.Round 2 ∷ []) ended 1 0 ≡ None)
 unfolding opening cell_in rock floor place_in put_cell same_pos
 first_here = (refl, refl, refl)

@@ -26,7 +26,7 @@ state_alone : (is_met (break.State Red 4) fed 1 0 ≡ true) × (is_met (break.St
 unfolding opening cell_in rock floor place_in put_cell same_pos
 state_alone = (refl, refl, refl)
 
--- Food and Score hold from so much on, also under an ant, and don't count what it carries
+-- Food and Score hold from this much on, also under an ant, and don't count what it carries
 from_so_much_on : (is_met (break.Food 1 1 1) fed 1 0 ≡ true) × (is_met (break.Food 1 1 2) fed 1 0 ≡ true) × (is_met (break.Food 1 1 3) fed 1 0 ≡ false)
     × (is_met (break.Score Red 1) fed 1 0 ≡ true) × (is_met (break.Score Red 2) fed 1 0 ≡ true) × (is_met (break.Score Red 3) fed 1 0 ≡ false)
 unfolding opening cell_in rock floor hill_food_of put_cell same_pos

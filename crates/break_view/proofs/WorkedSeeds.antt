@@ -35,7 +35,7 @@ breaks = State Red 3 ∷ State Red 2 ∷ []
 abbrev drawn_stop : Stop
 drawn_stop = record { round = 2; id = 0; which = 1 }
 
--- the state of an ant; 9 where there is none
+-- the state of an ant; 9 if there is none
 abbrev state_of : Option Ant → ℕ
 state_of None = 9
 state_of (Some ant) = ant.state

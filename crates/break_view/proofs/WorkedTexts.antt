@@ -66,7 +66,7 @@ round_x : IsBreakFault (codes "Round x") (BadNumber 1)
 unfolding decimal_value
 round_x = first_line_fault-first (codes "Round x") (BadNumber 1) refl
 
--- of two faults of a line the first position's, whatever stands behind it
+-- of two faults of a line the first position's, whatever stands after it
 faults_of_a_line : (IsBreakFault (codes "Round x 2") (BadNumber 1)) × (IsBreakFault (codes "State Green") (UnknownWord 1)) × (IsBreakFault (codes "Food x") (BadNumber 1)) × (IsBreakFault (codes "Score Red") (MissingToken 1))
 unfolding decimal_value
 faults_of_a_line = (first_line_fault-first (codes "Round x 2") (BadNumber 1) refl, first_line_fault-first (codes "State Green") (UnknownWord 1) refl, first_line_fault-first (codes "Food x") (BadNumber 1) refl, first_line_fault-first (codes "Score Red") (MissingToken 1) refl)
@@ -84,7 +84,7 @@ no_such_colour : IsBreakFault (codes "; note\nState Green 1") (UnknownWord 2)
 unfolding decimal_value
 no_such_colour = first_line_fault-first (codes "; note\nState Green 1") (UnknownWord 2) refl
 
--- a prefix of a word is no word, and a word alone lacks its number
+-- a prefix of a word is not a word, and a word alone lacks its number
 killed_cut :
     (IsBreakFault (codes "K") (UnknownWord 1)) × (IsBreakFault (codes "Ki") (UnknownWord 1)) × (IsBreakFault (codes "Kil") (UnknownWord 1))
     × (IsBreakFault (codes "Kill") (UnknownWord 1)) × (IsBreakFault (codes "Kille") (UnknownWord 1)) × (IsBreakFault (codes "Killed") (MissingToken 1))
@@ -96,7 +96,7 @@ too_large : IsBreakFault (codes "Food 4294967296 0 0") (BadNumber 1)
 unfolding decimal_value
 too_large = first_line_fault-first (codes "Food 4294967296 0 0") (BadNumber 1) refl
 
--- a byte outside 33 to 126 is no fault of its own: a token with it is no word and no number
+-- a byte outside 33 to 126 is not a fault by itself: a token with it is neither a word nor a number
 strange_bytes : (IsBreakFault (codes "Round 1" ++ 200 ∷ []) (BadNumber 1)) × (IsBreakFault (1 ∷ codes "Round 1") (UnknownWord 1)) × (IsBreakFault (codes "Round 1 " ++ 200 ∷ []) (ExtraToken 1))
 unfolding decimal_value
 strange_bytes = (first_line_fault-first (codes "Round 1" ++ 200 ∷ []) (BadNumber 1) refl, first_line_fault-first (1 ∷ codes "Round 1") (UnknownWord 1) refl, first_line_fault-first (codes "Round 1 " ++ 200 ∷ []) (ExtraToken 1) refl)
@@ -110,7 +110,7 @@ one_break_more : line_fault 256 (record { number = 257; tokens = codes "Jump" �
 unfolding decimal_value
 one_break_more = refl
 
--- so many lines of one break
+-- this many lines of one break
 abbrev rounds : ℕ → List ℕ
 rounds zero = []
 rounds (suc n) = codes "Round 1\n" ++ rounds n

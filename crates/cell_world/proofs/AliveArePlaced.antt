@@ -34,7 +34,7 @@ is_below-next t (Some ant) =
       ]
     ]
 
--- where one position at most passes a test, the positions that pass are as many as a search finds
+-- if one position at most passes a test, the positions that pass are as many as a search finds
 sum_over-found : (width : ℕ) (test : Pos → Bool) (n : ℕ) → ((p q : Pos) → test p ≡ true → test q ≡ true → p ≡ q) → sum_over width (λ p. one_if (test p)) n ≡ one_if (is_some (first_of width test n))
 sum_over-found width test zero one = refl
 sum_over-found width test (suc n) one =

@@ -58,7 +58,7 @@ came-place t p None body = refl
 came-place t p (Some ant) body =
     cond_both (nat_eq ant.id t) (body_at p ant) body (λ b. b.place ≡ cond (nat_eq ant.id t) (Some p) body.place) (λ same. sym (cond-true _ _ _ same)) (λ apart. sym (cond-false _ _ _ apart))
 
--- an ant that is on a cell no more is as it was, but for its place
+-- an ant that is on a cell no more is unchanged, except for its place
 ant_from-gone : (t : ℕ) (before : Option ℕ) (body : Body) → ant_from t (gone t before body) ≡ ant_from t body
 ant_from-gone t None body = refl
 ant_from-gone t (Some u) body = cond_both (nat_eq u t) (record body { place = None }) body (λ b. ant_from t b ≡ ant_from t body) (λ _. refl) (λ _. refl)

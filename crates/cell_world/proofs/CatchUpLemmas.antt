@@ -183,7 +183,7 @@ module _ (width height : ℕ) (was others : List Tile) (old other_bodies : List 
   other_full : length others ≡ width * height
   other_full = sym (length-map others (cell_from other_bodies)) ∙ other_world.full
 
-  -- where a position has one cell in both, what is kept of it is the same
+  -- if a position has one cell in both, what is kept of it is the same
   module _ (p : Pos) (inside : IsInside width height p) (same : cell_in (grid_from width height was old) p ≡ cell_in (grid_from width height others other_bodies) p) where
     content : (d : Tile) → cell_from old (get_or was (index_of width p) d) ≡ cell_from other_bodies (get_or others (index_of width p) d)
     content d = sym (cell_in-tile_at width height was old p d world inside) ∙ same ∙ cell_in-tile_at width height others other_bodies p d other_world inside
@@ -304,7 +304,7 @@ module _ (width height : ℕ) (was others : List Tile) (old other_bodies : List 
           ∙ place_equal t (subst (λ n. t < n) (sym same_ids) made);
     }
 
--- one step of the loop, where the position was found to have this number
+-- one step of the loop, if the position was found to have this number
 pub Catching-go : (width : ℕ) (was tiles others : List Tile) (old bodies middle new other_bodies : List Body) (places : List Pos) (i k : ℕ) (d : Pos) (tile : Tile) (before_id : Option ℕ) (here : Tile) →
     i < length places → index_of width (get_or places i d) < length was → length others ≡ length was → Catching width was tiles others old bodies other_bodies (drop i places) →
     k ≡ index_of width (get_or places i d) → tile ≡ get_or others k tile → here ≡ get_or tiles k here → before_id ≡ occupant_id here.ant → Followed bodies middle other_bodies before_id → Followed middle new other_bodies (occupant_id tile.ant) →

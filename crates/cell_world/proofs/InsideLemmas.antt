@@ -31,18 +31,18 @@ use Rattle.cell_world.proofs.ValidLemmas.{CanSet-mind, Thinker, thinker}
 abbrev pub merged_tile : Tile → Cell → Occupant → Tile
 merged_tile old cell occupant = record old { food = cell.food; ant = occupant; red = cell.red; black = cell.black }
 
--- which reads as the new cell, where its kind and hill are the old one's and its ant is read
+-- which reads as the new cell, if its kind and hill are the old one's and its ant is read
 merged : (new : List Body) (old : Tile) (cell : Cell) (occupant : Occupant) → old.rocky ≡ cell.rocky → old.hill ≡ cell.hill → ant_named new (occupant_id occupant) ≡ cell.ant → cell_from new (merged_tile old cell occupant) ≡ cell
 merged new old cell occupant kind hill ant =
     let with : Bool → Option Colour → Option Ant → Cell = λ r h o. record { rocky = r; hill = h; food = cell.food; red = cell.red; black = cell.black; ant = o } in
     ap₂ (λ r h. with r h (ant_named new (occupant_id occupant))) kind hill ∙ ap (with cell.rocky cell.hill) ant
 
--- a vector all of whose items were written anew holds the new ones
+-- a vector all of whose items were written again holds the new ones
 pub refilled : {X : Type 0} (n : ℕ) (items new : List X) → n ≡ length items → length new ≡ length items → take n (new ++ drop (length new) items) ≡ new
 refilled n items new long same =
     subst (λ k. take k (new ++ drop (length new) items) ≡ new) (same ∙ sym long) (take-append_seam new (drop (length new) items))
 
--- the fields after a change of the tile of this number, where the bodies became these
+-- the fields after a change of the tile of this number, if the bodies became these
 abbrev pub fields_set : Inside → ℕ → Tile → List Body → Inside
 fields_set fields i tile new = record {
   width = fields.width;
@@ -84,7 +84,7 @@ fields_set-changed_at fields p old cell occupant before room known new kept can 
       };
     }
 
--- also where the tile was read and changed at what is the number of its position
+-- even if the tile was read and changed at what is the number of its position
 pub fields_set-changed : (fields : Inside) (p : Pos) (i : ℕ) (old : Tile) (cell : Cell) (occupant : Occupant) (before : Option ℕ) (room : ℕ) (known new : List Body) → IsWellStored fields → CanSet (world_of (grid_of fields)) room p cell → i ≡ index_of fields.width p → old ≡ get_or fields.tiles.items i old → occupant ≡ occupant_of cell.ant → before ≡ occupant_id old.ant → known ≡ fields.bodies.items → Moved known new p before cell.ant →
     FieldsChanged fields (fields_set fields i (merged_tile old cell occupant) new) p cell
 fields_set-changed fields p i old cell occupant before room known new kept can at item named was is moved =
@@ -113,7 +113,7 @@ minded body ant = record body { state = ant.state; resting = ant.resting; facing
 abbrev pub fields_minded : Inside → Body → Ant → Inside
 fields_minded fields body ant = record fields { bodies = with_item fields.bodies ant.id (minded body ant) }
 
--- which is the ant's own body at p, where the body stands at p and is of its colour and load
+-- which is the ant's own body at p, if the body stands at p and is of its colour and load
 minded-own : (p : Pos) (body : Body) (ant : Ant) → body.place ≡ Some p → body.colour ≡ ant.colour → body.laden ≡ ant.laden → minded body ant ≡ body_at p ant
 minded-own p body ant place colour load =
     let with : Option Pos → Colour → Bool → Body = λ o k l. record { place = o; state = ant.state; resting = ant.resting; facing = ant.facing; colour = k; laden = l } in

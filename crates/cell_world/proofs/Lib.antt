@@ -20,7 +20,7 @@ pub mod LiveBodies
 pub mod Patches
 pub mod PartAnswers
 pub mod CatchUpLemmas
--- Those that rest, told apart.
+-- Those that rest, distinguished.
 pub mod RestingLemmas
 -- Worlds that are made: at an opening, and of cells without ants.
 pub mod Rims

@@ -49,7 +49,7 @@ module _ (width height : ℕ) (tiles : List Tile) (bodies : List Body) (fallback
     | inr other ↦ ap (λ b. b && is_ant_of colour (cell_at p).ant) other ∙ sym (ap (λ b. b && same_colour colour (get_or bodies t no_body).colour) other)
   ]
 
-  -- the cells that hold it are one where its body is of the colour and has a place, and else none
+  -- the cells that hold it are one where its body is of the colour and has a place, and otherwise none
   held_living : (t : ℕ) → t < length bodies → sum_over width (λ p. one_if (holds_id t (cell_at p) && is_ant_of colour (cell_at p).ant)) (width * height) ≡ one_if (is_living colour (get_or bodies t no_body))
   held_living t made =
       sum_over-same width (λ p. one_if (holds_id t (cell_at p) && is_ant_of colour (cell_at p).ant)) (λ p. one_if (holds_id t (cell_at p) && same_colour colour (get_or bodies t no_body).colour)) (width * height) (λ i _. ap one_if (of_body t (pos_at width i) made))

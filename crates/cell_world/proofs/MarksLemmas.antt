@@ -77,7 +77,7 @@ IsOfSix-with marks i known six = or_lt 6 marks.set (2 ^ i) six (pow_below i 6 kn
 pub IsOfSix-without : (marks : Marks) (i : ℕ) → IsOfSix marks → IsOfSix (without_mark marks i)
 IsOfSix-without marks i six = let less : bit_and marks.set (255 - 2 ^ i) ≤ marks.set = and_le_l marks.set (255 - 2 ^ i) in omega arith
 
--- a marker's bit is 1 exactly where the set has it
+-- a marker's bit is 1 exactly if the set has it
 bit-has_mark : (marks : Marks) (i : ℕ) → i < 6 → nat_eq (bit_at marks.set i) 1 ≡ has_mark marks i
 bit-has_mark marks i known = sym (ap (λ b. b && nat_eq (bit_at marks.set i) 1) (lt-ltb i 6 known))
 

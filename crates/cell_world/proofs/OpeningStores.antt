@@ -52,14 +52,14 @@ ant_named-opening_cell front rest RedHill p = ap (λ (b : Body). Some (ant_from 
 ant_named-opening_cell front rest BlackHill p = ap (λ (b : Body). Some (ant_from (length front) b)) (get_or-append_seam front (new_body Black p) rest no_body)
 ant_named-opening_cell front rest it p = refl
 
--- the ant of the first of these kinds has an id that is in range, where all their ants have
+-- the ant of the first of these kinds has an id that is in range, if all their ants have
 IsKnown-early : (t : ℕ) (kind : Kind) (others : ℕ) → t + (one_if (is_hill kind) + others) ≤ nobody → IsKnown nobody (opening_cell t kind).ant
 unfolding rock floor
 IsKnown-early t RedHill others few = omega arith
 IsKnown-early t BlackHill others few = omega arith
 IsKnown-early t it others few = tt
 
--- the tiles read as the cells of the kinds, behind the bodies of the ants before them
+-- the tiles read as the cells of the kinds, after the bodies of the ants before them
 cells-read : (width i : ℕ) (kinds : List Kind) (front : List Body) → length front + hill_count kinds ≤ nobody → map (cell_from (front ++ opening_bodies width i kinds)) (opening_tiles (length front) kinds) ≡ opening_cells (length front) kinds
 cells-read width i [] front few = refl
 cells-read width i (kind ∷ kinds) front few =

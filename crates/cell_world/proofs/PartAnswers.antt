@@ -37,7 +37,7 @@ six_hold {parts} {c} {d} {value} all = (
   λ agree. all.1 (((((agree Who, agree Mind), agree Load), agree Food), agree RedMarks), agree BlackMarks),
 )
 
--- where the test of a part fails and the parts before it agree, it is the first in which two cells differ
+-- if the test of a part fails and the parts before it agree, it is the first in which two cells differ
 pub first_differs : (parts : Parts) (c d : Cell) (k : Part) (test : Bool) → (test ≡ true) ↔ AgreeIn parts c d k → test ≡ false → AgreeBefore k parts c d → IsDifference parts c d (Some k)
 first_differs parts c d k test is failed before =
     let never : ¬ AgreeIn parts c d k = λ agree. false≢true (sym failed ∙ is.1 agree) in (

@@ -45,7 +45,7 @@ patched_ant-who parts None source = refl
 patched_ant-who parts (Some ant) None = refl
 patched_ant-who parts (Some ant) (Some other) = refl
 
--- its posture, where it is named
+-- its posture, if it is named
 patched_ant-mind : (parts : Parts) (own source : Option Ant) → parts.mind ≡ true → IsSameAnt own source → option_map posture_of (patched_ant parts own source) ≡ option_map posture_of source
 patched_ant-mind parts (Some ant) (Some other) named same = rw named
 patched_ant-mind parts it source named same = absurd same
@@ -55,7 +55,7 @@ patched_ant-mind_own : (parts : Parts) (own source : Option Ant) → parts.mind 
 patched_ant-mind_own parts (Some ant) (Some other) other_s = rw other_s
 patched_ant-mind_own parts it source other_s = refl
 
--- what it carries, where that is named
+-- what it carries, if that is named
 patched_ant-load : (parts : Parts) (own source : Option Ant) → parts.load ≡ true → IsSameAnt own source → option_map (λ ant. ant.laden) (patched_ant parts own source) ≡ option_map (λ ant. ant.laden) source
 patched_ant-load parts (Some ant) (Some other) named same = rw named
 patched_ant-load parts it source named same = absurd same
@@ -71,7 +71,7 @@ module _ (cell source : Cell) (parts : Parts) where
   unfolding patched
   patched-ant named = cond-true _ _ _ named
 
-  -- and else it is patched
+  -- and otherwise it is patched
   pub patched-ant_own : parts.who ≡ false → (patched cell source parts).ant ≡ patched_ant parts cell.ant source.ant
   unfolding patched
   patched-ant_own other = cond-false _ _ _ other
@@ -86,7 +86,7 @@ module _ (cell source : Cell) (parts : Parts) where
   patched-hill = refl
 
   module _ (can : CanPatch cell source parts) where
-    -- where the posture or the load are named alone, both cells hold one ant
+    -- if the posture or the load are named alone, both cells hold one ant
     mind_alone : parts.who ≡ false → parts.mind ≡ true → IsSameAnt cell.ant source.ant
     mind_alone other named = can.same_ant other (ap (λ b. b || parts.load) named)
 

@@ -53,12 +53,12 @@ pub first_of-found : (width : ℕ) (test : Pos → Bool) (n : ℕ) (p : Pos) →
 first_of-found width test zero p found = absurd (cc)
 first_of-found width test (suc n) p found = Found-step width test n p (first_of width test n) (first_of-found width test n p) found
 
--- where only p passes, a search that came so far and found something found p
+-- if only p passes, a search that came so far and found something found p
 only_found : (width : ℕ) (test : Pos → Bool) (n : ℕ) (p : Pos) (so_far : Option Pos) → ((q : Pos) → test q ≡ true → q ≡ p) → first_of width test n ≡ so_far → test (pos_at width n) ≡ true → or_here so_far (test (pos_at width n)) (pos_at width n) ≡ Some p
 only_found width test n p (Some q) only came here = ap Some (only q (first_of-found width test n q came).passes)
 only_found width test n p None only came here = cond-true _ _ _ here ∙ ap Some (only _ here)
 
--- where only p passes, and p is among the first n, a search finds p
+-- if only p passes, and p is among the first n, a search finds p
 pub first_of-only : (width : ℕ) (test : Pos → Bool) (n i : ℕ) (p : Pos) → i < n → pos_at width i ≡ p → test p ≡ true → ((q : Pos) → test q ≡ true → q ≡ p) → first_of width test n ≡ Some p
 first_of-only width test zero i p early at passes only = absurd (omega arith)
 first_of-only width test (suc n) i p early at passes only =
@@ -112,7 +112,7 @@ pub place_in-nowhere : (w : World) (t : ℕ) → ((p : Pos) → holds_id t (w.ce
 unfolding place_in
 place_in-nowhere w t none = first_of-nowhere w.width (λ p. holds_id t (w.cells p)) (area w) none
 
--- where one position alone holds t, that is its place
+-- if one position alone holds t, that is its place
 pub place_in-only : (w : World) (t : ℕ) (p : Pos) → IsInside w.width w.height p → holds_id t (w.cells p) ≡ true → ((q : Pos) → holds_id t (w.cells q) ≡ true → q ≡ p) → place_in w t ≡ Some p
 unfolding place_in
 place_in-only w t p inside holds only =

@@ -1,4 +1,4 @@
--- Ants with other resting counts: what a world keeps, and where they stand; and how bodies are told apart one after
+-- Ants with other resting counts: what a world keeps, and where they stand; and how bodies are distinguished one after
 -- another.
 use Rattle.std.proofs.Common.{◌≡◌, ◌≢◌, ◌⊎◌, inl, inr, ℕ, zero, suc, ◌+◌, ◌-◌, ◌<◌, ◌≤◌, Bool, true, false, cond, List, [], ◌∷◌, ◌++◌, length, map, take, set, get_or, Option, Some, None, refl, sym, ap, ap₂, ◌∙◌, subst, arith, add-zero}
 use Rattle.std.specs.Prelude.{option_map, nat_eq, nat_lt}
@@ -48,7 +48,7 @@ pub one_less-among : (from to t rest : ℕ) → from ≤ t → t < to → one_le
 unfolding one_less
 one_less-among from to t rest late early = cond-false _ _ _ (le-ltb t from late) ∙ cond-true _ _ _ (lt-ltb t to early)
 
--- where there is nothing to rest, nothing is another
+-- if there is nothing to rest, nothing is another
 pub one_less-none : (from to t : ℕ) → one_less from to t 0 ≡ 0
 unfolding one_less
 one_less-none from to t = ap (cond (nat_lt t from) 0) (either_same (nat_lt t to) 0) ∙ either_same (nat_lt t from) 0
@@ -69,7 +69,7 @@ minus_self n = omega arith
 pub nothing_among : (from t rest : ℕ) → one_less from from t rest ≡ rest
 nothing_among from t rest = elim (below_or_not t from) [ inl early ↦ one_less-before from from t rest early | inr late ↦ one_less-after from from t rest late ]
 
--- an item in front, where there is one, of two lists
+-- an item in front, if there is one, of two lists
 put_in_front : (b : Bool) (x : ℕ) (xs ys : List ℕ) → cond b (x ∷ xs ++ ys) (xs ++ ys) ≡ cond b (x ∷ xs) xs ++ ys
 put_in_front true x xs ys = refl
 put_in_front false x xs ys = refl
@@ -106,7 +106,7 @@ ids_where-more test from (suc n) =
     ap (λ ids. cond (test from) (from ∷ ids) ids) later
     ∙ put_in_front (test from) from (ids_where test (from + 1) n) (cond (test (from + suc n)) ((from + suc n) ∷ []) [])
 
--- nobody is told apart yet
+-- nobody is distinguished yet
 pub ToldApart-none : (bodies : List Body) (from : ℕ) (acting : List ℕ) → ToldApart bodies bodies from from (take 0 acting)
 ToldApart-none bodies from acting = record {
   all_ids = refl;
@@ -114,7 +114,7 @@ ToldApart-none bodies from acting = record {
   acting = ap (ids_where (acts_by bodies) from) (sym (minus_self from));
 }
 
--- one more is told apart
+-- one more is distinguished
 pub ToldApart-more : (old new : List Body) (from id : ℕ) (acting : List ℕ) (count : ℕ) (body : Body) → ToldApart old new from id (take count acting) → from ≤ id → id < length new → count < length acting
     → body ≡ with_resting (body_of new id) ((body_of new id).resting - 1) → (acts : Bool) → acts ≡ nat_eq (body_of new id).resting 0 → ToldApart old (set new id body) from (id + 1) (take (count + one_if acts) (set acting count id))
 ToldApart-more old new from id acting count body told late made room is acts acts_is =
@@ -199,7 +199,7 @@ module _ (f : ℕ → ℕ → ℕ) where
     light = subst (λ n. n ≤ most_weight) (sym (weight-with_rests w)) valid.light;
   }
 
-  -- bodies that are told apart read as the ants with these counts
+  -- bodies that are distinguished read as the ants with these counts
   pub record RestsRead (old new : List Body) : Type 0 where
     pub all_ids : length new ≡ length old
     pub each : (t : ℕ) → body_of new t ≡ with_resting (body_of old t) (f t (body_of old t).resting)
@@ -266,7 +266,7 @@ module _ (f : ℕ → ℕ → ℕ) where
         } in
         (first, second)
 
--- bodies that were told apart have one less to rest
+-- bodies that were distinguished have one less to rest
 pub told-read : (old new : List Body) (from to : ℕ) (listed : List ℕ) → ToldApart old new from to listed → RestsRead (one_less from to) old new
 told-read old new from to listed told = record { all_ids = told.all_ids; each = told.each }
 
@@ -278,7 +278,7 @@ named_resting bodies (Some t) ant is =
     let same : ant_from t (body_of bodies t) ≡ ant = same_Some (ant_from t (body_of bodies t)) ant is in
     subst (λ (a : Ant). (body_of bodies a.id).resting ≡ a.resting) same refl
 
--- also where a cell has it
+-- even if a cell has it
 pub ant-resting : (width height : ℕ) (tiles : List Tile) (bodies : List Body) (p : Pos) (ant : Ant) → IsWorld (grid_from width height tiles bodies) → (cell_in (grid_from width height tiles bodies) p).ant ≡ Some ant → (body_of bodies ant.id).resting ≡ ant.resting
 ant-resting width height tiles bodies p ant world is =
     let holds : holds_id ant.id (cell_in (grid_from width height tiles bodies) p) ≡ true = holds_id-own (cell_in (grid_from width height tiles bodies) p) ant is in

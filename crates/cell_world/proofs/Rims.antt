@@ -1,4 +1,4 @@
--- A rim of rock: what is on the rim is rock just where what isn't rock isn't on it.
+-- A rim of rock: what is on the rim is rock exactly if what isn't rock isn't on it.
 use Rattle.std.proofs.Common.{◌≡◌, inl, inr, ℕ, ◌<◌, true, false, List, refl, sym, ◌∙◌, ap}
 use Rattle.std.proofs.lemmas.Bool.{cases_Bool, false≢true}
 use Rattle.hex_geometry.specs.declared.position.Pos.{Pos}

@@ -9,7 +9,7 @@ use Rattle.cell_world.specs.Score.{alive_in, alive_of, food_of, hill_food_in, hi
 use Rattle.cell_world.specs.World.{World, put}
 use Rattle.cell_world.proofs.Totals.{total-put}
 
--- all food after a change of one cell: the new cell's in place of the old one's
+-- all food after a change of one cell: the new cell's instead of the old one's
 pub food_of-put : (w : World) (p : Pos) (cell : Cell) → IsInside w.width w.height p → food_of (put w p cell) + food_in (w.cells p) ≡ food_of w + food_in cell
 unfolding food_of
 food_of-put w p cell inside = total-put food_in w p cell inside

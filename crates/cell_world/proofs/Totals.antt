@@ -47,7 +47,7 @@ sum_over-change width f g (suc n) k early agree =
           omega arith
     ]
 
--- what f comes to after a change of one cell: the new cell counts in place of the old one
+-- what f comes to after a change of one cell: the new cell counts instead of the old one
 pub total-put : (f : Cell → ℕ) (w : World) (p : Pos) (cell : Cell) → IsInside w.width w.height p → total f (put w p cell) + f (w.cells p) ≡ total f w + f cell
 total-put f w p cell inside =
     let k : ℕ = index_of w.width p in

@@ -119,7 +119,7 @@ pub thinker : (ant : Ant) (o : Option Ant) → IsSomeAnd o (SameBody ant) → Th
 thinker ant None stands = absurd stands
 thinker ant (Some before) stands = record { before = before; is = refl; same = stands }
 
--- where a state, a rest and a direction may be set, the cell with that ant may be set
+-- if a state, a rest and a direction may be set, the cell with that ant may be set
 pub CanSet-mind : (w : World) (room : ℕ) (p : Pos) (ant : Ant) → Valid w → CanThink w room p ant → CanSet w room p (record (w.cells p) { ant = Some ant })
 CanSet-mind w room p ant valid can =
     let it : Thinker ant (w.cells p).ant = thinker ant (w.cells p).ant can.stands in

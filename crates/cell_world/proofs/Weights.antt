@@ -11,7 +11,7 @@ use Rattle.cell_world.specs.Valid.{Valid}
 use Rattle.cell_world.proofs.Places.{clear_inside}
 use Rattle.cell_world.proofs.Totals.{cell-le-total, total-put, total-put_two}
 
--- the weight after a change of one cell: the new cell's in place of the old one's
+-- the weight after a change of one cell: the new cell's instead of the old one's
 pub weight-put : (w : World) (p : Pos) (cell : Cell) → IsInside w.width w.height p → weight (put w p cell) + cell_weight (w.cells p) ≡ weight w + cell_weight cell
 unfolding weight
 weight-put w p cell inside = total-put cell_weight w p cell inside

@@ -27,7 +27,7 @@ use Rattle.list_lemmas.proofs.AllElements.{AllByRecursion-append}
 abbrev pub words_of : CommandKind → List (List (List ℕ)) → List Given → List (List ℕ)
 words_of kind front given = word_of kind ∷ (joined front ++ flat_map given_words given)
 
--- the word after an option's own, where the option is given
+-- the word after an option's own, if the option is given
 abbrev pub value_given : Choice → List Given → Option (List ℕ)
 value_given choice [] = None
 value_given choice (given ∷ more) = cond (bytes_eq (option_of given.choice) (option_of choice)) (first_word (joined given.values)) (value_given choice more)

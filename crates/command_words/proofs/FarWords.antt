@@ -175,7 +175,7 @@ words_before-here text words i word within is same =
     ∙ append-nil (take i (texts words))
     ∙ take-map string_bytes i words
 
--- this word is another, and they go on
+-- this word is another, and they continue
 pub words_before-more : (text : List ℕ) (words : List (String Global)) (i : ℕ) (word : String Global) → i < length words → word ≡ get_or words i word
     → bytes_eq (string_bytes word) text ≡ false
     → take i (texts words) ++ words_before text (drop i (texts words)) ≡ take (i + 1) (texts words) ++ words_before text (drop (i + 1) (texts words))

@@ -117,7 +117,7 @@ within_limits_used law =
       cup.names Brains (3, lit< tt, refl),
     )
 
--- a run with `--far` is no command to such a reader, and other words stay
+-- a run with `--far` is not a command to such a reader, and other words stay
 refuses_far_used : RefusesFar → ((asked : PlainAsked) → ¬ IsCommand (words_without_far (words_of (codes "run w r b --far --seed 1 --rounds 2"))) asked)
     × (words_without_far (words_of (codes "show w 7")) ≡ words_of (codes "show w 7"))
 refuses_far_used law = (λ asked is. law.refused (words_of (codes "run w r b --far --seed 1 --rounds 2")) asked refl is, law.others (words_of (codes "show w 7")) refl)

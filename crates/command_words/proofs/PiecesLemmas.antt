@@ -12,7 +12,7 @@ onto_cut : (byte : ℕ) (text : List ℕ) (n : ℕ) → pieces_of text ≡ take 
     → onto_first byte (pieces_of text) ≡ take (1 + n) (byte ∷ text) ∷ pieces_left (after_byte (drop (1 + n) (byte ∷ text)))
 onto_cut byte text n cut = let next : 1 + n ≡ suc n = omega arith in rw (next, cut) refl
 
--- a text is its first piece, and then the pieces of what stands after that piece and its comma, if there is one
+-- a text is its first piece, and then the pieces of what follows that piece and its comma, if there is one
 pub pieces_of_cut : (text : List ℕ) → pieces_of text ≡ take (piece_length text) text ∷ pieces_left (after_byte (drop (piece_length text) text))
 pieces_of_cut [] = refl
 pieces_of_cut (byte ∷ text) = go (byte == 44) (pieces_of_cut text) where

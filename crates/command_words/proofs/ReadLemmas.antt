@@ -86,7 +86,7 @@ read-accepts (word ∷ rest) command e =
     let same : some.command ≡ command = cc in
     subst (IsCommand (word ∷ rest)) same some.is
 
--- what is refused is no command
+-- what is refused is not a command
 pub read-none : (words : List (List ℕ)) (number : ℕ) → read_of words ≡ Err number → (command : PlainAsked) → ¬ IsCommand words command
 read-none words number e command is = (let both : Ok command ≡ Err number = sym (read-command words command is) ∙ e in let no : ⊥ = cc in no)
 
@@ -179,7 +179,7 @@ refused-within kind known rest number none e =
         sym (subst (λ k. walk k (take (suc taken) rest) (places_of k) [] (word_of k ∷ []) ≡ Ok begins.later) one_kind begins.walked) ∙ refused in
         let no : ⊥ = cc in no
 
--- the walk accepts the words, and they are no command
+-- the walk accepts the words, and they are not a command
 refused-after : (words : List (List ℕ)) → ((command : PlainAsked) → ¬ IsCommand words command) → IsBeginning words → IsRefusedAt words (length words + 1)
 refused-after words none is = record {
   counted = omega arith;

@@ -30,7 +30,7 @@ use Rattle.command_words.proofs.ListLemmas.{find-passes, find-Contains}
 pub bytes_eq-same : (word : List ℕ) → bytes_eq word word ≡ true
 bytes_eq-same word = (bytes_eq-Decides word word).1 refl
 
--- what is found by its own word, where two things have two words
+-- what is found by its own word, if two things have two words
 find-word : {X : Type 0} (word : X → List ℕ) → ((a b : X) → bytes_eq (word a) (word b) ≡ true → a ≡ b) → (list : List X) (x : X) → Contains list x
     → find (λ other. bytes_eq (word other) (word x)) list ≡ Some x
 find-word word same [] x has = absurd (Contains-none x has)
@@ -173,7 +173,7 @@ command-byte kind = each_command (λ kind. has_byte (word_of kind)) refl kind
 pub option-byte : (choice : Choice) → has_byte (option_of choice) ≡ true
 option-byte choice = each_option (λ choice. has_byte (option_of choice)) refl choice
 
--- the places end, or go on with a list's word
+-- the places end, or continue with a list's word
 abbrev pub stops : List Place → Bool
 stops [] = true
 stops (Word slot ∷ places) = is_keyword slot
@@ -188,7 +188,7 @@ runs_end (Names list ∷ places) = stops places && runs_end places
 pub places-end : (kind : CommandKind) → runs_end (places_of kind) ≡ true
 places-end kind = each_command (λ kind. runs_end (places_of kind)) refl kind
 
--- an option has one word behind its own, or none, and no list
+-- an option has one word after its own, or none, and no list
 abbrev pub is_short : List Place → Bool
 is_short [] = true
 is_short (Word slot ∷ []) = not (is_keyword slot)
@@ -252,7 +252,7 @@ begins_with list [] = false
 begins_with list (Word slot ∷ places) = false
 begins_with list (Names other ∷ places) = sameb list_of.the_type other list && stops places
 
--- whether its names stand behind the first place of its word
+-- whether its names stand after the first place of its word
 abbrev pub follows : NameList → List Place → Bool
 follows list [] = false
 follows list (Names other ∷ places) = follows list places
@@ -261,7 +261,7 @@ follows list (Word (Number kind) ∷ places) = follows list places
 follows list (Word Dumps ∷ places) = follows list places
 follows list (Word (Keyword other) ∷ places) = cond (sameb list_of.the_type other list) (begins_with list places) (follows list places)
 
--- the names of each list that a command has stand behind its word
+-- the names of each list that a command has stand after its word
 pub names-follow : (list : NameList) (kind : CommandKind) → (not (has_names list (places_of kind)) || follows list (places_of kind)) ≡ true
 names-follow Worlds kind = each_command (λ kind. not (has_names Worlds (places_of kind)) || follows Worlds (places_of kind)) refl kind
 names-follow Brains kind = each_command (λ kind. not (has_names Brains (places_of kind)) || follows Brains (places_of kind)) refl kind
@@ -280,7 +280,7 @@ keywords-apart Brains Worlds e = refl
 keywords-apart Worlds Worlds e = absurd (false≢true (sym e))
 keywords-apart Brains Brains e = absurd (false≢true (sym e))
 
--- behind names, or from here on, no place is one of a file or a number
+-- after names, or from here on, no place is one of a file or a number
 abbrev pub none_is_read : List Place → Bool
 none_is_read [] = true
 none_is_read (Word slot ∷ places) = is_keyword slot && none_is_read places

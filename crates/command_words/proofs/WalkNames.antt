@@ -63,7 +63,7 @@ all-from_rest (place ∷ places) [] fit = elim fit [ ]
 all-from_rest (Word slot ∷ places) (part ∷ parts) fit = (fit.0, fit.1)
 all-from_rest (Names list ∷ places) (part ∷ parts) fit = (fit.0, fit.1)
 
--- the places end, or go on with a list's word
+-- the places end, or continue with a list's word
 abbrev pub Stops : List Place → Type 0
 Stops [] = Unit {0}
 Stops (Word slot ∷ places) = is_keyword slot ≡ true
@@ -105,7 +105,7 @@ closed-stops [] names stops = refl
 closed-stops (Word slot ∷ places) names stops = refl
 closed-stops (Names list ∷ places) names stops = elim stops [ ]
 
--- one more word, where this place is reached
+-- one more word, if this place is reached
 abbrev pub further : CommandKind → List (List ℕ) → List (List ℕ) → List (List ℕ) → List ℕ → List Place → Result (List Place) ℕ
 further kind words names before word here =
     go_on (due_after kind here names before word) (length before + 1) (λ later. walk kind words later (names_after here names word) (before ++ word ∷ []))
@@ -124,7 +124,7 @@ further-stops kind [] words names before word stops = refl
 further-stops kind (Word slot ∷ due) words names before word stops = refl
 further-stops kind (Names list ∷ due) words names before word stops = elim stops [ ]
 
--- names that are enough end where no name follows
+-- names that are enough end if no name follows
 pub run-ends : (kind : CommandKind) (list : NameList) (due : List Place) (words names before : List (List ℕ)) → has_enough list names ≡ true → Stops due → NoName words
     → walk kind words (Names list ∷ due) names before ≡ walk kind words due [] before
 run-ends kind list due [] names before enough stops no_name =
@@ -190,7 +190,7 @@ walk-run kind list due words (name ∷ part) names before are =
 pub names-enough : (list : NameList) (names : List (List ℕ)) → AreNames list names → has_enough list names ≡ true
 names-enough list names are = le-leb (fewest_names list) (length names) are.enough
 
--- what is a list's word is no name
+-- what is a list's word is not a name
 pub keyword-ends : (slot : Slot) (word : List ℕ) → is_keyword slot ≡ true → fits slot word ≡ true → is_file_name word ≡ false
 keyword-ends FileName word is same = absurd (false≢true is)
 keyword-ends (Keyword list) word is same = ap is_file_name ((bytes_eq-Decides word (keyword_of list)).0 same) ∙ keyword-no_name list

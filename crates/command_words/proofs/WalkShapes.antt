@@ -19,7 +19,7 @@ use Rattle.command_words.proofs.WalkSearch.{is_among-one, NoName}
 use Rattle.command_words.proofs.WalkAmong.{is_among-fewer, is_among-neither, is_among-fit}
 use Rattle.command_words.proofs.WalkNames.{MayBe, IsOpen, open-none, FitRest, rest-from_all, all-from_rest, Stops, RunsEnd, values-run, rest-stops, further, walk-same, run-ends, walk-run, names-enough, stops-no_name, given-no_name, lacking, lacks_none, open-more}
 
--- a word may stand where the walk goes on
+-- a word may stand where the walk continues
 pub stands : (o : Option (List Place)) (n : ℕ) (next : List Place → Result (List Place) ℕ) (later : List Place) → go_on o n next ≡ Ok later
     → (due : List Place) × (o ≡ Some due) × (next due ≡ Ok later)
 stands None n next later e = (let no : ⊥ = cc in absurd no)
@@ -30,7 +30,7 @@ stands-passed : (b : Bool) (places due : List Place) → cond b (Some places) No
 stands-passed true places due e = (refl, cc)
 stands-passed false places due e = (let no : ⊥ = cc in absurd no)
 
--- a word that may stand where no place is due is that of an option that didn't stand before
+-- a word that may stand if no place is due is that of an option that didn't stand before
 stands-option : (o : Option Choice) (stood : Bool) (due : List Place) → due_after_option o stood ≡ Some due
     → (choice : Choice) × (o ≡ Some choice) × (stood ≡ false) × (values_of choice ≡ due)
 stands-option None stood due e = (let no : ⊥ = cc in absurd no)
@@ -51,7 +51,7 @@ pub record IsRest (kind : CommandKind) (due : List Place) (names before words : 
   pub once : NoneTwice given
   pub new : AllByRecursion (IsNew before) given
 
--- with some more words, where a place is still due, they are that
+-- with some more words, if a place is still due, they are that
 pub record Extension (kind : CommandKind) (due : List Place) (names before words : List (List ℕ)) (later : List Place) : Type 0 where
   pub more : List (List ℕ)
   pub finished : later ≡ [] → more ≡ []
@@ -336,7 +336,7 @@ walk-front kind (word ∷ front) back due names before later e =
     let rest = walk-front kind front back go.0 (names_after here names word) (before ++ word ∷ []) later go.2 in
     (rest.0, ap (λ o. go_on o (length before + 1) (λ places. walk kind front places (names_after here names word) (before ++ word ∷ []))) go.1 ∙ rest.1)
 
--- where the walk stops: the words before that one it accepts, and with that one it doesn't
+-- if the walk stops: the words before that one it accepts, and with that one it doesn't
 pub record StopsAt (kind : CommandKind) (words : List (List ℕ)) (due : List Place) (names before : List (List ℕ)) (number : ℕ) : Type 0 where
   pub taken : ℕ
   pub here : number ≡ length before + taken + 1

@@ -72,7 +72,7 @@ rest_after-more text words i word within is differs =
 pub rest_after-past : (text : List ℕ) (words : List (String Global)) (i : ℕ) → length words ≤ i → rest_after text (drop i (texts words)) ≡ []
 rest_after-past text words i past = rw (texts-past words i past) (rest_after-none text)
 
--- this word is no name, and the names end before it
+-- this word is not a name, and the names end before it
 pub names_front-here : (words : List (String Global)) (i : ℕ) (word : String Global) → i < length words → word ≡ get_or words i word
     → is_file_name (string_bytes word) ≡ false → take i (texts words) ++ names_front (drop i (texts words)) ≡ texts (take i words)
 names_front-here words i word within is no_name =
@@ -81,7 +81,7 @@ names_front-here words i word within is no_name =
     ∙ append-nil (take i (texts words))
     ∙ take-map string_bytes i words
 
--- this word is a name, and the names go on
+-- this word is a name, and the names continue
 pub names_front-more : (words : List (String Global)) (i : ℕ) (word : String Global) → i < length words → word ≡ get_or words i word
     → is_file_name (string_bytes word) ≡ true
     → take i (texts words) ++ names_front (drop i (texts words)) ≡ take (i + 1) (texts words) ++ names_front (drop (i + 1) (texts words))

@@ -131,7 +131,7 @@ names-have list (Names other ∷ places) has = elim (Contains-cases (Names other
     or-later true rest = refl
     or-later false rest = rest
 
--- no name stands behind names
+-- no name stands after names
 after-names : (places : List Place) (front : List (List (List ℕ))) → stops places ≡ true → FitAll places front → NoName (joined front)
 after-names [] [] end fit = tt
 after-names [] (part ∷ front) end fit = absurd fit
@@ -162,7 +162,7 @@ past list slot word words other fit are = elim (cases_Bool (bytes_eq word (keywo
   | inr differs ↦ subst (λ ws. AreNames list (names_front ws)) (sym (rest_after-next (keyword_of list) word words differs)) are
 ]
 
--- the names behind a list's word are those of the list
+-- the names after a list's word are those of the list
 names-there : (list : NameList) (places : List Place) (front : List (List (List ℕ))) → follows list places ≡ true → FitAll places front
     → AreNames list (names_front (rest_after (keyword_of list) (joined front)))
 names-there list [] front e fit = absurd (false≢true e)

@@ -7,7 +7,7 @@ use Rattle.command_words.specs.Slots.{dumps_of, is_dumps, is_file_name}
 use Rattle.command_words.proofs.ReadLemmas.{read-refuses}
 use Rattle.command_words.proofs.WorkedLines.{words_of}
 
--- a prefix of a command's word is no command
+-- a prefix of a command's word is not a command
 pub command_cut : IsRefusedAt (words_of (codes "sho w 1")) 1
 unfolding command_kind_of choice_of is_among rest_after is_file_name is_dumps dumps_of decimal_value
 command_cut = read-refuses (words_of (codes "sho w 1")) 1 refl

@@ -25,7 +25,7 @@ names_place (Word (Keyword list)) name = bytes_eq name (keyword_of list)
 names_place (Names list) name = bytes_eq name (list_name list)
 names_place place name = false
 
--- whether words are what the page calls some places, behind an empty one
+-- whether words are what the page calls some places, after an empty one
 pub name_places : List Place → List (List ℕ) → Bool
 name_places [] [] = true
 name_places (place ∷ places) (name ∷ names) = names_place place name && name_places places names
@@ -125,7 +125,7 @@ pub way_help : option_line Way ≡ codes "  --way         prints each answer on 
 unfolding option_line numbered
 way_help = refl
 
--- the other commands, but for a workload
+-- the other commands, except for a workload
 other_commands_help :
     (command_text Save ≡ codes "  save WORLD RED BLACK --seed N --rounds N [OPTION]..\n      plays a game up to a round, and prints a save of it\n      takes --workers --window --surround --corpse --rest\n")
     × (command_text Resume ≡ codes "  resume SAVE --rounds N [OPTION]..\n      goes on with a saved game, and prints the rest of what run prints\n      takes --dump --workers --stats\n")
@@ -139,7 +139,7 @@ other_commands_help :
 unfolding command_text needed_texts more_text place_lines has_free takes_line free_texts numbered digits
 other_commands_help = (refl, refl, refl, refl, refl, refl, refl, refl, refl)
 
--- the other options, but for `--corpse` and `--labels`
+-- the other options, except for `--corpse` and `--labels`
 other_options_help :
     (option_line Rounds ≡ codes "  --rounds N    how many rounds are played, 0 to 1000000; needed\n")
     × (option_line Workers ≡ codes "  --workers N   threads, 1 to 16; 1\n")

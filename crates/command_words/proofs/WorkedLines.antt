@@ -19,7 +19,7 @@ use Rattle.command_words.proofs.ReadLemmas.{read-accepts, read-refuses}
 abbrev pub words_of : List ℕ → List (List ℕ)
 words_of line = slice_split (λ byte. byte == 32) line
 
--- what is asked for: the name of a file at a place, a number at a place, the names of a list, the number of an option,
+-- what is requested: the name of a file at a place, a number at a place, the names of a list, the number of an option,
 -- the dumps, and whether an option is given
 pub data Answer : Type 0 where
   AtFile : ℕ → List ℕ → Answer
@@ -220,7 +220,7 @@ pub cup_seeds_twice : IsRefusedAt (words_of (codes "cup --worlds w --brains a b 
 unfolding command_kind_of choice_of is_among rest_after is_file_name is_dumps dumps_of decimal_value
 cup_seeds_twice = read-refuses (words_of (codes "cup --worlds w --brains a b --seeds 2 --seeds 2")) 9 refl
 
--- `--games` is no file name, and one brain is too few
+-- `--games` is not a file name, and one brain is too few
 pub cup_games_among_the_names : IsRefusedAt (words_of (codes "cup --worlds w --brains a --games")) 6
 unfolding command_kind_of choice_of is_among rest_after is_file_name is_dumps dumps_of decimal_value
 cup_games_among_the_names = read-refuses (words_of (codes "cup --worlds w --brains a --games")) 6 refl
@@ -231,7 +231,7 @@ pub cup_sixteen : Says Cup (codes "cup --worlds a b c d e f g h i j k l m n o p 
 unfolding command_kind_of choice_of is_among rest_after is_file_name is_dumps dumps_of decimal_value
 cup_sixteen = says _ _ _ refl (refl, (refl, (refl, (refl, (refl, (refl, tt))))))
 
--- `save` has the options of a game but for the dumps and the counts
+-- `save` has the options of a game except for the dumps and the counts
 pub save_defaults : Says Save (codes "save w r b --rounds 2 --seed 1")
     (AtFile 0 (codes "w") ∷ AtFile 1 (codes "r") ∷ AtFile 2 (codes "b") ∷ OptionIs Seed 1 ∷ OptionIs Rounds 2 ∷ DumpsAre NoDump ∷ OptionIs Workers 1 ∷ OptionIs Window 16384 ∷ OptionIs Surround 5 ∷ OptionIs Corpse 3 ∷ OptionIs Rest 14 ∷ IsGivenAs Stats false ∷ IsGivenAs Far false ∷ [])
 unfolding command_kind_of choice_of is_among rest_after is_file_name is_dumps dumps_of decimal_value
@@ -265,7 +265,7 @@ pub resume_with_a_seed : IsRefusedAt (words_of (codes "resume s --seed 1")) 3
 unfolding command_kind_of choice_of is_among rest_after is_file_name is_dumps dumps_of decimal_value
 resume_with_a_seed = read-refuses (words_of (codes "resume s --seed 1")) 3 refl
 
--- without its free option a saved game goes on with one worker
+-- without its free option a saved game continues with one worker
 pub advance_defaults : Says Advance (codes "advance s --rounds 2")
     (AtFile 0 (codes "s") ∷ OptionIs Rounds 2 ∷ OptionIs Workers 1 ∷ [])
 unfolding command_kind_of choice_of is_among rest_after is_file_name is_dumps dumps_of decimal_value
@@ -316,7 +316,7 @@ pub help_spelled_otherwise : IsRefusedAt (words_of (codes "Help")) 1
 unfolding command_kind_of choice_of is_among rest_after is_file_name is_dumps dumps_of decimal_value
 help_spelled_otherwise = read-refuses (words_of (codes "Help")) 1 refl
 
--- they stand alone, and behind no other command
+-- they stand alone, and after no other command
 pub help_alone : IsRefusedAt (words_of (codes "--help run")) 2
 unfolding command_kind_of choice_of is_among rest_after is_file_name is_dumps dumps_of decimal_value
 help_alone = read-refuses (words_of (codes "--help run")) 2 refl
@@ -399,7 +399,7 @@ pub trace_rounds_missing : IsRefusedAt (words_of (codes "trace w r b 1 --seed 1"
 unfolding command_kind_of choice_of is_among rest_after is_file_name is_dumps dumps_of decimal_value
 trace_rounds_missing = read-refuses (words_of (codes "trace w r b 1 --seed 1")) 8 refl
 
--- events and a profile are of a game by the contest's rules, where no option says otherwise
+-- events and a profile are of a game by the contest's rules, if no option says otherwise
 pub events_defaults : Says Events (codes "events w r b --seed 1 --rounds 2")
     (AtFile 0 (codes "w") ∷ AtFile 1 (codes "r") ∷ AtFile 2 (codes "b") ∷ OptionIs Seed 1 ∷ OptionIs Rounds 2 ∷ OptionIs From 0 ∷ OptionIs Surround 5 ∷ OptionIs Corpse 3 ∷ OptionIs Rest 14 ∷ IsGivenAs Food false ∷ [])
 unfolding command_kind_of choice_of is_among rest_after is_file_name is_dumps dumps_of decimal_value

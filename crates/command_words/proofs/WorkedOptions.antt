@@ -15,7 +15,7 @@ use Rattle.command_words.proofs.ReadLemmas.{read-refuses}
 use Rattle.command_words.proofs.WorkedLines.{Says, says, words_of}
 use Rattle.command_words.proofs.WorkedLines.Answer.{AtFile, AtNumber, NamesAre, OptionIs, DumpsAre, IsGivenAs}
 
--- each of these words is refused at this number, where it follows the words of a line
+-- each of these words is refused at this number, if it follows the words of a line
 abbrev AreRefusedAfter : List ℕ → ℕ → List (List ℕ) → Type 0
 AreRefusedAfter line number [] = Unit {0}
 AreRefusedAfter line number (word ∷ words) = IsRefusedAt (words_of line ++ word ∷ []) number × AreRefusedAfter line number words
@@ -30,7 +30,7 @@ refused_after line number [] read = tt
 refused_after line number (word ∷ words) read =
     (read-refuses (words_of line ++ word ∷ []) number read.0, refused_after line number words read.1)
 
--- the options of a game, but for those that follow below
+-- the options of a game, except for those that follow below
 abbrev game_options : List (List ℕ)
 game_options = (codes "--dump") ∷ (codes "--window") ∷ (codes "--surround") ∷ (codes "--corpse") ∷ (codes "--rest") ∷ (codes "--stats") ∷ (codes "--far") ∷ []
 

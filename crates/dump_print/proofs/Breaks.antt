@@ -1,4 +1,4 @@
--- Lines that are pushed behind the LF of the line before, and a last LF, are lines that end in LF.
+-- Lines that are pushed after the LF of the line before, and a last LF, are lines that end in LF.
 use Rattle.std.proofs.Common.{◌≡◌, ℕ, zero, suc, ◌≤◌, Bool, true, false, cond, List, [], ◌++◌, drop, ◌&&◌, ◌==◌, refl, sym, ◌∙◌, ap, append_assoc, append-nil, arith}
 use Rattle.std.proofs.lemmas.Bool.{ne_eqb}
 use Rattle.std.specs.Prelude.{codes}
@@ -9,7 +9,7 @@ use Rattle.ant_base.proofs.Numbered.{numbered-same}
 use Rattle.dump_print.specs.Inner.Breaks.{line_body, row_tail, broken_line, broken_row}
 use Rattle.dump_print.specs.Texts.{cell_line, row_text, cells_text}
 
--- a text may be moved from the front of all parts to their end, where it may at each part
+-- a text may be moved from the front of all parts to their end, if it may at each part
 pub numbered-shift : (lf : List ℕ) (f g : ℕ → List ℕ) (n : ℕ) → ((i : ℕ) → lf ++ f i ≡ g i ++ lf) → lf ++ numbered f n ≡ numbered g n ++ lf
 unfolding numbered
 numbered-shift lf f g zero one = append-nil lf
@@ -20,7 +20,7 @@ numbered-shift lf f g (suc n) one =
     ∙ ap (λ t. numbered g n ++ t) (one n)
     ∙ sym (append_assoc (numbered g n) (g n) lf)
 
--- what stands in front of the first part stands in front of all
+-- what precedes the first part stands in front of all
 numbered-first : (front : List ℕ) (f g : ℕ → List ℕ) (n : ℕ) → f 0 ≡ front ++ g 0 → ((i : ℕ) → f (suc i) ≡ g (suc i)) → numbered f (suc n) ≡ front ++ numbered g (suc n)
 unfolding numbered
 numbered-first front f g zero first same = first
@@ -42,7 +42,7 @@ module _ (w : World) where
   body : ℕ → ℕ → List ℕ
   body y x = line_body x y (w.cells (record { x = x; y = y }))
 
-  -- row y, each line of which is behind an LF
+  -- row y, each line of which is after an LF
   behind : ℕ → List ℕ
   behind y = numbered (λ x. feed ++ body y x) w.width
 
@@ -70,7 +70,7 @@ module _ (w : World) where
     go x true = refl
     go x false = refl
 
-  -- all lines are those behind the LF of the line before, and a last LF
+  -- all lines are those after the LF of the line before, and a last LF
   pub cells_text-broken : 1 ≤ w.width → 1 ≤ w.height → cells_text w ≡ numbered (broken_row w) w.height ++ codes "\n"
   unfolding feed
   cells_text-broken wide high =

@@ -21,7 +21,7 @@ use Rattle.spec_record.specs.Reads.{reads}
 use Rattle.far_crew.specs.Agreement.{AgreesWith}
 use Rattle.far_crew.specs.Jobs.{FoundValue}
 
--- a world of these sizes and so many ids
+-- a world of these sizes and this many ids
 abbrev sized : ℕ → ℕ → ℕ → Grid
 sized width height ids = record { width = width; height = height; ids = ids; cells = [] }
 
@@ -46,8 +46,8 @@ one_id_more minds look guess agrees = let e : 7 ≡ 8 = agrees.game.ids in omega
 pub next_seed : (minds : Minds) (look : LookValue) (guess : ℕ) → ¬ AgreesWith (game minds) (looks_on minds look (sized 7 6 7) 2) look guess
 next_seed minds look guess agrees = let e : 1 ≡ 2 = agrees.game.seed in omega (arith, e)
 
--- the world on which red ants flip and black ones move, as a game begins; and after a round: the black ant of id 1 went
--- from (1, 3) to (2, 3), and the red one of id 2 was killed on (3, 3), where its food lies
+-- the world on which red ants flip and black ones move, at the start of a game; and after a round: the black ant of id
+-- 1 went from (1, 3) to (2, 3), and the red one of id 2 was killed on (3, 3), where its food is
 abbrev start : Grid
 start = opening 7 6 kinds
 
@@ -112,8 +112,7 @@ dead_ant_agrees = record {
   same_ant = record { dead = ((λ dead. refl), (λ dead. refl)); instruction = λ p ant placed is. refl };
 }
 
--- the look of the ant of id 1, which read its own cell first, doesn't agree with the later field, where that cell is
--- empty
+-- the look of the ant of id 1, which read its own cell first, doesn't agree with the later field, if that cell is empty
 pub later_field : ¬ AgreesWith (game_on later) (answer_on start 0 1) (look_on start 0 1) 0
 unfolding look_of reads merged stepped is_surrounded check_at killed_at places_around put_cell same_pos neighbours_of adjacent_pos directions opening cell_in rock floor place_in
 later_field agrees = let emptied : Some (new_ant Black 1) ≡ None = ap (λ (cell : Cell). cell.ant) agrees.cells.0 in (let no : ⊥ = cc in no)

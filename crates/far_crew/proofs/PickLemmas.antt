@@ -74,7 +74,7 @@ AreFilled-set picks n k pick next within filled =
     (λ j early. ap is_some (get_or-set_other picks n j (Some pick) None (λ at. omega arith)) ∙ filled j early)
     (ap is_some (get_or-set_same picks n (Some pick) None within))
 
--- the turns up to one of a window have picks, where those before it do and it has one
+-- the turns up to one of a window have picks, if those before it do and it has one
 module _ (picks : List (Option Pick)) (from to id : ℕ) (first : from ≤ id) (last : id < to) (filled : AreFilled picks (id - from)) where
   pub AreFilled-kept : is_some (get_or picks (id - from) None) ≡ true → AreFilled picks (id + 1 - from)
   AreFilled-kept has = AreFilled-more picks (id - from) (id + 1 - from) (omega arith) filled has

@@ -93,7 +93,7 @@ one_told : (acts_text trapped 12345 (world_of (opening 7 6 ambush)) 1 (Some 4) 0
 unfolding acts_text act_line report_text report_lines seen instruction_words digits seed_text unmade_text after_round after_turn turn stepped check_at is_surrounded killed_at places_around neighbours_of adjacent_pos directions place_in cell_in opening floor rock put_cell same_pos drawn random_at state_at
 one_told = (refl, refl, refl)
 
--- an ant that dies by its own Move acts in that turn, where the Move started
+-- an ant that dies by its own Move acts in that turn, if the Move started
 own_death_told : flat_map (act_lines None) (seen stepping 0 1 (start_of own_death) 2) ≡ codes "round 1, red ant 2: on (1, 2), dir 0, food 0, state 0: Move 0 0: met" ∷ []
 unfolding act_line seen instruction_words digits turn stepped check_at is_surrounded killed_at places_around neighbours_of adjacent_pos directions place_in cell_in opening floor rock put_cell same_pos
 own_death_told = refl

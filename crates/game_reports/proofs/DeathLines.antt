@@ -44,7 +44,7 @@ module _ (sheet : Sheet) (by_id : ℕ → List ℕ) (by_ant : Option PlacedAnt �
   abbrev Agree : Cells → Type 0
   Agree cells = (q : Pos) (ant : Ant) → (cells q).ant ≡ Some ant → by_id ant.id ≡ by_ant (Some (record { place = q; ant = ant }))
 
-  -- where they agree, so do the texts of whom one check kills
+  -- if they agree, so do the texts of whom one check kills
   check-told : (cells : Cells) (p : Pos) → Agree cells → flat_map by_id (killed_at sheet cells p) ≡ flat_map by_ant (dead_at sheet cells p)
   check-told cells p agree =
       elim (cases_Bool (is_surrounded sheet cells p)) [

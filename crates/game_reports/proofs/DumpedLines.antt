@@ -16,7 +16,7 @@ part-stands f i n early =
     let front = numbered-front f (i + 1) n (omega (arith, early)) in
     (numbered f i, front.0, front.1 ∙ ap (λ t. t ++ front.0) (numbered-more f i) ∙ append_assoc (numbered f i) (f i) front.0)
 
--- a line among the lines of a row among the rows, behind three texts
+-- a line among the lines of a row among the rows, after three texts
 regroup : (a b c rows lines line more rest : List ℕ) → a ++ (b ++ (c ++ (rows ++ ((lines ++ (line ++ more)) ++ rest)))) ≡ (a ++ (b ++ (c ++ (rows ++ lines)))) ++ (line ++ (more ++ rest))
 regroup a b c rows lines line more rest = simp append_assoc
 

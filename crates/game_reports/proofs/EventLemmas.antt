@@ -21,7 +21,7 @@ use Rattle.game_reports.specs.Inner.Broken.{broken}
 use Rattle.game_reports.specs.Inner.EventWords.{told_death}
 use Rattle.game_reports.proofs.DeathLines.{acts-told, ant_in-at}
 
--- lines behind LFs and a last LF are lines before LFs, and a first one
+-- lines after LFs and a last LF are lines before LFs, and a first one
 shift : (lines : List (List ℕ)) → codes "\n" ++ flat_map (λ words. words ++ codes "\n") lines ≡ broken lines ++ codes "\n"
 shift [] = refl
 shift (words ∷ lines) =

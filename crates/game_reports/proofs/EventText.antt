@@ -59,7 +59,7 @@ pub lines-still : (food : Bool) (it : Seen) → moves_food it.instruction ≡ fa
 lines-still food it still =
     ap (λ (lines : List (List ℕ)). map (death_line it.round it.ant) it.killed ++ (lines ++ map (score_line it.round it.ant) (changed_score it.before it.after))) (food-still food it still)
 
--- a turn adds no line of food, or one is asked for
+-- a turn adds no line of food, or one is requested
 pub lines-plain : (food : Bool) (it : Seen) → (moves_food it.instruction && food) ≡ false → event_lines food it ≡ event_lines false it
 lines-plain food it none = go (moves_food it.instruction) food refl none
   where

@@ -120,11 +120,8 @@ within a b c d e f g h i j k l m n o p =
     ∷ Rock ∷ m ∷ n ∷ o ∷ p ∷ Rock
     ∷ Rock ∷ Rock ∷ Rock ∷ Rock ∷ Rock ∷ Rock ∷ []))
 
--- without ids the ants are
---     - - . .
---      + . - .
---     - - . .
--- and the red one steps into the middle of five foes: it dies there, on its new cell, which is no hill
+-- without ids the ants are     - - . .      + . - .     - - . . and the red one steps into the middle of five foes: it
+-- dies there, on its new cell, which is not a hill
 abbrev pub own_death : World
 own_death = within BlackHill BlackHill Clear Clear RedHill Clear BlackHill Clear BlackHill BlackHill Clear Clear Clear Clear Clear Clear
 
@@ -137,7 +134,7 @@ own_noted : dead_in stepping own_death 2 ≡ Some (record { place = at 2 2; ant 
 unfolding dead_in dead_at stepped check_at is_surrounded places_around neighbours_of adjacent_pos directions place_in cell_in opening floor rock put_cell same_pos
 own_noted = refl
 
--- the one clear cell of a world, of this hill and with so much food, on which a red ant stands that is laden or not
+-- the one clear cell of a world, of this hill and with this much food, on which a red ant stands that is laden or not
 abbrev pub alone_on : Colour → ℕ → Bool → World
 alone_on hill food laden =
     put (world_of (opening 3 3 one_hill)) (at 1 1) (record floor { hill = Some hill; food = food; ant = Some (record { id = 0; colour = Red; state = 0; resting = 0; facing = East; laden = laden }) })

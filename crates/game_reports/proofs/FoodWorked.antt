@@ -32,7 +32,7 @@ use Rattle.game_reports.specs.Events.{event_lines}
 use Rattle.game_reports.specs.Report.{report_lines, report_text}
 use Rattle.game_reports.proofs.EventsWorked.{one_laden, stepping}
 
--- the one clear cell of a world, of this hill and with so much food, on which a black ant stands in state 1 that is
+-- the one clear cell of a world, of this hill and with this much food, on which a black ant stands in state 1 that is
 -- laden or not
 abbrev on_cell : Option Colour → ℕ → Bool → World
 on_cell hill food laden =
@@ -56,7 +56,7 @@ hill_told : (food_told true (Drop 0) (on_cell (Some Black) 0 true) ≡ codes "ro
 unfolding seen digits turn place_in cell_in opening floor rock put_cell same_pos score_of hill_food_of
 hill_told = (refl, refl, refl, refl)
 
--- what does nothing isn't told: a Drop of an ant that carries nothing, a PickUp of a laden one or where no food lies, a
+-- what does nothing isn't told: a Drop of an ant that carries nothing, a PickUp of a laden one or if no food lies, a
 -- Move
 idle_untold : (food_told true (Drop 0) (on_cell (Some Red) 2 false) ≡ [])
     × (food_told true (PickUp 0 0) (on_cell (Some Red) 2 true) ≡ [])

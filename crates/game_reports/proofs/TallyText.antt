@@ -39,7 +39,7 @@ pub both-tallied : (minds : Minds) (list : List Executed) (tallies : Tallies) �
 both-tallied minds list tallies red black Red = red
 both-tallied minds list tallies red black Black = black
 
--- where nothing was counted, no state has a count
+-- if nothing was counted, no state has a count
 no_count : (minds : Minds) (tallies : Tallies) → AreTallied minds [] tallies → (colour : Colour) (state : ℕ) → slice_index_or (tallies_of tallies colour) state no_tally ≡ no_tally
 unfolding times_of met_of
 no_count minds tallies counted colour state =

@@ -15,7 +15,7 @@ use Rattle.game_reports.specs.Inner.WayWords.{broken_end, broken_line, worlds_fr
 use Rattle.game_reports.specs.Trace.{trace_text, unmade_text, way_text}
 use Rattle.game_reports.proofs.WayLines.{way-shift}
 
--- the words of the seed, what stands behind them, and the last LF
+-- the words of the seed, what follows them, and the last LF
 pub trace_text-parts : (minds : Minds) (seed : ℕ) (w : World) (rounds id from : ℕ) → trace_text minds seed w rounds id from ≡ seed_words seed ++ (broken_end minds seed w rounds id from ++ codes "\n")
 unfolding trace_text broken_end seed_text unmade_text
 trace_text-parts minds seed w rounds id from = go (nat_lt id w.ids)
@@ -35,7 +35,7 @@ pub broken_end-unmade : (minds : Minds) (seed : ℕ) (w : World) (rounds id from
 unfolding broken_end
 broken_end-unmade minds seed w rounds id from unmade = cond-false _ _ _ (le-ltb id w.ids unmade)
 
--- where one was, but no round is told
+-- if one was, but no round is told
 pub broken_end-none : (minds : Minds) (seed : ℕ) (w : World) (rounds id from : ℕ) → id < w.ids → rounds < from → broken_end minds seed w rounds id from ≡ []
 unfolding broken_end
 broken_end-none minds seed w rounds id from made later =

@@ -13,7 +13,7 @@ use Rattle.match_run.proofs.AloneLemmas.{IsPlayedOn-world}
 use Rattle.game_reports.specs.Inner.WayWords.{broken_line, told_of, words_of, worlds_from}
 use Rattle.game_reports.specs.Trace.{lives_in_first, told_line, way_line, way_text}
 
--- a line behind an LF is the line with its LF behind it
+-- a line after an LF is the line with its LF after it
 feed-line : (round : ℕ) (w : World) (place : Option Pos) → codes "\n" ++ way_line round w place ≡ words_of (told_of w round place) ++ codes "\n"
 unfolding cell_line
 feed-line round w None = simp append_assoc
@@ -23,7 +23,7 @@ feed-line round w (Some p) = simp append_assoc
 pub lives-more : (worlds : ℕ → World) (id n : ℕ) → lives_in_first worlds id n ≡ true → lives_in_first worlds id (n + 1) ≡ is_some (place_in (worlds n) id)
 lives-more worlds id n lives = rw add-one (ap (λ b. b && is_some (place_in (worlds n) id)) lives)
 
--- the text of one line more, where the ant lived before
+-- the text of one line more, if the ant lived before
 pub broken-more : (worlds : ℕ → World) (id from n : ℕ) → lives_in_first worlds id n ≡ true
     → numbered (broken_line worlds id from) (n + 1) ≡ numbered (broken_line worlds id from) n ++ words_of (told_of (worlds n) (from + n) (place_in (worlds n) id))
 unfolding broken_line
@@ -50,7 +50,7 @@ broken-dead worlds id from k more dead = go more
         ∙ ap₂ (λ a b. a ++ b) (go n) (cond-false _ _ _ (still n))
         ∙ append-nil (numbered (broken_line worlds id from) k)
 
--- the lines behind an LF are the lines that are pushed, and an LF behind them
+-- the lines after an LF are the lines that are pushed, and an LF after them
 pub way-shift : (worlds : ℕ → World) (id from n : ℕ) → codes "\n" ++ way_text worlds id from n ≡ numbered (broken_line worlds id from) n ++ codes "\n"
 unfolding way_text told_line broken_line
 way-shift worlds id from n =
@@ -61,7 +61,7 @@ way-shift worlds id from n =
     go true line words same = same
     go false line words same = refl
 
--- it is the last line exactly where the ant is dead
+-- it is the last line exactly if the ant is dead
 pub last-dead : (w : World) (round : ℕ) (place : Option Pos) → is_none (told_of w round place).cell ≡ true → is_some place ≡ false
 last-dead w round None last = refl
 last-dead w round (Some p) last = absurd (cc)

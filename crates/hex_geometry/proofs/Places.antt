@@ -12,7 +12,7 @@ at x y = record { x = x; y = y }
 pub pos_same : {p q : Pos} → p.x ≡ q.x → p.y ≡ q.y → p ≡ q
 pos_same {p} {q} columns rows = ap (λ x. at x p.y) columns ∙ ap (at q.x) rows
 
--- where the test holds, the positions are one
+-- if the test holds, the positions are one
 pub same_pos_true : (p q : Pos) → same_pos p q ≡ true → p ≡ q
 unfolding same_pos
 same_pos_true p q same =
@@ -28,7 +28,7 @@ same_pos_self p = and_from _ _ (eq-eqb p.x p.x refl) (eq-eqb p.y p.y refl)
 pub same_pos_equal : (p q : Pos) → p ≡ q → same_pos p q ≡ true
 same_pos_equal p q e = subst (λ r. same_pos p r ≡ true) e (same_pos_self p)
 
--- where it does not hold, the positions are two
+-- if it does not hold, the positions are two
 pub same_pos_false : (p q : Pos) → same_pos p q ≡ false → p ≢ q
 same_pos_false p q apart e = false≢true (sym apart ∙ same_pos_equal p q e)
 

@@ -28,7 +28,7 @@ index_of-below width height x y column row = grind arith
 pub index_of-inside : (width height : ℕ) (p : Pos) → IsInside width height p → index_of width p < width * height
 index_of-inside width height p inside = index_of-below width height p.x p.y inside.column inside.row
 
--- where a list has an item for each cell, there is one at the number of a position inside
+-- if a list has an item for each cell, there is one at the number of a position inside
 pub index_of-early : {A : Type 0} (items : List A) (width height : ℕ) (p : Pos) → length items ≡ width * height → IsInside width height p → index_of width p < length items
 index_of-early items width height p full inside = subst (λ n. index_of width p < n) (sym full) (index_of-inside width height p inside)
 
@@ -42,7 +42,7 @@ pos_at-inside width height i early =
 above : (width : ℕ) (p q : Pos) → p.x < width → p.y < q.y → index_of width p < index_of width q
 above width p q column row = let rows : (p.y + 1) * width ≤ q.y * width = mul-le (p.y + 1) width q.y width (omega arith) (omega arith) in omega arith
 
--- a position stands before another exactly where its number is less
+-- a position stands before another exactly if its number is less
 pub IsBefore-index_of : (width : ℕ) (p q : Pos) → p.x < width → q.x < width → IsBefore p q ↔ (index_of width p < index_of width q)
 IsBefore-index_of width p q left right = (
   λ before. elim (cases_lt p.y q.y) [

@@ -154,7 +154,7 @@ stay p q e = record { positions = []; steps = refl; leads = e }
 go_on : (k : ℕ) (p q : Point) (d : Dir) → Walk k (adjacent_point p d) q → Walk (suc k) p q
 go_on k p q d walk = record { positions = adjacent_point p d ∷ walk.positions; steps = ap suc walk.steps; leads = ((d, refl), walk.leads) }
 
--- where the differences are at most k, so many steps are enough
+-- if the differences are at most k, this many steps are enough
 within_walk : (k : ℕ) (p q : Point) → Within k p q → (j : ℕ) × (j ≤ k) × Walk j p q
 within_walk zero p q w = (0, omega arith, stay p q (within_none p q w))
 within_walk (suc k) p q w =

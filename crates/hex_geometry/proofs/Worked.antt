@@ -44,7 +44,7 @@ around_the_edge = record { positions = place (negsuc 0) (pos 1) ∷ place (pos 0
 pub two_rows_down : IsDistance (point_of (at 0 0)) (point_of (at 0 2)) 2
 two_rows_down = distance_is (at 0 0) (at 0 2) 2 (omega arith) (omega arith) refl
 
--- two columns and a row on, where the greater difference of coordinates would be too few steps, and their sum too many
+-- two columns and a row on: the greater difference of coordinates would be too few steps, and their sum too many
 pub across_and_down : IsDistance (point_of (at 3 3)) (point_of (at 1 5)) 3
 across_and_down = distance_is (at 3 3) (at 1 5) 3 (omega arith) (omega arith) refl
 

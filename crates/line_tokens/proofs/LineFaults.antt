@@ -1,4 +1,4 @@
--- The first fault of a text's lines, as the search finds it and as what stands before it.
+-- The first fault of a text's lines, as the search finds it and as what precedes it.
 use Rattle.std.proofs.Common.{◌≡◌, ◌+◌, ◌<◌, ◌≤◌, ℕ, Bool, true, false, List, [], ◌∷◌, ◌++◌, length, Option, Some, None, Ok, Err, cond, nat_le, refl, sym, ap, ◌∙◌, arith, leb-false}
 use Rattle.std.specs.Option.{option_or}
 use Rattle.std.proofs.lemmas.Bool.{lt-leb}
@@ -20,7 +20,7 @@ pub record IsFaithful {A P F : Type 0} (r : Reader A P F) (Says : List (List ℕ
   pub again : (item : A) (tokens : List (List ℕ)) → Says tokens item → r.read tokens ≡ Ok item
   pub faulted : (line : ℕ) (tokens : List (List ℕ)) → first line tokens ≡ fault_of_read r.refused line (r.read tokens)
 
--- the fault of a line before which so many items stand
+-- the fault of a line before which this many items stand
 abbrev pub line_fault : {A P F : Type 0} → Reader A P F → (ℕ → List (List ℕ) → Option F) → ℕ → TokenLine → Option F
 line_fault r first before line = option_or (too_many r.most r.beyond before line.number) (first line.number line.tokens)
 
@@ -30,7 +30,7 @@ record IsGood {A P F : Type 0} (r : Reader A P F) (Says : List (List ℕ) → A 
   says : Says line.tokens item
   room : before < r.most
 
--- a line at fault among these, before which so many stand
+-- a line at fault among these, before which this many stand
 record IsFound {A P F : Type 0} (r : Reader A P F) (Says : List (List ℕ) → A → Type 0) (first : ℕ → List (List ℕ) → Option F) (n : ℕ) (lines : List TokenLine) (fault : F) : Type 0 where
   before : List TokenLine
   line : TokenLine
@@ -68,7 +68,7 @@ module _ {A P F : Type 0} (r : Reader A P F) (Says : List (List ℕ) → A → T
       ∙ first_line_fault-pass before (n + 1) rest read are.1 (omega (arith, few))
       ∙ ap (λ k. first_line_fault (line_fault r first) k rest) (let same : n + 1 + length before ≡ n + length (line ∷ before) = omega arith in same)
 
-  -- where all lines are those of items, none is at fault
+  -- if all lines are those of items, none is at fault
   pub first_line_fault-none : (lines : List TokenLine) (list : List A) → AreLinesOf Says lines list → length lines ≤ r.most → first_line_fault (line_fault r first) 0 lines ≡ None
   first_line_fault-none lines list are few =
       ap (first_line_fault (line_fault r first) 0) (sym (append-nil lines)) ∙ first_line_fault-pass lines 0 [] list are (omega (arith, few))

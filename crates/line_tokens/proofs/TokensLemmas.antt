@@ -14,7 +14,7 @@ by_separator P space tab cr byte h =
     (λ e. subst P (sym (eqb-true byte 13 e)) cr)
     (or_cases (eqb byte 32 || eqb byte 9) (eqb byte 13) h)
 
--- what is no token byte is a separator or begins a comment
+-- what is not a token byte is a separator or begins a comment
 by_no_token_byte : (P : ℕ → Type 0) → ((byte : ℕ) → is_separator byte ≡ true → P byte) → P 59 → (byte : ℕ) → is_token_byte byte ≡ false → P byte
 by_no_token_byte P separator comment byte h =
     ⊎_elim (separator byte) (λ f. subst P (sym (eqb-true byte 59 f)) comment) (or_cases (is_separator byte) (begins_comment byte) (not-false (is_separator byte || begins_comment byte) h))
@@ -60,7 +60,7 @@ begins_separator-past (byte ∷ line) = go (is_separator byte) refl (begins_sepa
     go true e rest = rw one-add rest
     go false e rest = e
 
--- Where no token stands in front, the first piece is empty.
+-- If no token stands in front, the first piece is empty.
 pieces-ended : (line : List ℕ) → begins_token line ≡ false → (rest : List (List ℕ)) × (pieces line ≡ [] ∷ rest)
 pieces-ended [] none = ([], refl)
 pieces-ended (byte ∷ line) none =
@@ -68,7 +68,7 @@ pieces-ended (byte ∷ line) none =
     (by_separator (λ b. (rest : List (List ℕ)) × (pieces (b ∷ line) ≡ [] ∷ rest)) (pieces line, refl) (pieces line, refl) (pieces line, refl))
     ([], refl) byte none
 
--- Where neither a token nor a separator stands in front, there is no token.
+-- If neither a token nor a separator stands in front, there is no token.
 tokens_of-ended : (line : List ℕ) → begins_token line ≡ false → begins_separator line ≡ false → tokens_of line ≡ []
 tokens_of-ended [] none bare = refl
 tokens_of-ended (byte ∷ line) none bare =
@@ -105,7 +105,7 @@ has_any-token (byte ∷ line) = go (is_token_byte byte)
     go true = rw one-add refl
     go false = refl
 
--- whether a line has a token, behind the separators in front
+-- whether a line has a token, after the separators in front
 has_token-past : (line : List ℕ) → begins_separator line ≡ false → begins_token line ≡ has_token (tokens_of line)
 has_token-past line none = go (begins_token line) refl
   where
@@ -124,12 +124,12 @@ has_any-length [] true e = sym e
 has_any-length (byte ∷ token) false e = let z : suc (length token) ≡ 0 = eqb-true (suc (length token)) 0 e in absurd (omega arith)
 has_any-length it that e = refl
 
--- a token of no byte is no cut
+-- a token of no byte is not a cut
 cut_nothing : (line token rest : List ℕ) → IsCut line token rest → has_any token ≡ false → tokens_of rest ≡ tokens_of line
 cut_nothing line token rest c none =
     ap (filter has_any) c.left ∙ sym (ap (filter has_any) c.whole ∙ ap (λ b. cond b (token ∷ filter has_any c.others) (filter has_any c.others)) none)
 
--- the token behind the separators in front
+-- the token after the separators in front
 pub next_of : (line start token rest : List ℕ) (n : ℕ) → start ≡ after_separators line → n ≡ prefix_len is_token_byte start → token ≡ take n start → rest ≡ drop n start → IsNext line token rest
 next_of line start token rest n start_is n_is token_is rest_is =
     record {

@@ -12,7 +12,7 @@ use Rattle.round_book.proofs.BookLemmas.{moment_at}
 use Rattle.match_run.specs.Alone.{IsPlayedOn, GameAloneValue, standing}
 use Rattle.match_run.specs.Inner.Alone.{moment_from}
 
--- a world and a stream are those after so many turns of a round that starts with others
+-- a world and a stream are those after this many turns of a round that starts with others
 pub record IsTaken (minds : Minds) (first : Grid) (start : SeedAndPlace) (turns : ℕ) (grid : Grid) (stream : SeedAndPlace) : Type 0 where
   pub moment : moment_from grid stream ≡ after_turns minds start.seed (moment_from first start) 0 turns
   pub seed : stream.seed ≡ start.seed

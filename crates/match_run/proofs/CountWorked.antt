@@ -39,7 +39,7 @@ cut : (windows_of 7 7 ≡ 1) × (windows_of 3 7 ≡ 3) × (windows_of 1 7 ≡ 7)
 cut = (refl, refl, refl, refl, refl, refl)
 
 -- a round of seven turns: red ants flip, a black one moves and kills the red ant of id 2. In one window two turns are
--- executed anew; in windows of three, that of the killed ant alone; in windows of one turn, none
+-- executed again; in windows of three, that of the killed ant alone; in windows of one turn, none
 one_round :
     (totals_of minds 12345 7 (start_of field) 1 ≡ record { turns = 7; taken = 5; redone = 2 })
     × (totals_of minds 12345 3 (start_of field) 1 ≡ record { turns = 7; taken = 6; redone = 1 })

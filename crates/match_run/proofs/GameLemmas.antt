@@ -32,7 +32,7 @@ IsGame-beginning field window whole early sized = record {
   early = early;
 }
 
--- a game that can go on is a game
+-- a game that can continue is a game
 pub IsGame-game_at_round : (field : FieldValue) (window done : ℕ) (totals : Totals) → CanGoOn field window done totals → IsGame (game_at_round field window done totals)
 IsGame-game_at_round field window done totals can = record {
   whole = can.whole;

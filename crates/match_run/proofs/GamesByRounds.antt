@@ -1,4 +1,4 @@
--- Games that go on by rounds.
+-- Games that continue by rounds.
 use Rattle.std.proofs.Common.{◌≡◌, ℕ, zero, suc, ◌+◌, ◌≤◌, refl, sym, ◌∙◌, ap, subst, arith}
 use Rattle.ant_turn.specs.HillLaws.{game_after}
 use Rattle.ant_turn.specs.Rounds.{Moment, after_rounds, start_of}
@@ -14,7 +14,7 @@ use Rattle.match_run.proofs.CountLaws.{broken_rounds_go_on}
 use Rattle.match_run.proofs.CountLemmas.{none-both}
 use Rattle.match_run.proofs.PlayLemmas.{GoesOnFor-more, GoesOnFor-none}
 
--- a round that was refused and gone on with is a round
+-- a round that was refused and continued is a round
 at-last : (refusals : ℕ) (old new : GameValue) → 1 ≤ old.window → IsRoundAtLast refusals old new → IsRoundPlayed old new
 at-last zero old new sized played = played
 at-last (suc refusals) old new sized (mid, refused, rest) =

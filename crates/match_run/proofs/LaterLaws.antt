@@ -61,7 +61,7 @@ dumps_text-first : (minds : Minds) (seed : ℕ) (chosen : ℕ → Bool) (w : Wor
 unfolding dumps_text numbered world_after
 dumps_text-first minds seed chosen w = refl
 
--- where it is just played, the dump of the start comes behind the line of the seed, if it is chosen, and then the rest
+-- if it is just played, the dump of the start comes after the line of the seed, if it is chosen, and then the rest
 pub run_text-start : (minds : Minds) (seed : ℕ) (w : World) (rounds : ℕ) (chosen : ℕ → Bool) → run_text minds seed rounds chosen w
     ≡ seed_text seed ++ (chosen_dump chosen w 0 ++ plain_later_text minds seed (start_of w) 0 rounds chosen)
 run_text-start minds seed w rounds chosen =
@@ -99,7 +99,7 @@ unfolding later_text plain_later_text
 later_text-parts minds seed size m round totals rounds chosen stats =
     append_assoc (later_dumps minds seed chosen m round (rounds - round)) (score_text (score_of (after_rounds minds seed m (rounds - round)).world)) (counts_text stats (both totals (totals_of minds seed size m (rounds - round))))
 
--- where no counts are asked for, it is that without them
+-- if no counts are requested, it is that without them
 pub later_text-plain : (minds : Minds) (seed size : ℕ) (m : Moment) (round : ℕ) (totals : Totals) (rounds : ℕ) (chosen : ℕ → Bool) → later_text minds seed size m round totals rounds chosen false ≡ plain_later_text minds seed m round rounds chosen
 unfolding later_text
 later_text-plain minds seed size m round totals rounds chosen = append-nil (plain_later_text minds seed m round rounds chosen)

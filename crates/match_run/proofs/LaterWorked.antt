@@ -17,8 +17,8 @@ use Rattle.match_run.proofs.RunWorked.{nobody, stone}
 abbrev earlier : Totals
 earlier = record { turns = 5; taken = 4; redone = 1 }
 
--- after the first of three rounds, of which the first two are dumped: the second dump alone is left, and the counts go
--- on from the earlier ones
+-- after the first of three rounds, of which the first two are dumped: the second dump alone is left, and the counts
+-- continue from the earlier ones
 two_rounds_left : later_text nobody 12345 3 (start_of stone) 1 earlier 3 (has_round (0 ∷ 1 ∷ 2 ∷ [])) true
     ≡ codes "\nAfter round 2...\ncell (0, 0): rock\n" +++ codes "\nscore: red 0 black 0\n" +++ codes "turns 5 taken 4 redone 1\n"
 unfolding later_text plain_later_text later_dumps numbered dump_text cells_text row_text cell_line content_text rock score_text score_of hill_food_of stats_text after_round round_totals digits

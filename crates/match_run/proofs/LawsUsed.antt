@@ -58,7 +58,7 @@ no_dumps_used : NoDumps → run_text nobody 12345 2 (chooses Nothing) stone ≡ 
 unfolding world_after seed_text rock score_text score_of hill_food_of after_round digits
 no_dumps_used law = law nobody 12345 2 stone
 
--- a list in another order, with a round once in place of twice, and with one that isn't played
+-- a list in another order, with a round once instead of twice, and with one that isn't played
 same_rounds_used : SameRounds → run_text nobody 12345 2 (has_round (0 ∷ 2 ∷ 7 ∷ [])) stone ≡ start_and_end
 same_rounds_used law = law nobody 12345 2 stone (0 ∷ 2 ∷ 7 ∷ []) (2 ∷ 0 ∷ 2 ∷ []) there back ∙ text_of_two_rounds
   where

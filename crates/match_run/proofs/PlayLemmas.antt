@@ -37,7 +37,7 @@ stopped_then old mid new a b OutOfMemory p q = record {
   pushed = all_then old mid new a q.front p q.pushed;
 }
 
--- a game at the end of a round, before it goes on
+-- a game at the end of a round, before it continues
 pub GoesOnFor-none : (game : GameValue) → game.next ≡ 0 → GoesOnFor game game 0
 GoesOnFor-none game ends = record {
   now = refl;
@@ -105,7 +105,7 @@ pub later_dumps-front : (minds : Minds) (seed : ℕ) (chosen : ℕ → Bool) (m 
 unfolding later_dumps
 later_dumps-front minds seed chosen m round i n le = numbered-front (λ k. chosen_dump chosen (after_rounds minds seed m (k + 1)).world (round + k + 1)) i n le
 
--- a round that wasn't shown stops the dumps up to it and whatever text comes behind them, which has something
+-- a round that wasn't shown stops the dumps up to it and whatever text comes after them, which has something
 pub stopped-shown : {first : GameValue} {round : ℕ} {old : GameValue} (sink mid new_sink : SinkState) (chosen : ℕ → Bool) → GoesOnFor first old round → (new : GameValue) (fault : PushFault)
     → PushedAll sink mid (later_dumps first.field.minds first.field.seed chosen (now_of first) first.done round) → RoundStopped old new chosen (first.done + round + 1) mid new_sink fault
     → (rest : List ℕ) → 1 ≤ length rest → StoppedBy sink new_sink (later_dumps first.field.minds first.field.seed chosen (now_of first) first.done (round + 1) ++ rest) fault
@@ -168,7 +168,7 @@ pub by_then : {A : Type 0} (old mid new : SinkState) (a b : List ℕ) (result : 
 by_then old mid new a b (Ok _) p q = all_then old mid new a b p q
 by_then old mid new a b (Err fault) p q = stopped_then old mid new a b fault p q
 
--- a crew's count of turns goes on with a round
+-- a crew's count of turns continues with a round
 pub counted-round : (first mid new before after turns ids round : ℕ) → mid ≡ counted_on first (ids * round) → new ≡ counted_on mid (after - before) → before ≡ turns + ids * round → after ≡ turns + ids * (round + 1) → new ≡ counted_on first (ids * (round + 1))
 counted-round first mid new before after turns ids round so_far step is_before is_after = omega arith
 
@@ -176,11 +176,11 @@ counted-round first mid new before after turns ids round so_far step is_before i
 pub counted-start : (played ids : ℕ) → played < 2 ^ 64 → played ≡ counted_on played (ids * 0)
 counted-start played ids small = omega arith
 
--- a crew's count of turns goes on with the turns of a round that wasn't shown
+-- a crew's count of turns continues with the turns of a round that wasn't shown
 pub counted-stopped : (first mid new before turns after ids round : ℕ) → mid ≡ counted_on first (ids * round) → new ≡ counted_on mid (after - turns) → turns ≡ before + ids * round → turns ≤ after → new ≡ counted_on first (after - before)
 counted-stopped first mid new before turns after ids round so_far step is_turns le = omega arith
 
--- so many turns of the ids are those of so many rounds at most
+-- this many turns of the ids are those of this many rounds at most
 pub rises-rounds : (first new before after ids round rounds : ℕ) → first < 2 ^ 64 → new ≡ counted_on first (after - before) → after ≤ before + ids * (round + 1) → round < rounds → RisesUpTo first new (ids * rounds)
 rises-rounds first new before after ids round rounds small counted le more =
     let all : ids * (round + 1) ≤ ids * rounds = mul-le ids (round + 1) ids rounds (omega arith) (omega arith) in

@@ -67,7 +67,7 @@ flipping = contest_minds (Flip 4 0 1 ∷ Flip 4 2 1 ∷ Drop 2 ∷ []) (Drop 0 �
 abbrev state_in : World → Option ℕ
 state_in w = option_map (λ (ant : Ant). ant.state) (w.cells (record { x = 1; y = 1 })).ant
 
--- round 0 is the start, and each round goes on where the one before it stopped
+-- round 0 is the start, and each round continues where the one before it stopped
 pub states_follow : map (λ round. state_in (world_after flipping 12345 (world_of (opening 3 3 one_hill)) round)) (0 ∷ 1 ∷ 2 ∷ []) ≡ Some 0 ∷ Some 1 ∷ Some 2 ∷ []
 unfolding world_after after_round after_turn turn place_in cell_in opening floor rock put_cell same_pos drawn random_at state_at
 states_follow = refl

@@ -70,7 +70,7 @@ pub seen-acts : (minds : Minds) (seed round : ℕ) (m : Moment) (it : PlacedAnt)
 seen-acts minds seed round m it found is ready = seen-there minds seed round m it.ant.id it.place it.ant found is ∙ ap (λ n. seen_by n minds seed round m it.ant.id it.place it.ant) ready
 
 module _ (f : ℕ → ℕ → ℕ) (w : World) where
-  -- each ant is the same but for its rest
+  -- each ant is the same except for its rest
   unrested-with_rest : (o : Option Ant) → option_map unrested (option_map (with_rest f) o) ≡ option_map unrested o
   unrested-with_rest None = refl
   unrested-with_rest (Some ant) = refl

@@ -11,8 +11,8 @@ use Rattle.match_run.specs.Alone.{GameAloneValue, standing}
 use Rattle.match_run.specs.Stopped.{LosesDump, LosesScore, LosesText}
 
 module _ (old new : GameAloneValue) (sink new_sink : SinkState) where
-  -- of three rounds that are all dumped the sink failed at one: the game stands after that round, where the rules lead,
-  -- and the dumps before it were pushed
+  -- of three rounds that are all dumped the sink failed at one: the game is after that round, where the rules lead, and
+  -- the dumps before it were pushed
   loses_dump_used : (lost : LosesDump old new 3 (λ _. true) sink new_sink) →
       (lost.shown < 3) × (new.done ≡ old.done + (lost.shown + 1)) × (standing new ≡ after_rounds old.minds old.seed (standing old) (lost.shown + 1))
       × PushedAll sink lost.mid (later_dumps old.minds old.seed (λ _. true) (standing old) old.done lost.shown)

@@ -19,7 +19,7 @@ use Rattle.match_run.specs.Watch.{IsFair, IsWatched, IsAtMoment, moment_of}
 use Rattle.match_run.proofs.RestsUntold.{told_in_turns-then}
 use Rattle.match_run.proofs.ToldLemmas.{told_in_rounds-front, told_in_rounds-more, told_in_turns-front}
 
--- what the exit of a `?` returns, where the error stays as it is
+-- what the exit of a `?` returns, if the error stays as it is
 pub err_is : {T E : Type 0} (result : Result T E) (stop : E) → IsErrAnd result (λ e. e ≡ stop) → result ≡ Err stop
 err_is (Ok _) stop is = absurd is
 err_is (Err _) stop is = ap Err is
@@ -138,7 +138,7 @@ module _ {A Log Stop : Type 0} {telling : ℕ → Telling A} {logs : Log → Log
         goes left (fair.fewer old (left + turns) (most - turns) (subst (ready old) (let e : left + most ≡ (left + turns) + (most - turns) = omega (arith, within) in e) has))) watched.room;
   }
 
-  -- a game that was ended is ended, whatever comes behind
+  -- a game that was ended is ended, whatever comes after it
   pub IsWatched-front : {start s : SeedAndPlace} {old new : Log} {told : List A} {turns : ℕ} {m : Moment} {w : World} {stop : Stop} → IsWatched logs ready minds start old new told turns m w s (Err stop)
       → (rest : List A) (all : ℕ) (end : Moment) → IsWatched logs ready minds start old new (told ++ rest) all end w s (Err stop)
   IsWatched-front {start} {s} {old} {new} {told} {turns} {m} {w} {stop} ended rest all end = record { logged = fair.front old new told rest stop ended.logged; stands = tt; place = tt; room = tt }
@@ -164,7 +164,7 @@ module _ {A Log Stop : Type 0} {telling : ℕ → Telling A} {logs : Log → Log
         ∙ ap (after_turns minds start.seed m 0) all in
         IsWatched-as told all led (IsWatched-then first (λ seed now. after_turns minds seed now k (to - k)) (λ seed now. told_in_turns (tell seed) minds seed now k (to - k)) (to - k) result then)
 
-    -- where the game is ended in some of a round's turns, it is ended in all of them
+    -- if the game is ended in some of a round's turns, it is ended in all of them
     pub IsWatched-ended : {k : ℕ} {old new : Log} {w : World} {s : SeedAndPlace} {stop : Stop}
         → IsWatched logs ready minds start old new (told_in_turns (tell start.seed) minds start.seed (moment_of w₀ start) 0 k) k (after_turns minds start.seed (moment_of w₀ start) 0 k) w s (Err stop)
         → (n : ℕ) → k ≤ n → (all : ℕ) (end : Moment)
@@ -272,7 +272,7 @@ module _ {A Log Stop : Type 0} {telling : ℕ → Telling A} {logs : Log → Log
       IsWatched-as fair minds (sym (told_in_rounds-more minds start.seed (tell start.seed) (moment_of w₀ start) k)) (let e : k * most_ants + most_ants ≡ (k + 1) * most_ants = omega arith in e) (sym (after_rounds-more minds start.seed (moment_of w₀ start) k))
       (IsWatched-then fair minds first (λ seed now. after_round minds seed now) (λ seed now. told_in_round (tell seed (k + 1)) minds seed now) most_ants result then)
 
-  -- where the game is ended in some of the rounds, it is ended in all
+  -- if the game is ended in some of the rounds, it is ended in all
   pub IsWatched-broken : (k : ℕ) {old new : Log} {w : World} {s : SeedAndPlace} {stop : Stop} {turns : ℕ} {m : Moment}
       → IsWatched logs ready minds start old new (told_in_rounds (tell start.seed) minds start.seed (moment_of w₀ start) k) turns m w s (Err stop)
       → (n : ℕ) → k ≤ n → (all : ℕ) (end : Moment)

@@ -100,6 +100,6 @@ module _ {old : FieldValue} {size from : ℕ} {totals : Totals} {mid : FieldValu
 pub counted-none : (played turns : ℕ) → played < 2 ^ 64 → played ≡ counted_on played (turns - turns)
 counted-none played turns small = omega arith
 
--- a crew's count of turns goes on with the turns of the totals
+-- a crew's count of turns continues with the turns of the totals
 pub counted-more : (first mid new before turns later more : ℕ) → mid ≡ counted_on first (turns - before) → new ≡ counted_on mid more → before ≤ turns → later ≡ turns + more → new ≡ counted_on first (later - before)
 counted-more first mid new before turns later more so_far step le sum = omega arith

@@ -1,4 +1,4 @@
--- What is resumed of a save is what is resumed of it advanced, behind the dumps up to there.
+-- What is resumed of a save is what is resumed of it advanced, after the dumps up to there.
 use Rattle.std.proofs.Common.{◌≡◌, ℕ, zero, suc, ◌+◌, ◌-◌, ◌≤◌, Bool, List, ◌++◌, sym, ap, ap₂, ◌∙◌, append_assoc, append-nil, arith}
 use Rattle.ant_turn.specs.Minds.{Minds}
 use Rattle.ant_turn.specs.Rounds.{Moment, after_rounds}

@@ -47,7 +47,7 @@ pub row_advanced : advanced saved 3 ≡ turned_twice
 unfolding advanced grid_at round_totals window_totals window_at counts_of is_taken look_for look_of guess_for moment_before after_round after_turn turn reads writes merged put_cell same_pos neighbours_of adjacent_pos directions turned_by guess flips cell_in rock floor place_in
 row_advanced = refl
 
--- a number was drawn in round 1, by a turn that was executed anew
+-- a number was drawn in round 1, by a turn that was executed again
 abbrev flipping : SavedValue
 flipping = record saved { place = 1; totals = record { turns = 1; taken = 0; redone = 1 }; minds = contest_minds (Flip 2932 1 0 ∷ Turn Left 0 ∷ []) turning }
 
@@ -79,7 +79,7 @@ marking = record {
   world = record { width = 4; height = 3; ids = 2; cells = rock ∷ rock ∷ rock ∷ rock ∷ rock ∷ red_cell ∷ black_cell ∷ rock ∷ rock ∷ rock ∷ rock ∷ rock ∷ [] };
 }
 
--- in its windows of two turns the look is made before the mark, and executed anew; in windows of one turn it is taken
+-- in its windows of two turns the look is made before the mark, and executed again; in windows of one turn it is taken
 pub windows_advanced :
     ((advanced marking 3).totals ≡ record { turns = 6; taken = 4; redone = 2 })
     × ((advanced (record marking { window = 1 }) 3).totals ≡ record { turns = 6; taken = 5; redone = 1 })

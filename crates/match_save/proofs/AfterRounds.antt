@@ -156,14 +156,14 @@ module _ (s : SavedValue) (is : IsSaved s) where
   unfolding draft_of grid_of_draft
   hills-saved = sym (hill_count-world s.world IsWorld-saved) ∙ ap (λ (g : Grid). g.ids) is.same
 
-  -- and what so many more rounds keep of it
+  -- and what this many more rounds keep of it
   kept : (more : ℕ) → Keeps s.minds (world_of s.world) (later_world s more)
   kept more = Keeps-after_rounds s.minds s.seed (moment_of s) more AreSound-saved IsWorld-saved.valid (Fits-saved s is)
 
   same-world : (more : ℕ) → world_of (grid_at (later_world s more)) ≡ later_world s more
   same-world more = world_of-grid_at (later_world s more) (kept more).valid
 
-  -- advanced to its own round it is as it was
+  -- advanced to its own round it is unchanged
   at_once : advanced s s.round ≡ s
   unfolding advanced
   at_once =

@@ -8,7 +8,7 @@ use Rattle.match_save.specs.Inner.Reading.{is_none_left, pieces}
 abbrev pub token_length : List ℕ → ℕ
 token_length text = prefix_len (λ byte. not (eqb byte 32)) text
 
--- the pieces behind the first space
+-- the pieces after the first space
 abbrev pub pieces_after : List ℕ → List (List ℕ)
 pieces_after [] = []
 pieces_after (byte ∷ text) = pieces text
@@ -35,12 +35,12 @@ length-pieces (byte ∷ line) =
     elim (eqb byte 32) as (λ b. length (cond b ([] ∷ pieces line) (onto_first byte (pieces line))) ≤ suc (length line) + 1)
     [ true ↦ omega (arith, length-pieces line) | false ↦ omega (arith, length-pieces line, length-onto byte line) ]
 
--- a line without a space behind its first token
+-- a line without a space after its first token
 pub cut_last : (text token : List ℕ) (k : ℕ) → k ≡ token_length text → token ≡ take k text → drop k text ≡ [] → pieces text ≡ token ∷ []
 cut_last text token k is_k is_token none =
     pieces-cut text ∙ ap (λ n. take n text ∷ pieces_after (drop n text)) (sym is_k) ∙ ap (λ r. take k text ∷ pieces_after r) none ∙ ap (λ t. t ∷ []) (sym is_token)
 
--- a line with a space behind its first token
+-- a line with a space after its first token
 pub cut_next : (text token rest : List ℕ) (k : ℕ) → k ≡ token_length text → token ≡ take k text → 1 ≤ length (drop k text) → rest ≡ drop 1 (drop k text) → pieces text ≡ token ∷ pieces rest
 cut_next text token rest k is_k is_token some is_rest =
     pieces-cut text ∙ ap (λ n. take n text ∷ pieces_after (drop n text)) (sym is_k) ∙ ap (λ t. t ∷ pieces_after (drop k text)) (sym is_token)

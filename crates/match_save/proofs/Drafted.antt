@@ -39,12 +39,12 @@ printed-line text i e =
     let whole : text ≡ instruction_line i ++ 10 ∷ [] = e ∙ text-ended i in
     ap (λ (l : List ℕ). take (length l - 1) l) whole ∙ take-ended (instruction_line i)
 
--- a line that is refused is no instruction
+-- a line that is refused is not an instruction
 pub told-none : (line : List ℕ) (refusal : Refusal) → read_line (tokens_of line) ≡ Err refusal → None ≡ instruction_of line
 unfolding instruction_of
 told-none line refusal e = sym (ap (if_canonical line) e)
 
--- a line that is read is one exactly where it is printed so
+-- a line that is read is one exactly if it is printed so
 pub told-some : (line : List ℕ) (i : Instr) (b : Bool) → read_line (tokens_of line) ≡ Ok i → bytes_eq (instruction_line i) line ≡ b → cond {A = Option Instr} b (Some i) None ≡ instruction_of line
 unfolding instruction_of
 told-some line i b e is = sym (ap (if_canonical line) e ∙ ap (λ (t : Bool). cond {A = Option Instr} t (Some i) None) is)

@@ -38,7 +38,7 @@ module _ {E A : Type 0} (r : Reader E A) (later : A → Reader E (List A)) where
   first-refused old k at e = ap (λ got. behind old (made with_first (go_on later got))) e
 
 module _ {A : Type 0} (value : ℕ → Option A) where
-  -- a row's value behind others, and those after it
+  -- a row's value after others, and those after it
   with_value-behind : (front : List A) (x : A) (rest : Option (List A)) → row_behind front (with_value (Some x) rest) ≡ row_behind (front ++ x ∷ []) rest
   with_value-behind front x None = refl
   with_value-behind front x (Some rest) = ap Some (sym (append_assoc front (x ∷ []) rest))
@@ -49,7 +49,7 @@ module _ {A : Type 0} (value : ℕ → Option A) where
   pub row-refused : (front : List A) (byte : ℕ) (line : List ℕ) → value byte ≡ None → row_behind front (all_of value (byte ∷ line)) ≡ None
   row-refused front byte line e = ap (λ o. row_behind front (with_value o (all_of value line))) e
 
-  -- a line of as many bytes as a row has is one, where each byte has a value
+  -- a line of as many bytes as a row has is one, if each byte has a value
   pub row-wide : (width : ℕ) (line : List ℕ) → length line ≡ width → row_of value width line ≡ all_of value line
   row-wide width line wide = ap (λ b. cond b (all_of value line) None) (eq-eqb (length line) width wide)
 
@@ -100,7 +100,7 @@ NextAnt = Result (Option PlacedAnt × Left (List ℕ)) ℕ
 abbrev AllAnts : Type 0
 AllAnts = Result (List PlacedAnt × Left (List ℕ)) ℕ
 
--- the ants of the lines that are left, where the first is asked for
+-- the ants of the lines that are left, if the first is requested
 ants_then : ℕ → ℕ → NextAnt → AllAnts
 ants_then width height (Err k) = Err k
 ants_then width height (Ok (None, left)) = Ok ([], left)
@@ -167,7 +167,7 @@ one-fewer {E} {A} parse x at left e = go at.items at.number e where
   go [] n is = absurd (cc)
   go (y ∷ items) n is = last items n (parse y) is
 
--- one value more of so many
+-- one value more of this many
 pub many-more : {E A : Type 0} (parse : E → Option A) (old : List A) (x : A) (n : ℕ) (at left : Left E) → one parse at ≡ Ok (x, left) → behind old (many parse (suc n) at) ≡ behind (old ++ x ∷ []) (many parse n left)
 many-more parse old x n at left e = first-more (one parse) (λ y. many parse n) old x at left e
 

@@ -33,7 +33,7 @@ use Rattle.match_save.proofs.SavedLaws.{AreAlike, alike, on_all}
 use Rattle.match_save.proofs.Standings.{StandsInside, can-all, weight-all}
 
 module _ (width height : ℕ) where
-  -- where each cell is sound, all are
+  -- if each cell is sound, all are
   all-sound : (cells : List Cell) (i : ℕ) → ((k : ℕ) → k < length cells → is_sound_cell width height (i + k) (get_or cells k rock) ≡ true) → are_sound_cells width height i cells ≡ true
   all-sound [] i each_is = refl
   all-sound (cell ∷ cells) i each_is =
@@ -41,7 +41,7 @@ module _ (width height : ℕ) where
       (ap (λ n. is_sound_cell width height n cell) (let s : i ≡ i + 0 = omega arith in s) ∙ each_is 0 (omega arith))
       (all-sound cells (i + 1) (λ k below. ap (λ n. is_sound_cell width height n (get_or cells k rock)) (let s : i + 1 + k ≡ i + suc k = omega arith in s) ∙ each_is (suc k) (omega arith)))
 
-  -- where all are sound, each is
+  -- if all are sound, each is
   sound-at : (cells : List Cell) (i k : ℕ) → are_sound_cells width height i cells ≡ true → k < length cells → is_sound_cell width height (i + k) (get_or cells k rock) ≡ true
   sound-at [] i k all below = absurd (omega arith)
   sound-at (cell ∷ cells) i zero all below =
@@ -126,7 +126,7 @@ module _ (d : Draft) (ok : IsInForm d) where
   pub weight-floor : weight (world_of (floor_of d)) ≡ sum d.foods
   weight-floor = weight-list (floor_of d) full-floor ∙ weight-ground_cells d.soils d.red_marks d.black_marks d.foods (alike d ok)
 
-  -- where the cells are sound and the food isn't too much, the floor is a world without ants
+  -- if the cells are sound and the food isn't too much, the floor is a world without ants
   pub IsGround-floor : hill_count d.soils ≤ most_ants → are_sound_cells d.head.width d.head.height 0 (floor_of d).cells ≡ true → sum d.foods ≤ most_weight → IsGround (floor_of d)
   IsGround-floor few sound light = record {
     world = record {

@@ -156,7 +156,7 @@ rows-map width (suc height) foods =
     ∙ ap (λ l. map food_byte (take width foods) ∷ rows marks_byte width height l) (drop-map width foods)
     ∙ ap (λ l. map food_byte (take width foods) ∷ l) (rows-map width height (drop width foods))
 
--- so many amounts of food
+-- this many amounts of food
 pub record AreAmounts (width height : ℕ) (foods : List ℕ) : Type 0 where
   pub full : length foods ≡ height * width
   pub each : AllByRecursion (λ food. food ≤ most_weight) foods

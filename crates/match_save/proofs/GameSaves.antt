@@ -80,7 +80,7 @@ unfolding cell_weight
 foods-light most [] light = tt
 foods-light most (cell ∷ cells) light = (let s = sum_by-cons cell_weight cell cells in (omega (arith, s, light), foods-light most cells (omega (arith, s, light))))
 
--- ids that rise, behind others that do
+-- ids that rise, after others that do
 rise-from : (least n : ℕ) (ants : List PlacedAnt) → least ≤ n → IdsRise n ants → IdsRise least ants
 rise-from least n [] low rise = tt
 rise-from least n (it ∷ ants) low rise = (let l = rise.0 in omega (arith, low, l), rise.1)
@@ -241,7 +241,7 @@ IsSaved-game game can is = IsSaved-known (save_of game) (record {
   place = (let p = is.kept.place_to in let f = can.from_start in omega (arith, p, f));
 })
 
--- the save that is made of a game's parts is the game's
+-- the save that is built from a game's parts is the game's
 pub made-game : (game : GameValue) (head : Head) (red black : List Instr) (world : Grid) → CanBeSaved game → IsGame game → head ≡ head_of (save_of game) → red ≡ game.field.minds.red → black ≡ game.field.minds.black
     → world ≡ game.field.world → made_saved head red black world ≡ save_of game
 made-game game head red black world can kept is_head is_red is_black is_world =

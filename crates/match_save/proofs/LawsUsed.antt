@@ -19,7 +19,7 @@ use Rattle.match_save.specs.declared.fault.SaveFault.{SaveFault}
 use Rattle.match_save.proofs.AdvancedWorked.{row_advanced, turned_twice}
 use Rattle.match_save.proofs.SaveWorked.{saved, turning}
 
--- the text of the save is that of no other, and has no fault; and a text that is no save's has one fault
+-- the text of the save is that of no other, and has no fault; and a text that is not a save's has one fault
 every_text_has_one_verdict_used : EveryTextHasOneVerdict → IsSaved saved →
     ((other : SavedValue) → IsSaveText (save_text saved) other → other ≡ saved)
     × ((fault : SaveFault) → ¬ IsSaveFault (save_text saved) fault)
@@ -60,7 +60,7 @@ games_are_advanced_used law = (
   λ w is. sym (law.of_game saved w 3 is (let early : 1 ≤ 3 = omega arith in early)) ∙ row_advanced,
 )
 
--- by way of round 2 the ant has turned twice as well; at its own round the save is as it was; and what it is advanced
+-- by way of round 2 the ant has turned twice as well; at its own round the save is unchanged; and what it is advanced
 -- to is a save
 saves_are_advanced_used : SavesAreAdvanced → IsSaved saved → (advanced (advanced saved 2) 3 ≡ turned_twice) × (advanced saved 1 ≡ saved) × IsSaved turned_twice
 saves_are_advanced_used law is = (

@@ -28,7 +28,7 @@ pub mod FilledLists
 pub mod PutLemmas
 pub mod Judgement
 pub mod SavedBrains
--- What is written, and how a game goes on.
+-- What is written, and how a game continues.
 pub mod Drafted
 pub mod WrittenTexts
 pub mod WholeLines

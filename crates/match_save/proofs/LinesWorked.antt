@@ -70,7 +70,7 @@ pub sizes_beyond : map (λ line. draft_of_text (codes "ants save 1\nseed 1\nshee
 unfolding draft_of_text strict_value
 sizes_beyond = refl
 
--- a brain has 1 to 10,000 instructions: behind the line of its length its first is missing
+-- a brain has 1 to 10,000 instructions: after the line of its length its first is missing
 pub lengths_judged : map (λ line. draft_of_text (codes "ants save 1\nseed 1\nsheet 5 3 14\nwindow 1\nround 1\nplace 0\ntaken 1 redone 0\nsize 3 3\n" ++ line)) (codes "red 0" ∷ codes "red 1" ∷ codes "red 10000" ∷ codes "red 10001" ∷ [])
     ≡ Err 9 ∷ Err 10 ∷ Err 10 ∷ Err 9 ∷ []
 unfolding draft_of_text strict_value

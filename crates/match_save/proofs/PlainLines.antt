@@ -174,7 +174,7 @@ pub draft-text-is : (d : Draft) → IsInForm d → IsDraftText (draft_text d) d
 unfolding draft_text draft_lines
 draft-text-is d ok = record { in_form = ok; lines = draft-lines d ok; ended = ends-lines (draft_lines d) (omega arith) }
 
--- a text is the text of a save exactly where its lines are the save's
+-- a text is the text of a save exactly if its lines are the save's
 pub save-lines : (text : List ℕ) (s : SavedValue) → IsSaveText text s → IsSaveLines text s
 unfolding save_text
 save-lines text s is = record { saved = is.saved; are = subst (λ (t : List ℕ). IsDraftText t (draft_of s)) (sym is.is) (draft-text-is (draft_of s) is.saved.in_form) }

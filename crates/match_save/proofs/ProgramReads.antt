@@ -67,7 +67,7 @@ small_states (Move m u) all = (all.1.0, (all.1.1.0, tt))
 small_states (Flip b m u) all = (all.1.1.0, (all.1.1.1.0, tt))
 small_states it all = (all.1.1.0, tt)
 
--- a line is an instruction's exactly where it is its printing
+-- a line is an instruction's exactly if it is its printing
 pub instruction-spells : Spells instruction_of IsInstruction instruction_line
 unfolding instruction_of instruction_line
 instruction-spells = record { parses = parses; accepted = λ line i e. (known line i e).0; spelled = λ line i e. (known line i e).1 } where

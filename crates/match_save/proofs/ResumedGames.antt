@@ -1,4 +1,4 @@
--- Saves as games that go on.
+-- Saves as games that continue.
 use Rattle.std.proofs.Common.{◌≡◌, ◌⊎◌, ℕ, ◌+◌, ◌*◌, ◌<◌, ◌≤◌, Bool, true, false, cond, ltb, List, [], ◌∷◌, length, get_or, Some, None, refl, sym, ◌∙◌, ap, subst, inl, inr, arith}
 use Rattle.std.specs.List.{AllByRecursion}
 use Rattle.std.proofs.lemmas.Nat.{mul-le}
@@ -48,7 +48,7 @@ each-ant d ok P all p ant is = go (ltb p.x d.head.width) is where
   go true told = found (back d.head.width d.ants (floor_of d).cells (length (floor_of d).cells) (index_of d.head.width p) ant refl (on d ok) told)
   go false told = absurd (cc)
 
--- a run that was saved and gone on with is the run that wasn't
+-- a run that was saved and continued is the run that wasn't
 pub saves_go_on : SavesGoOn
 unfolding resumed_text
 saves_go_on s w rounds chosen stats is left =
@@ -74,7 +74,7 @@ AllRest-saved s is = record {
   resting [] all = tt
   resting (it ∷ ants) all = (all.0.resting, resting ants all.1)
 
--- and it can go on
+-- and it can continue
 pub CanGoOn-saved : (s : SavedValue) → IsSaved s → CanGoOn (field_of s) s.window s.round s.totals
 unfolding draft_of grid_of_draft
 CanGoOn-saved s is =
@@ -93,7 +93,7 @@ pub early-saved : (s : SavedValue) → IsSaved s → s.place ≤ 99999999999
 unfolding draft_of
 early-saved s is = is.in_form.head.place
 
--- the field and the game that are made of a save's parts are its own
+-- the field and the game that are built from a save's parts are its own
 pub field-is : (s : SavedValue) (world : Grid) (minds : Minds) (seed place : ℕ) → world ≡ s.world → minds ≡ s.minds → seed ≡ s.seed → place ≡ s.place
     → ◌≡◌ {A = FieldValue} (record { world = world; minds = minds; seed = seed; place = place; whole = true; lent = None }) (field_of s)
 field-is s world minds seed place a b c e = cc

@@ -31,7 +31,7 @@ each P (it ∷ list) all = (all it (inl refl), each P list (λ other is_in. all 
 apart-index : (width : ℕ) (p q : Pos) → p.x < width → q.x < width → q ≢ p → index_of width p ≢ index_of width q
 apart-index width p q in_p in_q other same = other (sym (pos_at-index_of width q in_q) ∙ ap (pos_at width) (sym same) ∙ pos_at-index_of width p in_p)
 
--- an ant stands within the rows, and on one of so many cells
+-- an ant stands within the rows, and on one of this many cells
 pub record IsOn (width count : ℕ) (it : PlacedAnt) : Type 0 where
   pub column : it.place.x < width
   pub cell : index_of width it.place < count

@@ -30,7 +30,7 @@ module _ {A : Type 0} {value : ℕ → Option A} {accepts : A → Type 0} {byte 
         let rest = known found refl in
         subst (AreBytes (b ∷ line)) same (record { each = (h.accepted b x is, rest.each); is = ap (λ c. c ∷ line) (h.spelled b x is) ∙ ap (λ l. byte x ∷ l) rest.is })
 
-  -- a row of so many accepted values
+  -- a row of this many accepted values
   pub record IsRow (width : ℕ) (row : List A) : Type 0 where
     pub wide : length row ≡ width
     pub each : AllByRecursion accepts row
@@ -54,7 +54,7 @@ module _ {A : Type 0} {value : ℕ → Option A} {accepts : A → Type 0} {byte 
     known : (line : List ℕ) (row : List A) → row_of value width line ≡ Some row → IsRow width row × (line ≡ map byte row)
     known line row e = go line row (eqb (length line) width) refl e
 
-  -- the values of so many rows, one after another
+  -- the values of this many rows, one after another
   pub record AreValues (width height : ℕ) (list : List A) : Type 0 where
     pub full : length list ≡ height * width
     pub each : AllByRecursion accepts list

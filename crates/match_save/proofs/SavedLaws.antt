@@ -111,7 +111,7 @@ module _ (d : Draft) (ok : IsInForm d) (state : IsState d) where
 pub some_save : (text : List ℕ) (d : Draft) → IsDraftText text d → IsState d → IsSaveLines text (saved_of d)
 some_save text d is state = record { saved = saved-is d is.in_form state; are = subst (IsDraftText text) (sym (draft-again d is.in_form state)) is }
 
--- a save is made of its lines and its world
+-- a save is built from its lines and its world
 made_of : Draft → Grid → SavedValue
 made_of d world = record {
   seed = d.head.seed;

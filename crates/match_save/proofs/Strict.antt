@@ -14,7 +14,7 @@ read_small text at n short read =
     let small = digits_value_short (numerals_by_value (AllDigits 10) tells_digits) (take at text) 11 read.digits (omega (arith, length-take at text)) in
     omega (arith, small, read.value)
 
--- a text with a byte that is no digit is no number
+-- a text with a byte that is not a digit is not a number
 pub none_of_other : (text : List ℕ) → all_ascii_digits text ≡ false → strict_value text ≡ None
 unfolding strict_value
 none_of_other text other =

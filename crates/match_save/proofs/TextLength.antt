@@ -38,7 +38,7 @@ use Rattle.match_save.specs.Saves.{SavesAreShort}
 use Rattle.match_save.specs.Text.{ant_lines, ant_tokens, brain_lines, cell_lines, draft_lines, draft_text, food_byte, food_lines, food_tokens, head_tokens, instruction_line, marks_byte, program_lines, rows, soil_byte, spaced, text_of_lines}
 use Rattle.match_save.proofs.AntReads.{low_dir}
 
--- the bytes of lines, each with its LF; and of tokens, each with the byte behind it
+-- the bytes of lines, each with its LF; and of tokens, each with the byte after it
 bytes : List (List ℕ) → ℕ
 bytes [] = 0
 bytes (line ∷ lines) = length line + 1 + bytes lines
@@ -171,7 +171,7 @@ program-bytes name list short ok =
     let rest = instructions-bytes list ok.each in
     omega (arith, few, short, digits, first, rest)
 
--- so many rows
+-- this many rows
 rows-bytes : {A : Type 0} (byte : A → ℕ) (width height : ℕ) (list : List A) → bytes (rows byte width height list) ≤ height * (width + 1)
 unfolding bytes
 rows-bytes byte width zero list = omega arith

@@ -63,7 +63,7 @@ strict-known token n e = go (is_strict token) refl e where
 abbrev pub IsBetween : ℕ → ℕ → ℕ → Type 0
 IsBetween least most n = (least ≤ n) × (n ≤ most)
 
--- a token is read as a number exactly where it is printed so
+-- a token is read as a number exactly if it is printed so
 pub number-spells : (least most : ℕ) → most ≤ most_counted → Spells (λ token. within least most (strict_value token)) (IsBetween least most) decimal
 number-spells least most few = record {
   parses = λ n ok. ap (within least most) (strict-decimal n (omega (arith, ok.1))) ∙ rw (le-leb least n ok.0, le-leb n most ok.1) refl;

@@ -1,4 +1,4 @@
--- A word at the front, and what is read behind it.
+-- A word at the front, and what is read after it.
 use Rattle.std.proofs.Common.{◌≡◌, ℕ, ◌+◌, Bool, true, false, cond, List, [], ◌∷◌, Option, Some, Result, Ok, Err, refl, sym, ◌∙◌, ap, codes}
 use Rattle.std.specs.Str.{bytes_eq}
 use Rattle.match_save.specs.Draft.{most_counted}
@@ -6,7 +6,7 @@ use Rattle.match_save.specs.Inner.Readers.{Left, Reader, followed, go_on, led, m
 use Rattle.match_save.specs.Inner.Reading.{first_line, head_of, led_by, line_of, named_number_of, read_head, sheet_tokens, size_tokens, counts_tokens, standing_parts, word}
 
 module _ {A : Type 0} (text : List ℕ) (r : Reader (List ℕ) A) where
-  -- behind a word that was passed, what follows is read
+  -- after a word that was passed, what follows is read
   pub word_passed : (at left : Left (List ℕ)) (nothing_read : Unit {0}) → led_by text at ≡ Ok (nothing_read, left) → word text r at ≡ r left
   word_passed at left u e = go at.items at.number e where
     go : (items : List (List ℕ)) (n : ℕ) → led {A = Unit {0}} (bytes_eq text) (nothing tt) n items ≡ Ok (u, left) → led (bytes_eq text) r n items ≡ r left
@@ -18,7 +18,7 @@ module _ {A : Type 0} (text : List ℕ) (r : Reader (List ℕ) A) where
           let pair : ◌≡◌ {A = Unit {0} × Left (List ℕ)} (tt, record { number = n + 1; items = tokens }) (u, left) = cc in
           ap (λ (z : Unit {0} × Left (List ℕ)). r z.1) pair
 
-  -- where the word is refused, all is
+  -- if the word is refused, all is
   pub word_refused : (at : Left (List ℕ)) (k : ℕ) → led_by text at ≡ Err k → word text r at ≡ Err k
   word_refused at k e = go at.items at.number e where
     go : (items : List (List ℕ)) (n : ℕ) → led {A = Unit {0}} (bytes_eq text) (nothing tt) n items ≡ Err k → led (bytes_eq text) r n items ≡ Err k
@@ -73,11 +73,11 @@ head-read at a b c e u seed sheet standing first second third fourth =
     ∙ ap (go_on (λ (n : ℕ). followed (line_of sheet_tokens) (λ (z : ℕ × (ℕ × ℕ)). standing_parts))) second
     ∙ ap (paired seed) (ap (go_on (λ (z : ℕ × (ℕ × ℕ)). standing_parts)) third ∙ ap (paired sheet) fourth))
 
--- what is read behind the seed, and behind the sheet
+-- what is read after the seed, and after the sheet
 abbrev behind_seed : ℕ → Reader (List ℕ) ((ℕ × (ℕ × ℕ)) × (ℕ × (ℕ × (ℕ × ((ℕ × ℕ) × (ℕ × ℕ))))))
 behind_seed seed = followed (line_of sheet_tokens) (λ sheet. standing_parts)
 
--- where one of the first lines is refused, all are
+-- if one of the first lines is refused, all are
 pub head-first : (at : Left (List ℕ)) (k : ℕ) → first_line at ≡ Err k → read_head at ≡ Err k
 head-first at k first = ap (made head_of) (word_refused (codes "ants save 1") (followed (one (named_number_of (codes "seed") 0 4294967295)) behind_seed) at k first)
 
@@ -97,7 +97,7 @@ module _ (at a : Left (List ℕ)) (u : Unit {0}) (first : first_line at ≡ Ok (
     pub head-standing : (c : Left (List ℕ)) (sheet : ℕ × (ℕ × ℕ)) (k : ℕ) → line_of sheet_tokens b ≡ Ok (sheet, c) → standing_parts c ≡ Err k → read_head at ≡ Err k
     head-standing c sheet k third fourth = head-later k (ap (go_on (λ (z : ℕ × (ℕ × ℕ)). standing_parts)) third ∙ ap (paired sheet) fourth)
 
--- what is read behind the counts, the place, the round and the window
+-- what is read after the counts, the place, the round and the window
 abbrev behind_counts : ℕ × ℕ → Reader (List ℕ) (ℕ × ℕ)
 behind_counts counts = line_of size_tokens
 

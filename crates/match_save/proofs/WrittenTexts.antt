@@ -84,7 +84,7 @@ rows-written byte width height list d full =
     ∙ numbered-same (λ y. get_or (rows byte width height list) y [] ++ 10 ∷ []) (λ y. numbered (λ x. byte (get_or list (y * width + x) d) ∷ []) width ++ 10 ∷ []) height
     (λ y below. ap (λ l. l ++ 10 ∷ []) (get_or-rows byte width height list y below ∙ sym (row-bytes byte width list d y (grind (arith, full, below)))))
 
--- the first part, and those behind it
+-- the first part, and those after it
 numbered-first : (f : ℕ → List ℕ) (n : ℕ) → numbered f (suc n) ≡ f 0 ++ numbered (λ j. f (suc j)) n
 unfolding numbered
 numbered-first f zero = sym (append-nil (f 0))

@@ -73,7 +73,7 @@ look-places : (minds : Minds) (seed : ℕ) (w : World) (place t : ℕ) → seen_
 unfolding look_of
 look-places minds seed w place t = sym (seen_positions-claims (turn minds seed w place t).cells (writes minds w t))
 
--- a turn that ended as the look at it in the book's own world was executed anew
+-- a turn that ended as the look at it in the book's own world was executed again
 pub IsRedone-ended : (minds : Minds) (found : Cause) (look : LookValue) (book new : BookValue) → Valid (world_of book.world) → look ≡ look_of minds book.seed (world_of book.world) book.place book.next →
     IsEnded look (Redone found) book new → IsRedone minds found book new
 IsRedone-ended minds found look book new valid is ended = record {
@@ -199,7 +199,7 @@ module _ (window : Window) (book new : BookValue) (playable : IsPlayable window)
             ∙ stands.unwritten p (λ held. none ((taken_so.ended.written p).1 (inl held)));
       }
 
-  -- after a turn was executed anew, for the cause that the look has, the book stands
+  -- after a turn was executed again, for the cause that the look has, the book stands
   pub Stands-redone : (found : Cause) → window.from ≤ book.next → IsCause (look_for window book.next) (moment_of book) found → IsRedone window.minds found book new → Stands window new
   Stands-redone found begun is_cause redone = record {
     seed = same.seed ∙ stands.seed;

@@ -138,7 +138,7 @@ reads-test (read ∷ list) cells = (
   λ all. and_from (do_agree (seen_parts read) (seen_cell read) (cells (seen_place read))) (is_unchanged list cells) ((parts-test (seen_parts read) (seen_cell read) (cells (seen_place read))).1 all.0) ((reads-test list cells).1 all.1),
 )
 
--- the test of a look is true exactly where the look holds
+-- the test of a look is true exactly if the look holds
 pub look_holds-test : (look : LookValue) (cells : Cells) (place : ℕ) → (look_holds look cells place ≡ true) ↔ LookHolds look cells place
 look_holds-test look cells place = (
   λ e. let both = and_parts (is_unchanged look.reads cells) (not look.drew || nat_eq place look.guess) e in record {
@@ -151,7 +151,7 @@ look_holds-test look cells place = (
   place_test true is guessed = or_right (not look.drew) (nat_eq place look.guess) (eq-eqb place look.guess (guessed is))
   place_test false is guessed = or_left (not look.drew) (nat_eq place look.guess) (ap not is)
 
--- a turn counts as taken exactly where its look holds when its turn comes
+-- a turn counts as taken exactly if its look holds when its turn comes
 pub is_taken-test : (window : Window) (t : ℕ) → (is_taken window t ≡ true) ↔ HoldsIn window (moment_before window t) t
 unfolding is_taken look_for
 is_taken-test window t =
@@ -160,7 +160,7 @@ is_taken-test window t =
       λ holds. (look_holds-test (look_for window t) now.world.cells now.place).1 (Holds-LookHolds window.minds window.seed window.base (guess_for window t) now.world now.place t holds),
     )
 
--- a verdict that a turn was executed anew refutes that its look holds
+-- a verdict that a turn was executed again refutes that its look holds
 pub Redone-refutes : (window : Window) (now : Moment) (t : ℕ) (found : Cause) → IsVerdict window now t (Redone found) → ¬ HoldsIn window now t
 Redone-refutes window now t (cause.Part at k) other holds =
     let agree = All-contains (λ (read : Claim). Agree read.parts (window.base.cells read.at) (now.world.cells read.at)) (reads window.minds window.base t) other.read

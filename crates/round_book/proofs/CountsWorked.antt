@@ -30,7 +30,7 @@ use Rattle.round_book.specs.Window.{Window, guess_for, look_for, moment_before}
 abbrev pub all_seven : Window
 all_seven = record { minds = minds; seed = 12345; base = field; place = 0; from = 0; to = 7 }
 
--- the turn of the killed ant, and that of the red ant whose random number is then another, are executed anew
+-- the turn of the killed ant, and that of the red ant whose random number is then another, are executed again
 counts-seven : counts_of all_seven ≡ record { taken = 5; redone = 2 }
 unfolding counts_of is_taken look_for look_of guess_for moment_before after_turn turn reads writes merged stepped is_surrounded check_at killed_at places_around put_cell same_pos neighbours_of adjacent_pos directions guess flips opening cell_in rock floor place_in drawn random_at state_at
 counts-seven = refl

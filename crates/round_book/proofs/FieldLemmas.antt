@@ -1,4 +1,4 @@
--- Books on fields: where one begins, goes on, and ends.
+-- Books on fields: where one begins, continues, and ends.
 use Rattle.std.proofs.Common.{◌≡◌, ℕ, ◌+◌, ◌-◌, ◌<◌, ◌≤◌, true, [], Option, Some, None, refl, sym, ◌∙◌, ap, ap₂, subst, arith}
 use Rattle.std.specs.Prelude.{IfOk, OnOk, Result, Ok, Err}
 use Rattle.std.specs.List.{AllByRecursion, count_by}
@@ -39,7 +39,7 @@ module _ (window : Window) (book : BookValue) (for : StandsFor window book) wher
   window-begun : window.from ≤ book.next
   window-begun = let a : book.from ≡ window.from = for.stands.from in let d : book.from ≤ book.next = for.begun in omega arith
 
-  -- the same window goes on
+  -- the same window continues
   for-goes : (new : BookValue) → IsSameWindow book new → new.next ≡ book.next + 1 → Stands window new → StandsFor window new
   for-goes new same next stands = record {
     playable = for.playable;

@@ -78,7 +78,7 @@ book-stands = record {
 }
 
 -- its first turn may be settled, and then the book stands where that turn leads: the look was taken, or the turn
--- executed anew
+-- executed again
 pub standing_books_settle_used : StandingBooksSettle →
     ((look_for all_seven 0).turn ≡ 0)
     × AllByRecursion (AgreesUnwritten book) (look_for all_seven 0).reads
@@ -148,6 +148,6 @@ taken_where_it_holds_used law = (
   (law.turn all_seven 1).0,
 )
 
--- why two turns were executed anew: their looks don't hold
+-- why two turns were executed again: their looks don't hold
 pub causes_refute_used : CausesRefute → (¬ HoldsIn all_seven (after three_put).now 2) × (¬ HoldsIn all_seven (after four_settled).now 4)
 causes_refute_used law = (law all_seven (after three_put).now 2 (cause.Part (at 3 3) Who) is-killed, law all_seven (after four_settled).now 4 (cause.Place 1 0) is-guessed)

@@ -156,6 +156,6 @@ IsReached-first window sound = record {
   drew_it = λ put is_put. absurd (let l : is_put.0 < 0 = is_put.1 in omega arith);
 }
 
--- the law, where a look that holds is worth its turn
+-- the law, if a look that holds is worth its turn
 pub IsReached-every : (window : Window) (events : List Event) → IsSound window → LookIsTurn window → AreLawful window (first_state window) events → IsReached window (run window (first_state window) events)
 IsReached-every window events sound worth lawful = IsReached-run window (first_state window) events sound worth (IsReached-first window sound) lawful

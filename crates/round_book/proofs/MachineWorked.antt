@@ -147,12 +147,12 @@ put-twice can = can.is_new (1, (0, omega arith, refl))
 not-drawn : ¬ IsLawful all_seven (first_state all_seven) (Puts 0 0)
 not-drawn can = absurd (Contains-none 0 can.is_held)
 
--- turn 0 isn't executed anew, for whatever cause: its look holds
+-- turn 0 isn't executed again, for whatever cause: its look holds
 holds-first : (found : Cause) → ¬ IsLawful all_seven (after two_put) (Settles (Redone found))
 unfolding patched look_for look_of guess_for turn reads writes merged stepped is_surrounded check_at killed_at places_around put_cell same_pos neighbours_of adjacent_pos directions guess flips opening cell_in rock floor place_in drawn random_at state_at
 holds-first found can = Redone-refutes all_seven (after two_put).now 0 found can.is_verdict (held all_seven (after two_put).now 0 refl)
 
--- the red ant of id 2 was killed by turn 1: its turn is executed anew, and so is that of the red ant of id 4, whose
+-- the red ant of id 2 was killed by turn 1: its turn is executed again, and so is that of the red ant of id 4, whose
 -- number was guessed to be the second and is the first. The first hand puts the look of turn 4 before that of turn 3
 abbrev pub three_put : List Event
 three_put = two_settled ++ Draws 1 ∷ Draws 0 ∷ Draws 0 ∷ Puts 0 4 ∷ Puts 1 2 ∷ []
@@ -231,7 +231,7 @@ five-state :
 unfolding patched look_for look_of guess_for after_turn turn reads writes merged stepped is_surrounded check_at killed_at places_around put_cell same_pos neighbours_of adjacent_pos directions guess flips opening cell_in rock floor place_in drawn random_at state_at
 five-state = (refl, refl, refl, refl, refl, refl, refl, refl)
 
--- the look at the killed ant's turn isn't taken, and no part is named that wasn't read, nor one that is as it was
+-- the look at the killed ant's turn isn't taken, and no part is named that wasn't read, nor one that is unchanged
 not-taken : ¬ IsLawful all_seven (after three_put) (Settles Taken)
 unfolding patched look_for look_of guess_for turn reads writes merged stepped is_surrounded check_at killed_at places_around put_cell same_pos neighbours_of adjacent_pos directions guess flips opening cell_in rock floor place_in drawn random_at state_at
 not-taken can = not_held all_seven (after three_put).now 2 refl can.is_verdict

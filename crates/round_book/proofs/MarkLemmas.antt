@@ -143,7 +143,7 @@ pub Changes-not_found : (read : Sighting) (cells : Cells) (answer : Option Cause
 Changes-not_found read cells None is change = change.0
 Changes-not_found read cells (Some found) is change = absurd (false≢true (sym is))
 
--- what was read is there still where nothing of it was written
+-- what was read is there still if nothing of it was written
 pub unwritten-agree : (written : List Pos) (cells : Cells) (reads : List Sighting) → AllByRecursion (AgreesIfUnwritten written cells) reads → AllByRecursion (IsUnwritten written) reads → Changes reads cells None
 unwritten-agree written cells [] agree none = tt
 unwritten-agree written cells (read ∷ reads) agree none = (agree.0 none.0, unwritten-agree written cells reads agree.1 none.1)

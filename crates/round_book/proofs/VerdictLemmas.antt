@@ -34,7 +34,7 @@ record Differs (parts : Parts) (c d : Cell) : Type 0 where
   pub named : has_part parts which ≡ true
   pub differs : ¬ Alike which c d
 
--- where two cells differ in a part, they aren't alike in it
+-- if two cells differ in a part, they aren't alike in it
 pub unlike : (k : Part) (c d : Cell) → is_alike k c d ≡ false → ¬ Alike k c d
 unlike k c d fails alike = false≢true (sym fails ∙ (part-test k c d).1 alike)
 

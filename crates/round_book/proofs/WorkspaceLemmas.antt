@@ -23,7 +23,7 @@ Contains-more written p q = (
   λ cases. ⊎_elim (λ old. Contains-append_left written (p ∷ []) q old) (λ same. Contains-append_right written (p ∷ []) q (subst (λ r. Contains (p ∷ []) r) (sym same) (0, omega arith, refl))) cases,
 )
 
--- no mark is set where there are none
+-- no mark is set if there are none
 pub marks_in-none : (marked : List Bool) → ((i : ℕ) → i < length marked → slice_index_or marked i false ≡ false) → marks_in marked ≡ 0
 marks_in-none [] none = refl
 marks_in-none (mark ∷ marked) none =
@@ -58,7 +58,7 @@ marks_in-most [] = omega arith
 marks_in-most (true ∷ marked) = let rest = marks_in-most marked in omega (arith, rest)
 marks_in-most (false ∷ marked) = let rest = marks_in-most marked in omega (arith, rest)
 
--- where a cell is unmarked, fewer positions are listed than the world has cells
+-- if a cell is unmarked, fewer positions are listed than the world has cells
 pub listed-below : (grid : Grid) (marked : List Bool) (written : List Pos) (p : Pos) → AreMarked grid marked written → IsInside grid.width grid.height p →
     slice_index_or marked (index_of grid.width p) false ≡ false → length written < grid.width * grid.height
 listed-below grid marked written p marks inside free =
@@ -73,7 +73,7 @@ pub unmarked-at : (marked : List Bool) (i at : ℕ) (mark : Bool) → i ≡ at �
 unmarked-at marked i at mark same early read free =
     ap (λ n. slice_index_or marked n false) (sym same) ∙ sym (get_or_read marked i mark (subst (λ n. n < length marked) (sym same) early) read false) ∙ free
 
--- one more position marked and listed, where it wasn't
+-- one more position marked and listed, if it wasn't
 pub AreMarked-more : (grid : Grid) (marked : List Bool) (written : List Pos) (p : Pos) → AreMarked grid marked written → IsInside grid.width grid.height p →
     slice_index_or marked (index_of grid.width p) false ≡ false → AreMarked grid (slice_set marked (index_of grid.width p) true) (written ++ p ∷ [])
 AreMarked-more grid marked written p before inside free = record {

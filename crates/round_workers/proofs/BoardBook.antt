@@ -25,7 +25,7 @@ use Rattle.round_workers.proofs.BoardTotalLemmas.{total-add, total-at, total-gap
 use Rattle.round_workers.proofs.BoardKeeps.{book-stays, first-seat, seated}
 use Rattle.round_workers.proofs.BoardSteps.{IsSameAt, book-kept}
 
--- a step goes on to a state that keeps the rule, and tells what it tells
+-- a step continues to a state that keeps the rule, and tells what it tells
 abbrev pub Goes : Basis → State BoardSlot View → ℕ → ℕ → Me BoardSlot View → (ℕ → Me BoardSlot View → Type 0) → ℕ → Type 0
 Goes key s i id me told x = (w : View) × (a : Act BoardSlot) × Valid s.homes me.1 a × IsKept key (stepped s i x id me.1 w a) × told (slice_index s.words i) (w, carried_after me.1 a)
 

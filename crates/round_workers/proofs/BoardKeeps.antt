@@ -44,7 +44,7 @@ pub look-by : (window : Window) (j word : ℕ) (home : maybe.Option (maybe.Optio
     → IsLookKept window j word home a b c d → IsLookKept window j word home a' b' c' d'
 look-by window j word home a b c d a' b' c' d' ea eb ec ed is = subst (LookAt window j word home) (λ k. (sym ea k, sym eb k, sym ec k, sym ed k)) is
 
--- the seats that have seen the book opened may be others, where none has while it isn't opened
+-- the seats that have seen the book opened may be others, if none has while it isn't opened
 pub book-seen : (window : Window) (word : ℕ) (home : maybe.Option (maybe.Option BoardSlot)) (a b c d d' : ℕ) → (d ≡ 0 → d' ≡ 0) → IsBookKept window word home a b c d → IsBookKept window word home a b c d'
 book-seen window word home a b c d d' none_more is = record { out = is.out; bit = is.bit; once = is.once; unheld = is.unheld; unseen = (λ e. none_more (is.unseen e)); bare = is.bare; stands = is.stands }
 

@@ -41,7 +41,7 @@ put-done me begun new ticket puts has = has ∙ ap (λ (m : At). (has_put m.0 ti
 pub put-rests : (me begun new : At) (ticket : ℕ) → begun ≡ (puts_now me.0 ticket, (ticket + 1, Nothing) ∷ me.1) → new ≡ (has_put begun.0 ticket, rest begun.1) → IsAtRest me → IsAtRest new
 put-rests me begun new ticket puts has = at-rest-so me new (has_put me.0 ticket) (put-done me begun new ticket puts has) refl refl refl
 
--- what is so of something, where it is this
+-- what is so of something, if it is this
 pub if-some : {A : Type 0} (P : A → Type 0) (r : Option A) (x : A) → r ≡ Some x → P x → IfSome r P
 if-some P r x is p = subst (λ (o : Option _). IfSome o P) (sym is) p
 

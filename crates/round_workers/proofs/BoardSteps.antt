@@ -13,7 +13,7 @@ use Rattle.round_workers.specs.BoardView.{window_for}
 use Rattle.round_workers.specs.BoardRule.{AreDealt, IsBookKeptBy, IsKept, IsLookKeptBy, Sits, has_opened, is_first, phase_opening, putting, taking, turns_of}
 use Rattle.round_workers.proofs.BoardKeeps.{book-stays, look-stays, parts-stay, seats-set, tickets-stay}
 
--- a seat knows, has made, has drawn and is made of what it was
+-- a seat knows, has made, has drawn and is built from what it was
 pub record IsSameSeat (v w : View) : Type 0 where
   pub about : w.about ≡ v.about
   pub number : w.number ≡ v.number

@@ -65,7 +65,7 @@ pub late-append : (n : ℕ) (l m : List ℕ) → late_among n (l ++ m) ≡ late_
 late-append n [] m = omega arith
 late-append n (y ∷ ys) m = let r = late-append n ys m in omega arith
 
--- a test of two numbers counts one where they are equal, and else none
+-- a test of two numbers counts one where they are equal, and otherwise none
 pub same-one : (a b : ℕ) → a ≡ b → one_if (nat_eq a b) ≡ 1
 same-one a b e = ap one_if (eq-eqb a b e)
 
@@ -121,6 +121,6 @@ module _ {A : Type 0} (f : A → ℕ) where
   total-two (x ∷ xs) (suc i) zero v w e d ne = let is : f x ≡ f w = ap f (some-injective x w d) in let r = total-at f xs i v e in omega arith
   total-two (x ∷ xs) (suc i) (suc j) v w e d ne = let r = total-two xs i j v w e d (λ h. ne (ap suc h)) in omega arith
 
-  -- where one element becomes what two were, and the other counts none, the total stays
+  -- if one element becomes what two were, and the other counts none, the total stays
   pub total-joined : (l : List A) (i j : ℕ) (v w both spent : A) → get_elem? l i ≡ some v → get_elem? (set l i both) j ≡ some w → f spent ≡ 0 → summed f (set (set l i both) j spent) + (f v + f w) ≡ summed f l + f both
   total-joined l i j v w both spent e d none_left = let a = total-set f l i v both e in let b = total-set f (set l i both) j w spent d in omega arith

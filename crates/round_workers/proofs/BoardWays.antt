@@ -53,7 +53,7 @@ module _ (window : Window) (playable : IsPlayable window) where
 pub way-map : (window : Window) (P Q : machine.State → Type 0) → ((m : machine.State) → P m → Q m) → Way window P → Way window Q
 way-map window P Q known way = record { events = way.events; lawful = way.lawful; there = known (machine.run window (machine.first_state window) way.events) way.there }
 
--- one hand has drawn so many tickets
+-- one hand has drawn this many tickets
 pub record HasDrawn (window : Window) (c : ℕ) (m : machine.State) : Type 0 where
   pub drawn : m.drawn ≡ c
   pub held : (x : ℕ) → x < c → Contains (m.hands 0) x
@@ -65,7 +65,7 @@ pub record HasPut (window : Window) (s : State BoardSlot View) (c n : ℕ) (m : 
   pub has_drawn : HasDrawn window c m
   pub put : (j : ℕ) → machine.IsPut m j ↔ ((j < n) × (1 ≤ putters s j))
 
--- and so many turns are settled
+-- and this many turns are settled
 pub record HasSettled (window : Window) (key : Basis) (s : State BoardSlot View) (n : ℕ) (said : List Verdict) (m : machine.State) : Type 0 where
   pub mirrors : Mirrors key s m
   pub next : m.next ≡ window.from + n

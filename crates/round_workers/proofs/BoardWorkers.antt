@@ -88,7 +88,7 @@ module _ (v : View) (made : List ℕ) (is : IsWorker v made) (t : ℕ) (above : 
   pub new-drawn : 1 ≤ times t (v.drawn ++ t ∷ [])
   new-drawn = let a = times-append t v.drawn (t ∷ []) in let b = same-one t t refl in omega arith
 
-  -- a worker that drew a ticket behind the window
+  -- a worker that drew a ticket after the window
   pub worker-late : turns_in (window_about v.about) ≤ t → IsWorker (drew v t) made
   worker-late le = record { other = is.other; free = is.free; alone = is.alone; in_order = ascends-snoc 0 t v.drawn (omega arith) is.in_order above; puts = is.puts ∙ sym (those_below-late turns t v.drawn le); made_them = is.made_them }
 
@@ -158,7 +158,7 @@ module _ (v drawn put w : View) (made : List ℕ) (t n : ℕ) (same_n : n ≡ tu
   pub more-served : HasServed n v w true
   more-served = subst (λ (m : ℕ). HasServed m v w true) (sym same_n) (served-more v made is t above (subst (λ (m : ℕ). t < m) same_n within) w same-is tried-is)
 
--- a book stands on a field that is lent for a window exactly where it stands for the window
+-- a book stands on a field that is lent for a window exactly if it stands for the window
 module _ (field : FieldValue) (window : Window) (lent : IsLentFor field window) where
   its-window : (book : BookValue) → book.from ≡ window.from → book.to ≡ window.to → window_of field book.from book.to ≡ window
   its-window book a b = ap₂ (window_of field) a b ∙ lent.same
@@ -171,7 +171,7 @@ module _ (field : FieldValue) (window : Window) (lent : IsLentFor field window) 
   for-on old book for same on = let one = its-window book (same.from ∙ for.stands.from) (same.to ∙ for.stands.to) in
       subst (λ (w : Window). StandsFor w book) one on.stands
 
--- the look of a window, from what it is made of
+-- the look of a window, from what it is built from
 pub look-so : (window : Window) (t g seed : ℕ) (minds : Minds) (base : World) → minds ≡ window.minds → seed ≡ window.seed → base ≡ window.base → g ≡ guess_for window t → look_of minds seed base g t ≡ look_for window t
 unfolding look_for
 look-so window t g seed minds base em es eb eg = λ k. look_of (em k) (es k) (eb k) (eg k) t
@@ -180,7 +180,7 @@ look-so window t g seed minds base em es eb eg = λ k. look_of (em k) (es k) (eb
 pub window_at : (field : FieldValue) (window : Window) → IsLentFor field window → (from to : ℕ) → from ≡ window.from → to ≡ window.to → window_of field from to ≡ window
 window_at field window lent from to a b = ap₂ (window_of field) a b ∙ lent.same
 
--- a worker that goes on has fewer tickets left
+-- a worker that continues has fewer tickets left
 pub fewer : (n : ℕ) (v w : View) (made : List ℕ) → IsWorker w made → HasServed n v w true → n + 1 - length w.drawn < n + 1 - length v.drawn
 fewer n v w made is served = let long = ascends-length 0 n w.drawn (omega arith) is.in_order (served.early refl) in let one = served.drew in omega arith
 

@@ -118,7 +118,7 @@ shares-push pieces new n piece share at has is =
     let long : length new ≡ length pieces + 1 = ap length is ∙ length-append pieces (piece ∷ []) in
     shares-more pieces new n piece share has (take_all (n + 1) new (omega arith) ∙ is ∙ ap (λ xs. xs ++ piece ∷ []) (sym (take_all n pieces (omega arith))))
 
--- a window's piece, where the window may begin
+-- a window's piece, if the window may begin
 begin-front : (field : FieldValue) (from to end : ℕ) → CanBegin field from to → from ≤ end → end ≤ to → CanBegin field from end
 begin-front field from to end begin first within = record {
   whole = begin.whole;
@@ -173,7 +173,7 @@ AreConsecutive-item pieces i piece from to below is follow =
     let rest : (get_or pieces i piece).share.to ≤ to = AreConsecutive-within (map (λ p. p.share) (drop (suc i) pieces)) (get_or pieces i piece).share.to to front.2 in
     subst (λ (p : Piece). p.share.to ≤ to) (sym is) rest
 
--- and what is left behind it follows it
+-- and what is left after it follows it
 pub AreConsecutive-after : (pieces : List Piece) (i : ℕ) (piece : Piece) (from to next end : ℕ) → i < length pieces → piece ≡ get_or pieces i piece → AreConsecutive (map (λ p. p.share) (drop i pieces)) from to
     → next ≡ piece.share.to → end ≡ to → AreConsecutive (map (λ p. p.share) (drop (i + 1) pieces)) next end
 AreConsecutive-after pieces i piece from to next end below is follow here ends =

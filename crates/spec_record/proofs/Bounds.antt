@@ -29,7 +29,7 @@ flat_map-all : (P : Pos → Type 0) (f : Pos → List Pos) (places : List Pos) �
 flat_map-all P f [] all = tt
 flat_map-all P f (r ∷ places) all = AllByRecursion-append P (f r) (flat_map f places) all.0 (flat_map-all P f places all.1)
 
--- what holds of some positions, where these are taken or none
+-- what holds of some positions, if these are taken or none
 all-if : (P : Pos → Type 0) (b : Bool) (places : List Pos) → (b ≡ true → AllByRecursion P places) → AllByRecursion P (if b then places else [])
 all-if P true places all = all refl
 all-if P false places all = tt

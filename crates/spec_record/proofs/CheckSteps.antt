@@ -22,7 +22,7 @@ use Rattle.spec_record.specs.Reads.{ant_and_food, emptied}
 use Rattle.spec_record.proofs.OwnSteps.{kill_step}
 use Rattle.spec_record.proofs.Steps.{InStep, InStep-keeps, InStep-none, InStep-put, InStep-then}
 
--- what is asked of an ant that may not be there, where that depends on its identity alone
+-- what is asked of an ant that may not be there, if that depends on its identity alone
 of_identity : {A : Type 0} (f : Option Ant → A) (g : Option Identity → A) → ((o : Option Ant) → f o ≡ g (option_map identity_of o)) → (a b : Option Ant) → option_map identity_of a ≡ option_map identity_of b → f a ≡ f b
 of_identity {A} f g by a b who = by a ∙ ap g who ∙ sym (by b)
 
@@ -70,7 +70,7 @@ filter-alike : {A : Type 0} (f g : A → Bool) (xs : List A) → AllByRecursion 
 filter-alike {A} f g [] all = refl
 filter-alike {A} f g (x ∷ xs) all = ap₂ (λ (b : Bool) (rest : List A). if b then x ∷ rest else rest) all.0 (filter-alike f g xs all.1)
 
--- what a check of a cell depends on: whose ant is there, and where there is one, whose ants are around it
+-- what a check of a cell depends on: whose ant is there, and if there is one, whose ants are around it
 pub record Sees (v w : Cells) (x : Pos) : Type 0 where
   pub here : Alike Who (v x) (w x)
   pub around : has_ant (v x).ant ≡ true → AllByRecursion (λ n. Alike Who (v n) (w n)) (neighbours_of x)

@@ -234,7 +234,7 @@ pub positions-merged : (P : Pos → Type 0) (claims : List Claim) → AllByRecur
 unfolding merged
 positions-merged P claims all = positions-merged_onto P claims [] tt all
 
--- where each position is claimed once, what is claimed there is that claim's
+-- if each position is claimed once, what is claimed there is that claim's
 pub own_parts : (claims : List Claim) → EachOnce (positions claims) → AllByRecursion (λ c. parts_at claims c.at ≡ c.parts) claims
 own_parts [] once = tt
 own_parts (c ∷ claims) once = (

@@ -35,11 +35,11 @@ check_all-elsewhere sheet [] cells p others = refl
 check_all-elsewhere sheet (q ∷ places) cells p others =
     check_all-elsewhere sheet places (check_at sheet cells q) p others.1 ∙ check_at-elsewhere sheet cells q p (λ e. others.0 (sym e))
 
--- this position, where an ant was and none is at last
+-- this position, if an ant was and none is at last
 abbrev emptied_at : Cells → Cells → Pos → List Pos
 emptied_at cells last r = if has_ant (cells r).ant && not (has_ant (last r).ant) then r ∷ [] else []
 
--- what each of a list brings, where it brings the same
+-- what each of a list brings, if it brings the same
 pub flat_map-alike : {A B : Type 0} (f g : A → List B) (xs : List A) → AllByRecursion (λ x. f x ≡ g x) xs → flat_map f xs ≡ flat_map g xs
 flat_map-alike {A} {B} f g [] alike = refl
 flat_map-alike {A} {B} f g (x ∷ xs) alike = ap (λ some. some ++ flat_map f xs) alike.0 ∙ ap (λ more. g x ++ more) (flat_map-alike f g xs alike.1)

@@ -46,7 +46,7 @@ turn_from-drew : (minds : Minds) (seed : ℕ) (cells : Cells) (place : ℕ) (o :
 turn_from-drew minds seed cells place None = refl
 turn_from-drew minds seed cells place (Some p) = turn_at-drew minds seed cells place p (cells p).ant
 
--- a turn draws a random number exactly where its ant is alive, not resting and at a Flip
+-- a turn draws a random number exactly if its ant is alive, not resting and at a Flip
 pub turn-drew : (minds : Minds) (seed : ℕ) (w : World) (place t : ℕ) → (turn minds seed w place t).drew ≡ flips minds w t
 unfolding turn flips
 turn-drew minds seed w place t = turn_from-drew minds seed w.cells place (place_in w t)

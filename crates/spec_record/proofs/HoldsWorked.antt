@@ -49,7 +49,7 @@ marking = refl
 abbrev marked_world : Cond → World
 marked_world asked = with_cells one_each (turn (mark_and_sense asked) 7 one_each 0 0).cells
 
--- the black ant and its own cell are as they were
+-- the black ant and its own cell are unchanged
 own_same : (asked : Cond) → Agree who_and_mind (one_each.cells (at 1 2)) ((marked_world asked).cells (at 1 2))
 unfolding turn place_in put_cell same_pos cell_in opening rock floor
 own_same asked part.Who named = refl

@@ -25,7 +25,7 @@ unfolding laid
 laid-last cells [] p cell = refl
 laid-last cells (new ∷ more) p cell = laid-last (put_cell cells new.0 new.1) more p cell
 
--- the cell that was found, or this one where none was
+-- the cell that was found, or this one if none was
 abbrev pub or_cell : Option Cell → Cell → Cell
 or_cell None cell = cell
 or_cell (Some found) cell = found
@@ -53,7 +53,7 @@ found_holds-laid : (base : Cells) (t : ℕ) (p : Pos) (sets : Sets) → found_ho
 found_holds-laid base t p sets holds =
     ap (holds_id t) (laid-newest base base p None sets refl) ∙ found_holds-or (base p) t (newest None p sets) holds
 
--- where the search finds an ant, its cell holds it
+-- if the search finds an ant, its cell holds it
 pub first_held-holds : (base : Cells) (t : ℕ) (all sets : Sets) (p : Pos) → first_held all t sets ≡ Some p → holds_id t (laid base all p) ≡ true
 first_held-holds base t all [] p found = absurd (cc)
 first_held-holds base t all (new ∷ more) p found =
@@ -62,7 +62,7 @@ first_held-holds base t all (new ∷ more) p found =
       | inr there ↦ first_held-holds base t all more p (sym (cond-false _ _ _ there) ∙ found)
     ]
 
--- where it finds none, a position whose last cell holds it is none that was set
+-- if it finds none, a position whose last cell holds it is none that was set
 first_held-none : (t : ℕ) (all sets : Sets) (p : Pos) → first_held all t sets ≡ None → found_holds t (newest None p all) ≡ true → newest None p sets ≡ None
 first_held-none t all [] p none holds = refl
 first_held-none t all (new ∷ more) p none holds =
@@ -105,7 +105,7 @@ place_in-is_gone trail t p valid none was gone =
     let same : q ≡ p = cc in
     both_ways (holds_id t ((trail_world trail).cells p)) gone (ap (λ r. holds_id t ((trail_world trail).cells r)) (sym same) ∙ holds)
 
--- the search goes on with the next set
+-- the search continues with the next set
 pub newest-next : (found : Option Cell) (p : Pos) (sets : Sets) (k : ℕ) (z : Pos × Cell) → k < length sets →
     newest found p (drop k sets) ≡ newest (cond (same_pos (slice_index_or sets k z).0 p) (Some (slice_index_or sets k z).1) found) p (drop (k + 1) sets)
 newest-next found p sets k z below =

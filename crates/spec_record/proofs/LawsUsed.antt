@@ -77,7 +77,7 @@ turns_are_local_used law now place later holds =
     flipped_so now.cells (turn minds 12345 now place 4) (subst (λ look. IsLookedAt look now.cells (turn minds 12345 now place 4)) look-flipped (law minds 12345 field 1 now place 4 later holds))
 
 -- a world as wide and high as the field, with its rocks and hills, on which the ant is on one cell at most, and where
--- it is as it was
+-- it is unchanged
 module _ (now : World) (wide : now.width ≡ 7) (high : now.height ≡ 6) (rocks : (p : Pos) → (now.cells p).rocky ≡ (field.cells p).rocky)
     (hills : (p : Pos) → (now.cells p).hill ≡ (field.cells p).hill) (dead : place_in field 4 ≡ None → place_in now 4 ≡ None)
     (once : (p q : Pos) → holds_id 4 (now.cells p) ≡ true → holds_id 4 (now.cells q) ≡ true → p ≡ q)

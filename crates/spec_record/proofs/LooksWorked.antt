@@ -134,7 +134,7 @@ reads-senses : (asking : Cond) → reads (contest_minds (Sense Ahead 0 0 asking 
 unfolding reads writes merged stepped is_surrounded check_at killed_at places_around put_cell same_pos neighbours_of adjacent_pos sensed_pos directions opening cell_in rock floor place_in
 reads-senses asking = refl
 
--- and its own cell, where it senses that: both in one claim
+-- and its own cell, if it senses that: both in one claim
 reads-own : reads (contest_minds (Sense Here 0 0 condition.Food ∷ []) (Move 0 0 ∷ [])) field 2 ≡ claim (at 3 3) (record { who = true; mind = true; load = false; food = true; red_marks = false; black_marks = false }) ∷ []
 unfolding reads writes merged stepped is_surrounded check_at killed_at places_around put_cell same_pos neighbours_of adjacent_pos sensed_pos directions opening cell_in rock floor place_in
 reads-own = refl

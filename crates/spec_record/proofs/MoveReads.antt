@@ -42,7 +42,7 @@ unfolding places_around
 seen_from-parts list cells parts p q =
     sightings_of-append (sighted list (q, parts, cells q)) cells parts (neighbours_of q) (flat_map (beyond cells p) (neighbours_of q))
 
--- there is room for the neighbours' where there is for all
+-- there is room for the neighbours' if there is for all
 pub seen_from-beside_room : (list : List Sighting) (cells : Cells) (parts : Parts) (p q : Pos) (n : ℕ) → length (all_sighted list (sightings_of cells parts (seen_from cells p q))) ≤ n →
     length (all_sighted (sighted list (q, parts, cells q)) (sightings_of cells parts (neighbours_of q))) ≤ n
 seen_from-beside_room list cells parts p q n fits =
@@ -61,7 +61,7 @@ pub fallen-parts : (list : List Sighting) (cells before last : Cells) (parts : P
 unfolding places_around
 fallen-parts list cells before last parts p q = sightings_of-append list cells parts (fallen_at before last p q q) (flat_map (fallen_at before last p q) (neighbours_of q))
 
--- there is room for the first where there is for all
+-- there is room for the first if there is for all
 pub fallen-own_room : (list : List Sighting) (cells before last : Cells) (parts : Parts) (p q : Pos) (n : ℕ) → length (all_sighted list (sightings_of cells parts (fallen before last p q))) ≤ n →
     length (all_sighted list (sightings_of cells parts (fallen_at before last p q q))) ≤ n
 fallen-own_room list cells before last parts p q n fits =

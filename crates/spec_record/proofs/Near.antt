@@ -84,7 +84,7 @@ sighted-unseen (old ∷ list) new none =
     let both = or_parts (same_pos (seen_place old) (seen_place new)) (is_seen (seen_place new) list) none in
     cond-false _ _ _ both.0 ∙ ap (λ more. old ∷ more) (sighted-unseen list new both.1)
 
--- one that is in the list, where the parts were named before, changes nothing
+-- one that is in the list, if the parts were named before, changes nothing
 pub sighted-seen : (list : List Sighting) (p : Pos) (parts : Parts) (cell : Cell) → is_seen p list ≡ true → AllByRecursion (λ (s : Sighting). union (seen_parts s) parts ≡ seen_parts s) list → sighted list (p, parts, cell) ≡ list
 sighted-seen [] p parts cell is named = absurd (cc)
 sighted-seen (old ∷ list) p parts cell is named =

@@ -70,7 +70,7 @@ module _ (c d : Cell) (a b a1 b1 : Ant) (holds_c : c.ant ≡ Some a) (holds_d : 
   same_there : IsSameAnt d.ant (Some a1)
   same_there = subst (λ o. IsSameAnt o (Some a1)) (sym holds_d) (same ∙ sym a_who)
 
-  -- so what changes of them, but for who they are, can be patched
+  -- so what changes of them, except for who they are, can be patched
   can_patch : (parts : Parts) (c1 : Cell) → c1.ant ≡ Some a1 → parts.who ≡ false → CanPatch d c1 parts
   can_patch parts c1 holds nobody = record {
     mind = λ e. absurd (false≢true (sym nobody ∙ e));
@@ -78,7 +78,7 @@ module _ (c d : Cell) (a b a1 b1 : Ant) (holds_c : c.ant ≡ Some a) (holds_d : 
     same_ant = λ _ _. subst (IsSameAnt d.ant) (sym holds) same_there;
   }
 
-  -- what they carry, where it stays
+  -- what they carry, if it stays
   module _ (a_load : a1.laden ≡ a.laden) (b_load : b1.laden ≡ b.laden) where
     carries_a : Some a1.laden ≡ option_map (λ ant. ant.laden) c.ant
     carries_a = ap Some a_load ∙ sym (ap (option_map (λ ant. ant.laden)) holds_c)

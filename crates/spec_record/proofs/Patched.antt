@@ -32,7 +32,7 @@ patched-none cell source = ap (λ o. record cell { ant = o }) (unpatched cell.an
   unpatched (Some ant) None = refl
   unpatched (Some ant) (Some other) = refl
 
--- what patches make of a cell, where each position is claimed once: that cell with all that is claimed there
+-- what patches make of a cell, if each position is claimed once: that cell with all that is claimed there
 pub patched_cells-at : (claims : List Claim) (cells after : Cells) (r : Pos) → EachOnce (positions claims) → patched_cells cells (with_cells_at after claims) r ≡ patched (cells r) (after r) (parts_at claims r)
 patched_cells-at [] cells after r once = sym (patched-none (cells r) (after r))
 patched_cells-at (c ∷ claims) cells after r once =
@@ -121,6 +121,6 @@ turn-looked_at minds seed base guess now place t goes holds =
       hills = λ p. (step.each p).same_hill;
     }
 
--- a later world goes on from the base
+-- a later world continues from the base
 pub later-GoesOn : (minds : Minds) (base now : World) (t : ℕ) → IsLater minds base now → GoesOn base now t
 later-GoesOn minds base now t later = record { width = later.width; height = later.height; rocks = later.rocks; hills = later.hills; dead = later.dead t; once = later.valid.once t }

@@ -39,7 +39,7 @@ Replaces-then {a} {b} {c} first second = record {
   no_heavier = let one : cell_weight b ≤ cell_weight a = first.no_heavier in let two : cell_weight c ≤ cell_weight b = second.no_heavier in omega arith;
 }
 
--- a cell without an ant, where an ant would have been killed
+-- a cell without an ant, if an ant would have been killed
 Replaces-spared : (sheet : Sheet) (cell : Cell) → cell.ant ≡ None → Replaces cell (after_kill sheet cell)
 unfolding cell_weight
 Replaces-spared sheet cell none = record {
@@ -71,7 +71,7 @@ arrives-heavier sheet cell ant next none light =
     let empty : ant_weight cell.ant ≡ 0 = ap ant_weight none in
     omega (arith, light, empty)
 
--- where it is killed, nobody new is there
+-- if it is killed, nobody new is there
 Replaces-perished : (sheet : Sheet) (cell : Cell) (ant : Ant) (next : ℕ) → cell_weight (after_kill sheet (with_ant cell (arrived sheet ant next))) ≤ cell_weight cell → Replaces cell (after_kill sheet (with_ant cell (arrived sheet ant next)))
 Replaces-perished sheet cell ant next light = record { same_kind = refl; same_hill = refl; same_ant = λ t held. absurd (false≢true held); no_heavier = light }
 

@@ -164,7 +164,7 @@ module _ (sheet : Sheet) (v w : Cells) (p : Pos) (ant : Ant) (q : Pos) (next : �
       KeepSame-put (put_cell v p (left_by_ant (v p))) (put_cell w p (left_by_ant (w p))) q (with_ant (v q) (arrived sheet ant next)) (with_ant (w q) (arrived sheet ant next))
       (ap (λ (c : Cell). with_ant c (arrived sheet ant next)) there) r (KeepSame-put v w p (left_by_ant (v p)) (left_by_ant (w p)) (ap left_by_ant here) r same)
 
-  -- where the cells around are the same, each place of the checks sees the same
+  -- if the cells around are the same, each place of the checks sees the same
   SeesSame-around : (v1 w1 : Cells) → AllByRecursion (λ r. v1 r ≡ w1 r) (seen_around v1 q) → AllByRecursion (SeesSame v1 w1) (places_around q)
   unfolding places_around
   SeesSame-around v1 w1 all =

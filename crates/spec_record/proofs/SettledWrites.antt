@@ -20,7 +20,7 @@ use Rattle.cell_world.proofs.ValidLemmas.{CanSet-replaces, Valid-put}
 use Rattle.spec_record.specs.Claims.{EachOnce, Sighting, seen_cell, seen_parts, seen_place, seen_positions}
 use Rattle.spec_record.specs.Patches.{CanSetHeavier, CanSetLighter, CanSetWrites, CanWrite, after_heavier, after_lighter, patched_by_write, raises, with_heavier, with_lighter}
 
--- a write makes of its cell the one that is wanted there
+-- a write makes of its cell the one that is needed there
 pub record Makes (cells wanted : Cells) (write : Sighting) : Type 0 where
   pub can_patch : CanPatch (cells (seen_place write)) (seen_cell write) (seen_parts write)
   pub makes : patched_by_write cells write ≡ wanted (seen_place write)
@@ -80,14 +80,14 @@ lighter_can w room wanted write left valid eases light =
     }
 
 -- what comes of the writes that don't raise their cell's weight: each of these cells is as wanted, and all others are
--- as they were
+-- unchanged
 pub record Eased (w : World) (wanted : Cells) (writes : List Sighting) (now : World) : Type 0 where
   pub valid : Valid now
   pub sizes : with_cells now w.cells ≡ w
   pub others : (p : Pos) → AllByRecursion (λ q. q ≢ p) (seen_positions writes) → now.cells p ≡ w.cells p
   pub each : AllByRecursion (λ write. (raises w.cells write ≡ false → now.cells (seen_place write) ≡ wanted (seen_place write)) × (raises w.cells write ≡ true → now.cells (seen_place write) ≡ w.cells (seen_place write))) writes
 
--- what holds of each write, where the world changed at none of their positions
+-- what holds of each write, if the world changed at none of their positions
 all_apart : (P Q : Sighting → Type 0) (writes : List Sighting) (p : Pos) → AllByRecursion (λ q. q ≢ p) (seen_positions writes) → ((write : Sighting) → seen_place write ≢ p → P write → Q write) → AllByRecursion P writes → AllByRecursion Q writes
 all_apart P Q [] p apart f all = tt
 all_apart P Q (write ∷ writes) p apart f all = (f write apart.0 all.0, all_apart P Q writes p apart.1 f all.1)
@@ -192,8 +192,8 @@ heavier_one room q (write ∷ writes) w once light can =
       )
     ]
 
--- what comes of the writes that raise their cell's weight: each of these cells is as wanted, and all others are as they
--- were
+-- what comes of the writes that raise their cell's weight: each of these cells is as wanted, and all others are
+-- unchanged
 record Raised (w : World) (wanted : Cells) (writes : List Sighting) (now : World) : Type 0 where
   sizes : with_cells now w.cells ≡ w
   others : (p : Pos) → AllByRecursion (λ q. q ≢ p) (seen_positions writes) → now.cells p ≡ w.cells p
@@ -284,7 +284,7 @@ module _ {w : World} {wanted : Cells} {writes : List Sighting} {q : Pos} (settle
   unfolding between
   first = lighter_all room wanted writes w left settles.valid settles.once eased
 
-  -- there each write makes what is wanted
+  -- there each write makes what is needed
   made_between : AllByRecursion (Makes between.cells wanted) writes
   unfolding between
   made_between = zip_all (Makes w.cells wanted) (λ write. (raises w.cells write ≡ false → between.cells (seen_place write) ≡ wanted (seen_place write)) × (raises w.cells write ≡ true → between.cells (seen_place write) ≡ w.cells (seen_place write))) (Makes between.cells wanted) writes

@@ -241,7 +241,7 @@ pub claims-append : (cells : Cells) (some more : List Claim) → with_cells_at c
 claims-append cells [] more = refl
 claims-append cells (c ∷ some) more = ap (λ rest. sight cells c ∷ rest) (claims-append cells some more)
 
--- there is room for the next sighting where there is room for all
+-- there is room for the next sighting if there is room for all
 pub sightings_of-step_room : (list whole : List Sighting) (cells : Cells) (parts : Parts) (places : List Pos) (k : ℕ) (z : Pos) (n : ℕ) → k < length places →
     all_sighted list (sightings_of cells parts (drop k places)) ≡ whole → length whole ≤ n → length (sighted list (slice_index_or places k z, parts, cells (slice_index_or places k z))) ≤ n
 sightings_of-step_room list whole cells parts places k z n below is fits =

@@ -19,7 +19,7 @@ use Rattle.spec_record.proofs.ClaimLemmas.{Agree-union, has_part-none, has_part-
 pub record CellStep (parts : Parts) (c d c' d' : Cell) : Type 0 where
   -- these parts are alike then
   pub named : Agree parts c' d'
-  -- every other part is as it was
+  -- every other part is unchanged
   pub base_others : (k : Part) → has_part parts k ≡ false → Alike k c' c
   pub now_others : (k : Part) → has_part parts k ≡ false → Alike k d' d
   -- so are ground and hill

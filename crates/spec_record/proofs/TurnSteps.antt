@@ -103,7 +103,7 @@ module _ (sheet : Sheet) (v w : Cells) (p : Pos) (ant : Ant) (q : Pos) (next : �
       rw (put_cell-other v p (left_by_ant (v p)) q apart, put_cell-other w p (left_by_ant (w p)) q apart) (arrived_step (v q) (w q) (arrived sheet ant next)) in
       InStep-then first (InStep-put q whole_ant v1 w1 (with_ant (v q) (arrived sheet ant next)) (with_ant (w q) (arrived sheet ant next)) there)
 
-  -- where those ants are alike that decide the checks, each place is seen alike
+  -- if those ants are alike that decide the checks, each place is seen alike
   seen_alike : (v1 w1 : Cells) → AllByRecursion (λ r. Alike part.Who (v1 r) (w1 r)) (seen_around v1 q) → AllByRecursion (Sees v1 w1) (places_around q)
   unfolding places_around
   seen_alike v1 w1 all =
@@ -188,7 +188,7 @@ module _ (sheet : Sheet) (seed : ℕ) (v w : Cells) (rocks : (r : Pos) → (w r)
       (InStep-put p (union (only part.Mind) load_and_food) v w (record (v p) { food = f; ant = Some a1 }) (record (w p) { food = g; ant = Some b1 })
       (food_step (v p) (w p) a ant_now a1 b1 holds_v holds_w refl a_who b_who posture f g food load))
 
-  -- a PickUp, where it is barred or not
+  -- a PickUp, whether it is barred or not
   pick_up_both : (barred : Bool) (met unmet : ℕ) → (v p).food ≡ (w p).food → a.laden ≡ laden → InStep (claim p (only part.Mind) ∷ claim p load_and_food ∷ []) v w
       (put_cell v p (if barred then with_ant (v p) (in_state a unmet) else record (v p) { food = (v p).food - 1; ant = Some (record a { laden = true; state = met }) }))
       (put_cell w p (if barred then with_ant (w p) (in_state ant_now unmet) else record (w p) { food = (w p).food - 1; ant = Some (record ant_now { laden = true; state = met }) }))
@@ -267,7 +267,7 @@ acts_both minds seed v w rocks hills place now_place p a laden holds_v holds_w (
   killed = refl;
 }
 
--- an ant of one identity and posture is the same but for what it carries
+-- an ant of one identity and posture is the same except for what it carries
 same_but_load : (a : Ant) (o : Option Ant) → Some (identity_of a) ≡ option_map identity_of o → Some (posture_of a) ≡ option_map posture_of o → (laden : Bool) × (o ≡ Some (record a { laden = laden }))
 same_but_load a None who mind = absurd (cc)
 same_but_load a (Some b) who mind = (b.laden, ap Some (same_parts_ant b (record a { laden = b.laden }) (sym (some_one who)) (sym (some_one mind)) refl))
@@ -295,7 +295,7 @@ module _ (minds : Minds) (seed : ℕ) (base : World) (guess : ℕ) (now : World)
       rw holder.is
       (stands_both p holder.ant found holder.is holder.id (rw holder.is at agree) (rw holder.is at guessed))
 
-  -- where a look holds, its turn is a step of the base and of now at once
+  -- if a look holds, its turn is a step of the base and of now at once
   pub turn_both : Holds minds base guess now place t → SameOutcome (writes_from minds base.cells (place_in base t)) base.cells now.cells (turn minds seed base guess t) (turn minds seed now place t)
   unfolding turn reads flips
   turn_both holds = found_both (place_in base t) refl (AgreeInAll-merged base.cells now.cells (reads_from minds base.cells (place_in base t)) holds.unchanged) holds.guessed

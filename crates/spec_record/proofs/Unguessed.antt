@@ -40,7 +40,7 @@ turn-unguessed : (minds : Minds) (seed : ℕ) (w : World) (one other t : ℕ) �
 unfolding turn flips
 turn-unguessed minds seed w one other t drawless = turn_from-unguessed minds seed w.cells one other (place_in w t) drawless
 
--- the look at it is the same but for the guess itself
+-- the look at it is the same except for the guess itself
 pub look_of-unguessed : (minds : Minds) (seed : ℕ) (w : World) (one other t : ℕ) → flips minds w t ≡ false → record (look_of minds seed w one t) { guess = other } ≡ look_of minds seed w other t
 unfolding look_of
 look_of-unguessed minds seed w one other t drawless =

@@ -22,7 +22,7 @@ all_agree v (c ∷ claims) = (λ k named. refl, all_agree v claims)
 pub Holds-itself : (minds : Minds) (w : World) (place t : ℕ) → Holds minds w place w place t
 Holds-itself minds w place t = record { unchanged = all_agree w.cells (reads minds w t); guessed = λ _. refl }
 
--- and a world goes on from itself
+-- and a world continues from itself
 pub GoesOn-itself : (w : World) (t : ℕ) → Valid w → GoesOn w w t
 GoesOn-itself w t valid = record { width = refl; height = refl; rocks = λ p. refl; hills = λ p. refl; dead = λ dead. dead; once = valid.once t }
 

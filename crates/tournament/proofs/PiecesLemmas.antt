@@ -25,7 +25,7 @@ dealt_more games old new from to le before more =
 pub dealt_push : (pieces : List Piece) (piece : Piece) → dealt_games (pieces ++ piece ∷ []) ≡ dealt_games pieces ++ piece.games.items
 dealt_push pieces piece = sym (flat_map_more (λ p. p.games.items) [] pieces piece)
 
--- a list with no game behind it
+-- a list with no game after it
 pub nothing_more : {X : Type 0} (xs games : List X) → (length games == 0) ≡ true → xs ≡ xs ++ games
 nothing_more xs [] none = sym (append-nil xs)
 nothing_more xs (game ∷ games) none = let never = sym none ∙ eqb-suc-zero (length games) in absurd (cc)
@@ -60,7 +60,7 @@ ready_by knows (piece ∷ pieces) known fresh =
     let rest = All-right (λ game. knows game.world game.red game.black) piece.games.items (dealt_games pieces) known in
     All-cons (IsPieceReady knows) piece pieces (record { fresh = fresh 0 piece (omega arith); known = here }) (ready_by knows pieces rest (λ k d lt. fresh (suc k) d (omega arith)))
 
--- what all pieces played together, where no game was refused
+-- what all pieces played together, if no game was refused
 pub done : (score : ℕ → ℕ → ℕ → Score) (old new : List Piece) → length new ≡ length old
     → ((i : ℕ) (d : Piece) → i < length old → IsPieceDone score (get_or old i d) (get_or new i d))
     → All (λ piece. piece.refused ≡ false) new → played_games new ≡ map (played_by score) (dealt_games old)

@@ -82,7 +82,7 @@ players_in players games lines at =
     (All-map (λ line. line.player < players) (line_of games) (below players)
     (All-weaker (λ p. p < players) (λ p. (line_of games p).player < players) (λ p lt. omega (arith, line_of-player games p)) (below players) (All-below players)))
 
--- where there are at least as many names, each player of a standing has one
+-- if there are at least as many names, each player of a standing has one
 pub players_named : (players count : ℕ) (games : List Played) (lines : List Line) → players ≤ count → Ranks players games lines → All (λ line. line.player < count) lines
 players_named players count games lines le at =
     All-weaker (λ line. line.player < players) (λ line. line.player < count) (λ line lt. omega arith) lines (players_in players games lines at)

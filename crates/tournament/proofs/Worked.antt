@@ -108,7 +108,7 @@ printed_text_is = refl
 pub printed : IsPrintedCupText plain (codes "w" ∷ []) (codes "a" ∷ codes "b" ∷ []) score printed_text
 printed = record { lines = line_b ∷ line_a ∷ []; standing = b_then_a; is = printed_text_is }
 
--- on a second world v the numbers go on; each game has the name of its own world, and red's score first
+-- on a second world v the numbers continue; each game has the name of its own world, and red's score first
 two_worlds_printed : games_text plain (codes "w" ∷ codes "v" ∷ []) (codes "a" ∷ codes "b" ∷ []) (all_played false 2 2 two_worlds) 1
     ≡ codes "game 1: red 0 black 1, w, a, b\ngame 2: red 1 black 0, w, b, a\ngame 3: red 4 black 4, v, a, b\ngame 4: red 4 black 4, v, b, a\n"
 unfolding digits game_line_text games_of each_pair_on games_with above

@@ -23,7 +23,7 @@ ball_far p q radius k ball far =
 side : ℤ → ℤ → Point
 side x y = record { x = x; y = y }
 
--- where each place of a ball is a position of some kind, so are four at its sides
+-- if each place of a ball is a position of some kind, so are four at its sides
 pub record HasSides (P : Pos → Type 0) (centre : Pos) (radius : ℕ) : Type 0 where
   pub left : (p : Pos) × (p.x + radius ≡ centre.x) × P p
   pub right : (p : Pos) × (p.x ≡ centre.x + radius) × P p

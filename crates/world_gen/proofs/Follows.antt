@@ -18,7 +18,7 @@ use Rattle.world_gen.specs.declared.spot.Figure.{Figure}
 use Rattle.world_gen.specs.declared.spot.Figure.TheVariants.{Hill, Rock, Blob}
 use Rattle.world_gen.specs.declared.spot.Spot.{Spot}
 
--- where one test holds exactly as another does, an element goes to the same spot
+-- if one test holds exactly as another does, an element goes to the same spot
 taken_as : (P Q : Spot → Type 0) (into : (s : Spot) → P s → Q s) (back : (s : Spot) → Q s → P s) (seed width height : ℕ) (figure : Figure) (g : ℕ) (spot : Spot) (after : ℕ)
     → IsChosenSpot P seed width height figure g spot after → IsChosenSpot Q seed width height figure g spot after
 taken_as P Q into back seed width height figure g spot after t = record { try = t.try; below = t.below; is = t.is; fitting = into spot t.fitting; first = λ k h q. t.first k h (back _ q); drew = t.drew }
@@ -90,7 +90,7 @@ goes_no_hill P seed width height e g spot after goes off =
       | inr f ↦ ap (λ (s : Spot). is_hill (paint_of s.figure)) f.is ∙ off
     ]
 
--- so there are at most so many hill cells after n elements
+-- so there are at most this many hill cells after n elements
 pub hills_step : (P : Spot → Type 0) (seed : ℕ) (shape : Shape) (n g : ℕ) (spot : Spot) (after : ℕ) (old new cells : ℕ) → Goes P seed shape.width shape.height (element_of shape n) g spot after
     → old ≤ 127 * min n 2 → one_if (is_hill (paint_of spot.figure)) * cells ≤ 127 → new ≤ old + one_if (is_hill (paint_of spot.figure)) * cells → new ≤ 127 * min (n + 1) 2
 hills_step P seed shape (suc (suc n)) g spot after old new cells goes few one more =

@@ -281,7 +281,7 @@ module _ (width height : ℕ) (narrow : width ≤ 512) (low : height ≤ 512) wh
           | inr never ↦ no (λ fits. never (inner_placed spot fits.off_rim))
         ]
 
--- where an element goes, or that it has no room
+-- the place of an element, or that it has no room
 pub record GoesTo (fits : Spot → Type 0) (seed width height : ℕ) (figure : Figure) (g : ℕ) : Type 0 where
   pub spot : Spot
   pub after : ℕ

@@ -78,7 +78,7 @@ pub line_start : (width height : ℕ) (blocked : List Bool) (start : Pos) (way :
 line_start width height blocked start way free =
     open_here width height blocked start (point_after 0 way (point_of start)) (step_none way (point_of start)) (free 0 (omega arith))
 
--- where all positions on the way have neighbours, steps over positions are steps over places
+-- if all positions on the way have neighbours, steps over positions are steps over places
 pub walked_is : (n : ℕ) (d : Dir) (p : Pos) (q : Point) → point_of p ≡ q → ((k : ℕ) → k < n → HasRound (point_after k d q)) → point_of (walked n d p) ≡ point_after n d q
 unfolding walked point_after
 walked_is zero d p q is has = is

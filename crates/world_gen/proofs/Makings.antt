@@ -64,7 +64,7 @@ module _ (seed : ℕ) (shape : Shape) (n g after : ℕ) (blocked now : List Bool
     none = none_as (AllOpen shape.width shape.height blocked) (IsFreeSpot shape.width shape.height begun.placed) (λ s fits. fits_open shape.width shape.height begun.placed blocked kinds s begun.draft fits) seed shape.width shape.height (element_of shape n) g none;
   }
 
--- where the sizes, the seed and the element are those of the shape
+-- if the sizes, the seed and the element are those of the shape
 pub begun_more : (seed : ℕ) (shape : Shape) (n width height seed_now g after : ℕ) (e : Element) (blocked now : List Bool) (kinds paint : List Kind) → width ≡ shape.width → height ≡ shape.height → seed_now ≡ seed → e ≡ element_of shape n
     → IsBegun seed shape n blocked kinds g → (spot : Spot) × Goes (AllOpen width height blocked) seed_now width height e g spot after × IsElementPut spot width height blocked now kinds paint
     → IsBegun seed shape (n + 1) now paint after

@@ -107,7 +107,7 @@ stamped_more width height done cell kind blocked mid now kinds paint before roun
 pub written_back : {X : Type 0} (xs ys : List X) (n : ℕ) → n ≡ length xs → take n (xs ++ ys) ≡ xs
 written_back xs ys n is = ap (λ k. take k (xs ++ ys)) is ∙ take-append_seam xs ys
 
--- the next cell of a list is stamped, where the lists were lent and are written back
+-- the next cell of a list is stamped, if the lists were lent and are written back
 pub stamped_on : (width height : ℕ) (cells : List Pos) (i : ℕ) (kind : Kind) (blocked mid lent now rest : List Bool) (n : ℕ) (kinds paint lent_kinds kinds_now rest_kinds : List Kind) (m : ℕ)
     → IsStamped width height (take i cells) kind blocked mid kinds paint → i < length cells → IsInside width height (get_or cells i (record { x = 0; y = 0 })) → length kinds ≡ width * height
     → lent ≡ mid → SetsWhere width height true (IsRound (get_or cells i (record { x = 0; y = 0 }))) lent now → n ≡ length mid

@@ -47,7 +47,7 @@ round_touching width height c p inner round =
           inr (way.0, sym (adjacent_pos_table c way.0 inner.from_left inner.from_top) ∙ ap point_of way.1)
     ]
 
--- a spot fits exactly where all its cells are open
+-- a spot fits exactly if all its cells are open
 pub open_fits : (width height : ℕ) (placed : List Spot) (blocked : List Bool) (kinds : List Kind) (spot : Spot) → IsDraft width height placed blocked kinds → AllOpen width height blocked spot → IsFreeSpot width height placed spot
 open_fits width height placed blocked kinds spot draft all = record {
   off_rim = λ q cell. let place = all q cell in (place.0, place.1, draft.fenced.rim place.0 place.2);

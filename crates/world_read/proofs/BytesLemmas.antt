@@ -12,7 +12,7 @@ pub record Spells (byte : ℕ) (kind : Kind) : Type 0 where
   pub is : byte ≡ byte_of kind
   pub fed : IsFed kind
 
--- where a byte stands for a kind, it is that kind's byte
+-- if a byte stands for a kind, it is that kind's byte
 abbrev Stands : ℕ → Option Kind → Type 0
 Stands byte told = (kind : Kind) → told ≡ Some kind → Spells byte kind
 

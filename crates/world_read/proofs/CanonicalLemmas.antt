@@ -27,7 +27,7 @@ is_lf-byte_of : (kind : Kind) → is_lf (byte_of kind) ≡ false
 is_lf-byte_of (Food n) = ne_eqb (48 + n) 10 (omega arith)
 is_lf-byte_of it = refl
 
--- a cell's byte is no separator
+-- a cell's byte is not a separator
 is_separator-byte_of : (kind : Kind) → is_separator (byte_of kind) ≡ false
 is_separator-byte_of (Food n) = rw (ne_eqb (48 + n) 32 (omega arith), ne_eqb (48 + n) 9 (omega arith), ne_eqb (48 + n) 13 (omega arith)) refl
 is_separator-byte_of it = refl

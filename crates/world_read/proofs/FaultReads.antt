@@ -201,7 +201,7 @@ not_all_blank (line ∷ lines) is = go (is_blank line) refl (λ later. not_all_b
       let other = known is in
       record { before = line ∷ other.before; line = other.line; after = other.after; split = ap (λ ls. line ∷ ls) other.split; wrong = other.wrong }
 
--- where the first line gives no size, none is read
+-- if the first line gives no size, none is read
 no_size-known : (lines : List (List ℕ)) → first_size lines ≡ None → BeginsWithNoSize lines
 no_size-known [] is = tt
 no_size-known (line ∷ lines) is = λ size has. let some = size_of-line line size has.is has.least has.most in absurd (cc)

@@ -59,7 +59,7 @@ onto_row-onto : (kind : Kind) (cells : List Kind) (row : Result (List Kind) Worl
 onto_row-onto kind cells (Err fault) = refl
 onto_row-onto kind cells (Ok kinds) = refl
 
--- a cell behind others
+-- a cell after others
 pub onto_row-more : (kinds : List Kind) (kind : Kind) (row : Result (List Kind) WorldFault) → onto_row kinds (with_cell (Ok kind) row) ≡ onto_row (kinds ++ kind ∷ []) row
 onto_row-more kinds kind (Err fault) = refl
 onto_row-more kinds kind (Ok row) = ap Ok (sym (append_assoc kinds (kind ∷ []) row))

@@ -110,7 +110,7 @@ is_open-closed width height kinds p closed =
       | inr clear ↦ is_open-inner width height (kind_at width kinds p) p (closed clear)
     ]
 
--- where no cell of the rim is open, what isn't rock isn't on the rim
+-- if no cell of the rim is open, what isn't rock isn't on the rim
 pub rim-closed : (width height : ℕ) (kinds : List Kind) → open_rim width height kinds ≡ None → (p : Pos) → IsInside width height p → is_rock (kind_at width kinds p) ≡ false → IsInner width height p
 unfolding open_rim
 rim-closed width height kinds none p inside clear =
@@ -119,7 +119,7 @@ rim-closed width height kinds none p inside clear =
     let closed : is_open_at width height kinds p ≡ false = ap test (sym (pos_at-index_of width p inside.column)) ∙ here in
     IsInner-closed width height (kind_at width kinds p) p closed clear inside
 
--- where what isn't rock isn't on the rim, no cell of the rim is open
+-- if what isn't rock isn't on the rim, no cell of the rim is open
 pub open_rim-closed : (width height : ℕ) (kinds : List Kind) → ((p : Pos) → IsInside width height p → is_rock (kind_at width kinds p) ≡ false → IsInner width height p) → open_rim width height kinds ≡ None
 unfolding open_rim
 open_rim-closed width height kinds rim =

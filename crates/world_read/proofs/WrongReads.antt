@@ -77,7 +77,7 @@ rows_from-wrong width y count lines (LongRow row) h = line_wrong width y count h
 rows_from-wrong width y count lines BadWidth h = absurd h
 rows_from-wrong width y count lines it h = absurd h
 
--- where the first line gives no size, none is read
+-- if the first line gives no size, none is read
 first_size-none : (lines : List (List ℕ)) → BeginsWithNoSize lines → first_size lines ≡ None
 first_size-none [] none = refl
 first_size-none (line ∷ lines) none = go (size_of line) refl where

@@ -138,7 +138,8 @@ module _ {E A B : Type 0} (r : Reader E A) (s : A → Reader E B) (is_a : A → 
         in_first (first_no at k (is_one ∙ ap Err same)) (is_one ∙ ap Err same)
     go (Ok one) is_one e = last one.0 one.1 (first.reads at one.0 one.1 is_one) (s one.0 one.1) refl e
 
--- what is made of values: accepted ones of accepted ones, with the same printing, and each accepted one is made of one
+-- what is built from values: accepted ones of accepted ones, with the same printing, and each accepted one is built
+-- from one
 pub record Recasts {E A B : Type 0} (make : A → B) (is_a : A → Type 0) (is_b : B → Type 0) (print_a : A → List E) (print_b : B → List E) : Type 0 where
   pub made_ok : (a : A) → is_a a → is_b (make a)
   pub same : (a : A) → is_a a → print_b (make a) ≡ print_a a

@@ -52,7 +52,7 @@ module _ {E A : Type 0} {parse : E → Option A} {accepts : A → Type 0} {spell
     go n [] e = stops n [] (let s : n ≡ k = cc in s) (λ next later is_next begins. absurd (cc))
     go n (x ∷ rest) e = last n x rest (parse x) refl e
 
-  -- lists of so many accepted values
+  -- lists of this many accepted values
   pub record IsList (n : ℕ) (list : List A) : Type 0 where
     pub as_many : length list ≡ n
     pub each : AllByRecursion accepts list
@@ -125,13 +125,13 @@ module _ {E A : Type 0} {parse : E → Option A} {accepts : A → Type 0} {spell
   none_only [] ok = refl
   none_only (x ∷ list) ok = absurd (let wrong : ⊥ = omega (arith, ok.as_many) in wrong)
 
-  -- so many elements are read as their values
+  -- this many elements are read as their values
   pub many-reads : (n : ℕ) → Reads (many parse n) (IsList h n) (print_many h)
   many-reads zero = nothing-reads [] (IsList h 0) (print_many h) (record { as_many = refl; each = tt }) refl none_only
   many-reads (suc n) = mapped-reads (casts n) (followed (one parse) (λ x. many parse n)) (followed-reads (one parse) (λ x. many parse n) accepts (λ x. IsList h n) (print_one h) (λ x. print_many h) (one-reads h) (λ x ok. many-reads n))
 
   module _ (some : A) (is_some : accepts some) where
-    -- so many of one value
+    -- this many of one value
     pub copies : (n : ℕ) → (list : List A) × IsList h n list
     copies zero = ([], record { as_many = refl; each = tt })
     copies (suc n) = (some ∷ (copies n).0, record { as_many = (let l = (copies n).1.as_many in omega (arith, l)); each = (is_some, (copies n).1.each) })

@@ -1,4 +1,4 @@
--- Readers that take what is printed, refuse where no printing goes on, and have something to take.
+-- Readers that take what is printed, refuse if no printing continues, and have something to take.
 use Rattle.std.proofs.Common.{◌≡◌, ℕ, ◌+◌, Bool, true, false, cond, List, [], ◌∷◌, ◌++◌, map, Option, Result, Ok, Err, refl, sym, ◌∙◌, ap, arith}
 use Rattle.match_save.specs.Inner.Readers.{Left, Reader, made, one, led, lead, many, followed, mapped, Spells, StopsAt, Reads, Refuses}
 use Rattle.match_save.proofs.Readers.Composed.{Recasts, left_at, followed-reads, followed-refuses, mapped-reads, mapped-refuses}

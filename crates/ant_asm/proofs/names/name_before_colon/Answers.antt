@@ -6,7 +6,7 @@ use Rattle.ant_asm.proofs.LineTokens.{before_colon-last}
 use Rattle.ant_asm.proofs.names.name_before_colon.Goals as goal
 use Rattle.ant_asm.proofs.names.name_before_colon.Goals.{In-Some}
 
--- what stands before the colon, by the last byte
+-- what precedes the colon, by the last byte
 before : (c : In-Some) → before_colon c.args.token.now ≡ cond (c.in-Some.last.now == 58) (Some c.in-Some.front.now) None
 before c = ap before_colon c.in-Some.ensures.cases.0 ∙ before_colon-last c.in-Some.front.now c.in-Some.last.now
 

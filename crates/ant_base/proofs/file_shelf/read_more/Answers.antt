@@ -1,4 +1,4 @@
--- what was read is lost, where memory can't be had for it
+-- what was read is lost, if memory can't be had for it
 use Rattle.std.proofs.Common.{◌<◌, length, sym, subst}
 use Rattle.std.proofs.KnownBytes.{Consumes-kept}
 use Rattle.std.specs.Prelude.{vec_len}

@@ -1,4 +1,4 @@
--- what was pushed into each room lies behind what the room held
+-- what was pushed into each room lies after what the room held
 use Rattle.std.proofs.Common.{List, ℕ, subst, sym}
 use Rattle.ant_commands.specs.FaultLines.{plain_ending}
 use Rattle.command_words.specs.Words.{texts}

@@ -1,4 +1,4 @@
--- all can be read just where what is left can
+-- all can be read exactly if what is left can
 use Rattle.std.proofs.Common.{drop}
 use Rattle.ant_base.specs.Lines.{lines_of}
 use Rattle.ants_c.specs.Called.{AreFiles}

@@ -1,4 +1,4 @@
--- where no size is left, the name has no content
+-- if no size is left, the name has no content
 use Rattle.std.proofs.Common.{◌∙◌, arith}
 use Rattle.ant_base.specs.Lines.{lines_of}
 use Rattle.ants_c.proofs.LentFiles.{none_sized}

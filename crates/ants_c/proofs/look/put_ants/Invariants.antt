@@ -1,4 +1,4 @@
--- the first ids have their ants, and what is behind them stays
+-- the first ids have their ants, and what is after them stays
 use Rattle.std.proofs.Common.{◌≡◌, ◌++◌, drop, map}
 use Rattle.std.specs.List.{range_with_len}
 use Rattle.cell_world.specs.Grid.{world_of}

@@ -7,7 +7,7 @@ use Rattle.cell_world.specs.Inner.Stored.{tile_of}
 use Rattle.cell_world.proofs.build.ground_tiles.Invariants.{IsTiled}
 use Rattle.cell_world.proofs.build.ground_tiles.Goals as goal
 
--- no ant is on the next cell, nor on those behind it
+-- no ant is on the next cell, nor on those after it
 empty-next : (cells : List Cell) (i : ℕ) (d : Cell) → i < length cells → AllByRecursion (λ (cell : Cell). cell.ant ≡ None) (drop i cells) → AllByRecursion (λ (cell : Cell). cell.ant ≡ None) (get_or cells i d ∷ drop (i + 1) cells)
 empty-next cells i d inside empty = subst (AllByRecursion (λ (cell : Cell). cell.ant ≡ None)) (drop_more cells i d inside) empty
 

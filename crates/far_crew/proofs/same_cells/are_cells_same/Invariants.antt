@@ -1,4 +1,4 @@
--- where the rest is the same, all is, and the other way round
+-- if the rest is the same, all is, and the other way round
 use Rattle.std.proofs.Common.{◌≡◌, length}
 use Rattle.std.specs.Prelude.{◌↔◌}
 use Rattle.std.specs.List.{AllByRecursion}

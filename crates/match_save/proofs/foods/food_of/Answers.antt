@@ -6,11 +6,11 @@ use Rattle.match_save.proofs.WholeLines.{two-first, two-read, two-second, whole-
 use Rattle.match_save.proofs.Words.{word_refused}
 use Rattle.match_save.proofs.foods.food_of.Goals as goal
 
--- the food that is read behind the column and the row
+-- the food that is read after the column and the row
 abbrev food : ℕ × (ℕ × ℕ) → ℕ
 food z = z.1.1
 
--- what stands behind the column
+-- what follows the column
 abbrev later : ℕ → Reader (List ℕ) (ℕ × ℕ)
 later y = followed (number y y) (λ row. number 63 most_weight)
 

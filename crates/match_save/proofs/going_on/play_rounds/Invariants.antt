@@ -1,4 +1,4 @@
--- so many rounds were played
+-- this many rounds were played
 use Rattle.std.proofs.Common.{◌≡◌, ◌*◌}
 use Rattle.match_run.specs.Game.{GoesOnFor, counted_on}
 use Rattle.match_save.proofs.going_on.play_rounds.Given as goal

@@ -5,7 +5,7 @@ use Rattle.match_save.proofs.WholeLines.{two-first, two-read, two-second, whole-
 use Rattle.match_save.proofs.Words.{word_refused}
 use Rattle.match_save.proofs.head.sheet_of.Goals as goal
 
--- what stands behind the first number
+-- what follows the first number
 abbrev later : Reader (List ℕ) (ℕ × ℕ)
 later = followed (number 0 9) (λ corpse. number 0 255)
 

@@ -5,7 +5,7 @@ use Rattle.match_save.specs.Inner.Readers.{many}
 use Rattle.match_save.specs.Inner.Reading.{instruction_of}
 use Rattle.match_save.proofs.programs.fill_program.Given as goal
 
--- the instructions that are left, behind those that were read, are all instructions
+-- the instructions that are left, after those that were read, are all instructions
 abbrev pub invariant-loop-state : goal.invariant-loop-state
 invariant-loop-state l =
     behind (map drafted l.fn.list.items) (many instruction_of l.count l.fn.lines) ≡ behind (map drafted l.list.items) (many instruction_of (l.count - l._state) l.lines)

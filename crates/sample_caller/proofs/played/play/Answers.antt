@@ -1,4 +1,4 @@
--- the first file that is refused ends it; else the game of the three is played
+-- the first file that is refused ends it; otherwise the game of the three is played
 use Rattle.std.proofs.Common.{◌∙◌, ap}
 use Rattle.std.proofs.lemmas.Result.{err_from_is_err_and}
 use Rattle.ant_turn.specs.Minds.{Minds}

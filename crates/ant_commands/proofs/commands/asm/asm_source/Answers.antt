@@ -1,4 +1,4 @@
--- the one file was accepted, and what is wanted of it was written
+-- the one file was accepted, and what is needed of it was written
 use Rattle.std.proofs.Common.{◌≡◌, Bool, true, false, [], ◌∷◌, ◌||◌, refl, sym, subst}
 use Rattle.ant_asm.specs.Source.{ReadSource}
 use Rattle.ant_commands.specs.Jobs.{asm_job}

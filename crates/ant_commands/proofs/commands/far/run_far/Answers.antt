@@ -1,4 +1,4 @@
--- memory was wanting for the chosen rounds, before a file was fetched
+-- memory ran out for the chosen rounds, before a file was fetched
 use Rattle.std.proofs.Common.{◌≡◌, subst, rules}
 use Rattle.std.specs.Prelude.{IsErrAnd}
 use Rattle.ant_commands.specs.Jobs.{run_job}

@@ -1,4 +1,4 @@
--- so many rounds were played
+-- this many rounds were played
 use Rattle.match_run.specs.Game.{beginning}
 use Rattle.match_run.specs.GameLaws.{AreRounds}
 use Rattle.ant_commands.proofs.commands.played.play_game.Given as goal

@@ -1,4 +1,4 @@
--- the bodies that were told apart are those of a world
+-- the bodies that were distinguished are those of a world
 use Rattle.std.proofs.Common.{◌≡◌, ℕ, ◌-◌, ◌∙◌, List, Vec, ap, length, subst, take}
 use Rattle.std.specs.Vec.{with_items}
 use Rattle.std.proofs.lemmas.List.{with_items_is}
@@ -9,7 +9,7 @@ use Rattle.cell_world.specs.Resting.{ActsListed, one_less, rested}
 use Rattle.cell_world.proofs.RestingLemmas.{stored-with_rests, told-listed, told-read, world_of-with_rests}
 use Rattle.cell_world.proofs.world.World.count_down_rests.Goals as goal
 
--- bodies that were told apart in a slice are told apart in the list that it was of
+-- bodies that were distinguished in a slice are distinguished in the list that it was of
 told-in : {Z : Type 0} (bodies : Vec Body Z) (slice new : List Body) (from to : ℕ) (listed : List ℕ)
     → slice ≡ bodies.items → length slice ≡ bodies.len → ToldApart slice new from to listed → ToldApart bodies.items (with_items bodies new).items from to listed
 told-in bodies slice new from to listed same long told =

@@ -1,4 +1,4 @@
--- the bodies are told apart one after another
+-- the bodies are distinguished one after another
 use Rattle.std.proofs.Common.{◌≡◌, ◌+◌, ◌≤◌, ◌<◌, ◌∙◌, arith, length, set, subst, sym, take}
 use Rattle.std.proofs.lemmas.List.{length-set}
 use Rattle.cell_world.specs.Cell.{one_if}

@@ -1,4 +1,4 @@
--- the ids so far were told apart
+-- the ids so far were distinguished
 use Rattle.std.proofs.Common.{◌≡◌, ◌-◌, ◌≤◌, length, take}
 use Rattle.cell_world.specs.Inner.ToldApart.{ToldApart}
 use Rattle.cell_world.proofs.world.resting.rest_bodies.Given as goal

@@ -1,4 +1,4 @@
--- the options stand in the line, where there are some
+-- the options stand in the line, if there are some
 use Rattle.std.proofs.Common.{Bool, List, [], ap, codes, cond, subst, sym, ℕ, ◌∙◌}
 use Rattle.ant_base.specs.Layout.{◌+++◌}
 use Rattle.ant_base.specs.Sink.{Pushed}
