@@ -48,7 +48,7 @@ first_or-append : (list others : List Address) (other : Address) → first_or (l
 first_or-append [] others other = refl
 first_or-append (place ∷ list) others other = refl
 
--- the first instruction of some items stands at the first of their addresses
+-- the first instruction of some items is at the first of their addresses
 pub first_of-places : (items : Items) (path : Address) (k : ℕ) (after : Address) → first_of items path k after ≡ first_or (places_of items path k) after
 first_of-places (Use handed block others) path k after =
     first_of-places block (path ++ k ∷ []) 0 (first_of others path (suc k) after)

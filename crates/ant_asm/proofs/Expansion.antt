@@ -40,7 +40,7 @@ module _ (text : List ℕ) (bodies : List Body) (are : AreBodiesOf text bodies) 
       assembled-brain main (emitted main main main_numbers 0) (places main) main-assembled (are.blocks.ranged (last_of bodies) last-inside)
       (let all = places_of-size main [] 0 in let as_many = main-assembled.as_many in let few = main-few in omega (arith, all, as_many, few))
 
-  -- what was answered
+  -- what was returned
   pub text-assembled : (brain : List Instr) (list : List Address) → brain ≡ emitted main main main_numbers 0 → list ≡ places main → IsAssembledText text brain list
   text-assembled brain list is at = record {
     main = main;
@@ -55,7 +55,7 @@ program-assembled text brain list made items is = subst (λ (m : Items). IsAssem
 pub no-fault : (text : List ℕ) (brain : List Instr) (list : List Address) → IsAssembledText text brain list → (fault : AsmFault) → IsAsmFault text fault → ⊥
 no-fault text brain list made fault wrong = never_both lines_decide text made.main fault made.is wrong
 
--- a fault that was answered, of a program's text and of one with a fault
+-- a fault that was returned, of a program's text and of one with a fault
 pub want-only : (text : List ℕ) (fault : AsmFault) → IsAsmFault text fault ⊎ (fault ≡ OutOfMemory) → (items : Items) → IsAsmText text items → fault ≡ OutOfMemory
 want-only text fault (inl is) items program = absurd (never_both lines_decide text items fault program is)
 want-only text fault (inr want) items program = want

@@ -207,7 +207,7 @@ module _ {bodies : List Body} {number : ℕ} {body : Body} {k : ℕ} {item : Ite
   pub item_good : IsGoodItem bodies number body.parameters (length body.items.items) item
   item_good = all_at (IsGoodItem bodies number body.parameters (length body.items.items)) body.items.items k item (good_body bodies number body a.good a.known a.is).items (read_at body.items.items k item a.inside a.at)
 
-  -- where it stands in the tree
+  -- where it is in the tree
   pub item_tree : from_place k (tree_at bodies number) ≡ with_item (trees_of bodies) item (from_place (suc k) (tree_at bodies number))
   item_tree =
       let tree : tree_at bodies number ≡ tree_of (trees_of bodies) body.items.items = tree_is bodies number body a.good a.known a.is in

@@ -117,7 +117,7 @@ module _ (main : Items) (brain : List Instr) (list : List Address) (assembled : 
     own_goes address ant id state mine =
         state mine ∙ ap number (sym (ap (with_address addresses t address) id ∙ with_address-own addresses t address))
 
-    -- the others, where t stands at p
+    -- the others, where t is at p
     others_there : (address : Address) (p : Pos) → place_in w t ≡ Some p → OfOthers (InState (with_address addresses t address)) w.cells p
     others_there address p found q apart ant is =
         others_stay address ant (λ id. apart (valid.once t p q (place_in-holds w t p found) (subst (λ u. holds_id u (w.cells q) ≡ true) (sym id) (holds_id-own (w.cells q) ant is)))) (states q ant is)

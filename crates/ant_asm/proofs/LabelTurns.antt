@@ -89,7 +89,7 @@ module _ (f : Colour → ℕ → ℕ) where
   address_from-states side seed cells place None at address = refl
   address_from-states side seed cells place (Some p) at address = address_at-states side seed cells place p (cells p).ant at address
 
--- where an ant stands after a turn is where it stood, or where a label leads
+-- where an ant is after a turn is where it stood, or where a label leads
 module _ (P : Address → Type 0) (side : Colour) (seed : ℕ) (cells : Cells) (place : ℕ) (at : Placed) (address : Address) (stood : P address) (leads : (label : Label) → P (at.target label)) where
   address_acted-has : (n : ℕ) (p : Pos) (ant : Ant) → P (address_acted n seed cells place p ant at address)
   address_acted-has zero p ant = leads (label_taken seed cells place p ant at.action)

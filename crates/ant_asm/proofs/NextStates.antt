@@ -32,7 +32,7 @@ state_taken seed cells place p ant (Move met unmet) = if is_blocked (cells (adja
 state_taken seed cells place p ant (Flip bound met unmet) = if drawn seed place bound == 0 then met else unmet
 
 module _ (P : Ant → Type 0) where
-  -- the fact holds of the cell's ant, if one stands there
+  -- the fact holds of the cell's ant, if one is there
   abbrev pub OfAnt : Cell → Type 0
   OfAnt cell = (ant : Ant) → cell.ant ≡ Some ant → P ant
 

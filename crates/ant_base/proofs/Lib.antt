@@ -5,7 +5,7 @@ pub mod Linewise
 -- What is pushed, and what a stream was given.
 pub mod Pushes
 pub mod Streams
--- What is answered of a text.
+-- What is returned of a text.
 pub mod AnswerLemmas
 -- What is fetched.
 pub mod Fetches

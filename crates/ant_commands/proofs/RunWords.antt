@@ -373,7 +373,7 @@ table_run words asked is =
 
 -- From the table to the words of a run.
 
--- a number that stands at an option's place
+-- a number that is at an option's place
 record HasNumber (kind : NumberKind) (values : List (List (List ℕ))) : Type 0 where
   word : List ℕ
   number : ℕ
@@ -390,7 +390,7 @@ number_there kind ((word ∷ []) ∷ []) fit = go (number_in kind word) refl fit
   go None e some = absurd (false≢true some)
   go (Some number) e some = record { word = word; number = number; one = refl; is = number_read (least_of kind) (most_of kind) number word e }
 
--- a choice of rounds that stands there
+-- a choice of rounds that is there
 record HasDumps (values : List (List (List ℕ))) : Type 0 where
   word : List ℕ
   dumps : ℕ → Bool
@@ -547,7 +547,7 @@ run_of_form front given words form none =
       none_is given (λ has. none (Contains-later g.choice choice.Stats (map (λ h. h.choice) given) has)),
     )
 
--- the name of an option that is given stands among the words
+-- the name of an option that is given is among the words
 pub among_words : (front : List (List ℕ)) (given : List Given) (of : Choice) → IsGiven of given → Contains (front ++ flat_map given_words given) (option_of of)
 among_words front given of has = Contains-append_right front (flat_map given_words given) (option_of of) (behind given has) where
   behind : (given : List Given) → IsGiven of given → Contains (flat_map given_words given) (option_of of)

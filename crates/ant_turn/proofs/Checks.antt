@@ -69,7 +69,7 @@ is_surrounded-true sheet cells p foes =
     let it : (ant : Ant) × ((cells p).ant ≡ Some ant) = someone sheet cells (neighbours_of p) (cells p).ant foes in
     record { ant = it.0; is = it.1; surrounded = foes }
 
--- what holds where nobody is killed, and where the ant is killed, holds after a check and of whom it kills
+-- what holds where no ant is killed, and where the ant is killed, holds after a check and of whom it kills
 pub check_at-cases : (sheet : Sheet) (cells : Cells) (p : Pos) (P : Cells → List ℕ → Type 0) → P cells [] → ((it : Struck sheet cells p) → P (put_cell cells p (after_kill sheet (cells p))) (it.ant.id ∷ [])) → P (check_at sheet cells p) (killed_at sheet cells p)
 check_at-cases sheet cells p P spared struck =
     elim (cases_Bool (is_surrounded sheet cells p)) [

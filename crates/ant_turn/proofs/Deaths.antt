@@ -31,7 +31,7 @@ pub record Kill (sheet : Sheet) (cells : Cells) (places : List Pos) (t : ℕ) : 
   pub surrounded : is_surrounded sheet (check_all sheet cells (take number places)) place ≡ true
   pub holds : holds_id t (check_all sheet cells (take number places) place) ≡ true
 
--- nobody is killed that isn't surrounded when its cell is checked
+-- no ant is killed that isn't surrounded when its cell is checked
 pub killed_all-surrounded : (sheet : Sheet) (places : List Pos) (cells : Cells) (t : ℕ) → Contains (killed_all sheet cells places) t → Kill sheet cells places t
 killed_all-surrounded sheet [] cells t found = absurd (Contains-none t found)
 killed_all-surrounded sheet (p ∷ places) cells t found =
@@ -98,7 +98,7 @@ check_all-place_in sheet (p ∷ places) w t spared =
     check_all-place_in sheet places next t (λ later. spared (Contains-append_right (killed_at sheet w.cells p) (killed_all sheet next.cells places) t later))
     ∙ check_at-place_in sheet w p t (λ first. spared (Contains-append_left (killed_at sheet w.cells p) (killed_all sheet next.cells places) t first))
 
--- nobody is killed twice
+-- no ant is killed twice
 pub killed_all-differ : (sheet : Sheet) (places : List Pos) (w : World) → sheet.corpse ≤ 9 → Valid w → AllPairs ◌≢◌ (killed_all sheet w.cells places)
 killed_all-differ sheet [] w light valid = λ i j d lt within. absurd (omega (arith, within))
 killed_all-differ sheet (p ∷ places) w light valid =

@@ -152,7 +152,7 @@ turns_by_id : map (Î» p. state_of ((after_round (contest_minds (Flip 7193 1 2 âˆ
 unfolding after_round after_turn turn place_in cell_in opening floor rock put_cell same_pos drawn random_at state_at
 turns_by_id = refl
 
--- the same ants, but that the ids of the red ones are exchanged: still ant 0 is first, which stands last
+-- the same ants, but that the ids of the red ones are exchanged: still ant 0 is first, which is last
 abbrev other_row : World
 other_row = put (put row (at 1 1) (hill_cell Red 2)) (at 3 1) (hill_cell Red 0)
 

@@ -36,7 +36,7 @@ record Spares (w : World) (t : ℕ) (now : World) (killed : List ℕ) : Type 0 w
   own_lives : (Contains killed t → ⊥) → IsSome (place_in w t) → IsSome (place_in now t)
   dead_stay : place_in w t ≡ None → place_in now t ≡ None
 
--- where nobody is killed and everybody stays
+-- where no ant is killed and everybody stays
 Spares-all : (w : World) (t : ℕ) (now : World) → ((u : ℕ) → place_in now u ≡ place_in w u) → Spares w t now []
 Spares-all w t now same = record {
   were_alive = λ u found. absurd (omega (arith, found.1));

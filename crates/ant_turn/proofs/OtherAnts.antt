@@ -38,7 +38,7 @@ cond-map g false x y = refl
 abbrev pub ActsAlike : (f : Colour → ℕ → ℕ) (minds other : Minds) → Ant → Type 0
 ActsAlike f minds other ant = instruction_at (mind_of other ant.colour) (f ant.colour ant.state) ≡ redirected (f ant.colour) (instruction_at (mind_of minds ant.colour) ant.state)
 
--- so does the ant whose turn it is, if one stands at a place
+-- so does the ant whose turn it is, if one is at a place
 abbrev pub ActsAlikeAt : (f : Colour → ℕ → ℕ) (minds other : Minds) → Cells → Option Pos → Type 0
 ActsAlikeAt f minds other cells place = (p : Pos) (ant : Ant) → place ≡ Some p → (cells p).ant ≡ Some ant → ActsAlike f minds other ant
 

@@ -27,7 +27,7 @@ use Rattle.ant_turn.specs.Turn.{Outcome, acts, arrived, execute, in_state, instr
 use Rattle.ant_turn.proofs.Checks.{check_at-cases}
 pub use Rattle.ant_turn.proofs.RenumberLemmas.{turn-alike}
 
--- the ant, if one stands there, has a state of which a fact holds
+-- the ant, if one is there, has a state of which a fact holds
 abbrev AntHas : (P : Colour → ℕ → Type 0) → Cell → Type 0
 AntHas P cell = (ant : Ant) → cell.ant ≡ Some ant → P ant.colour ant.state
 

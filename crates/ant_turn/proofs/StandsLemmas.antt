@@ -1,4 +1,4 @@
--- What holds where an ant stands at its place.
+-- What holds where an ant is at its place.
 use Rattle.std.proofs.Common.{◌≡◌, ℕ, ◌≤◌, false, Some, refl, sym, ◌∙◌, ap, ap₂, subst}
 use Rattle.std.specs.Option.{IsSomeAnd}
 use Rattle.hex_geometry.specs.declared.position.Pos.{Pos}
@@ -21,7 +21,7 @@ use Rattle.ant_turn.specs.Turn.{is_blocked, left_by_ant, with_ant, arrived, step
 use Rattle.ant_turn.proofs.OwnCells.{Stays, stays_replaces}
 use Rattle.ant_turn.proofs.KeptByTurns.{HasMarksOfSix-left, Replaces-left_by_ant, CanSet-arrived}
 
--- an ant that a cell of a world holds stands there
+-- an ant that a cell of a world holds is there
 pub StandsAt-there : (w : World) (p : Pos) (cell : Cell) (ant : Ant) → Valid w → cell ≡ w.cells p → cell.ant ≡ Some ant → StandsAt w p cell ant
 StandsAt-there w p cell ant valid here holds =
     let clear : (w.cells p).rocky ≡ false = ant-clear w p ant valid (ap (λ (c : Cell). c.ant) (sym here) ∙ holds) in

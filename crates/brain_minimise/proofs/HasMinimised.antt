@@ -69,7 +69,7 @@ seen_of brain is =
     let waiting : List ℕ = with_waiting [] (is_seen none 0) 0 in
     explored brain is (2 * unseen seen + length waiting) seen waiting (omega arith) (Explores-start brain (length brain) refl is.some)
 
--- what stands at i + 1 stands at the next number
+-- what is at i + 1 is at the next number
 one_more : (F : ℕ → Type 0) (i : ℕ) → F (i + 1) → F (suc i)
 one_more F i here = let next : i + 1 ≡ suc i = omega arith in subst F next here
 

@@ -150,7 +150,7 @@ module _ (text : List ℕ) where
       ap settle_read (lines_again brain_reader InstrLine first_of_line faithful (lines_with_tokens text) 0 list lines (let few = b.few in omega arith))
       ∙ settle_some placed some ∙ settle_again (length placed) placed below ∙ ap Ok same
 
-  -- the fault that is answered is the text's
+  -- the fault that is returned is the text's
   pub fault_read_of : (fault : BrainFault) → read_text text ≡ Err fault → IsBrainFault text fault
   unfolding read_text
   fault_read_of fault e = go (read_lines brain_reader 0 (lines_with_tokens text)) refl e
@@ -170,7 +170,7 @@ module _ (text : List ℕ) where
           (ap (λ n. first_state_fault n (lines_with_tokens text) (instructions (p ∷ placed))) size
           ∙ settle_faulted (length (p ∷ placed)) (lines_with_tokens text) (p ∷ placed) read.placed ∙ ap fault_of_judged q))
 
-  -- the text's fault is answered
+  -- the text's fault is returned
   pub fault_read_again : (fault : BrainFault) → IsBrainFault text fault → read_text text ≡ Err fault
   unfolding read_text
   fault_read_again fault (OfLine h) =

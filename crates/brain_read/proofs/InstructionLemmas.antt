@@ -1,4 +1,4 @@
--- What is answered of the tokens of one line.
+-- What is returned of the tokens of one line.
 use Rattle.std.proofs.Common.{◌≡◌, ℕ, List, [], ◌∷◌, Some, Result, Ok, Err, sym, ap, ◌∙◌}
 use Rattle.std.specs.Prelude.{IfOk, IfErr}
 use Rattle.line_tokens.specs.declared.refusal.Refusal.{Refusal}
@@ -14,12 +14,12 @@ use Rattle.brain_read.proofs.FormsLemmas.{line_spelled, line_again}
 use Rattle.brain_read.proofs.JudgementLemmas.{fault_in, line_faulted}
 
 module _ (tokens : List (List ℕ)) where
-  -- what is answered is spelled so
+  -- what is returned is spelled so
   pub spelled : (answer : Result Draft Refusal) → read_line tokens ≡ as_read answer → IfOk answer (λ draft. InstrLine tokens (drafted draft))
   spelled (Ok draft) read = line_spelled tokens (drafted draft) read
   spelled (Err refusal) read = tt
 
-  -- what is spelled so is answered
+  -- what is spelled so is returned
   pub every_instruction : (answer : Result Draft Refusal) → read_line tokens ≡ as_read answer → (i : Instr) → InstrLine tokens i → as_read answer ≡ Ok i
   every_instruction answer read i line = sym read ∙ line_again i tokens line
 

@@ -34,17 +34,17 @@ reading_from-fault drafts number line fault lines has failed =
     let size : length (map placed_of drafts) ≡ length drafts = length-map drafts placed_of in
     generic.reading_from-fault brain_reader (map placed_of drafts) number line fault lines has (ap (λ n. judged_line brain_reader n number (tokens_of line)) size ∙ failed)
 
--- a fault that was judged is the one that is answered
+-- a fault that was judged is the one that is returned
 pub fails : {A : Type 0} (fault : BrainFault) (judged : Judgement A) → judged ≡ Err fault → FailsAs fault judged
 fails OutOfMemory judged e = tt
 fails it judged e = e
 
--- a fault that is answered is out of memory, or the one that was judged
+-- a fault that is returned is out of memory, or the one that was judged
 told : {A : Type 0} (fault : BrainFault) (judged : Judgement A) → FailsAs fault judged → (fault ≡ OutOfMemory) ⊎ (judged ≡ Err fault)
 told OutOfMemory judged e = inl refl
 told it judged e = inr e
 
--- the fault that is answered for a text is the text's
+-- the fault that is returned for a text is the text's
 pub faults : (text : List ℕ) (fault : BrainFault) → FailsAs fault (read_text text) → IsFaultOr OutOfMemory (IsBrainFault text) fault
 faults text fault e = elim (told fault (read_text text) e) [ inl want ↦ inr want | inr is ↦ inl (fault_read_of text fault is) ]
 
@@ -53,10 +53,10 @@ pub settle_of : (drafts : List DraftLine) → eqb (length drafts) 0 ≡ false �
 settle_of [] some = (let never : true ≡ false = some in absurd (cc))
 settle_of (draft ∷ drafts) some = ap (λ n. settle_all n (map placed_of (draft ∷ drafts))) (length-map (draft ∷ drafts) placed_of)
 
--- if there is a brain, it is answered, or memory ran out
+-- if there is a brain, it is returned, or memory ran out
 pub failed_brain : (text : List ℕ) (brain : List Instr) → IsBrainText text brain → (fault : BrainFault) → FailsAs fault (read_text text) → fault ≡ OutOfMemory
 failed_brain text brain b fault e = fault-of_value (read_text text) brain OutOfMemory fault (brain_read_again text brain b) (told fault (read_text text) e)
 
--- if there is a fault, it is answered, or memory ran out
+-- if there is a fault, it is returned, or memory ran out
 pub failed_fault : (text : List ℕ) (fault : BrainFault) → IsBrainFault text fault → (answered : BrainFault) → FailsAs answered (read_text text) → (answered ≡ fault) ⊎ (answered ≡ OutOfMemory)
 failed_fault text fault b answered e = fault-of_fault (read_text text) fault OutOfMemory answered (fault_read_again text fault b) (told answered (read_text text) e)

@@ -43,7 +43,7 @@ pub number-next : (answers : List Bool) (met : Bool) → (2 * number answers < n
 number-next answers met =
     subst (λ k. (2 * number answers < k) × (k < 2 * number answers + 3)) (sym (number_from-append answers (met ∷ []) 0)) (branch-between met (number answers))
 
--- the met answer stands first
+-- the met answer is first
 pub number-met : (answers : List Bool) → number (answers ++ true ∷ []) ≡ 2 * number answers + 1
 unfolding branch
 number-met answers = number_from-append answers (true ∷ []) 0

@@ -134,7 +134,7 @@ module _ (first second : List Instr) (same : AreSame first second) where
   abbrev other_of : Two → ℕ
   other_of pair = pair.1
 
-  -- which state of the first brain, and which of the second, stands in a pair
+  -- which state of the first brain, and which of the second, is in a pair
   pub first_numbers : Numbers
   first_numbers = numbers_by one_of
 

@@ -50,12 +50,12 @@ module _ (text : List ℕ) where
       lines_again break_reader BreakLine first_of_line faithful (lines_with_tokens text) 0 list b.lines (let few = b.few in omega arith)
       ∙ ap Ok (kept_breaks (lines_with_tokens text) list b.lines)
 
-  -- the fault that is answered is the text's
+  -- the fault that is returned is the text's
   pub fault_read_of : (fault : BreakFault) → read_text text ≡ Err fault → IsBreakFault text fault
   unfolding read_text
   fault_read_of fault e = first_line_fault-first break_reader BreakLine first_of_line faithful text fault (text_faulted ∙ ap fault_of_judged e)
 
-  -- the text's fault is answered
+  -- the text's fault is returned
   pub fault_read_again : (fault : BreakFault) → IsBreakFault text fault → read_text text ≡ Err fault
   unfolding read_text
   fault_read_again fault v =

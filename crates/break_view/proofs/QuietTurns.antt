@@ -59,7 +59,7 @@ put_looks w p t new found is stays food (Killed id) r _ _ asks =
     (place_in-put_other w p new id (ap (is_ant id) is ∙ ap (λ (i : ℕ). nat_eq i id) (sym stays.same_id) ∙ sym (ap (is_ant id) stays.holds)))
 put_looks w p t new found is stays food (Score colour least) r _ _ asks = ap (nat_le least) (put-keeps w p new (place_in-inside w t p found) stays.same_hill food colour)
 
--- if an ant is left on its own cell and nobody was killed, it stayed
+-- if an ant is left on its own cell and no ant was killed, it stayed
 does_stay : (instruction : Instr) (sheet : Sheet) (cells : Cells) (p : Pos) (ant : Ant) (outcome : Outcome) → (cells p).ant ≡ Some ant → Does instruction sheet cells p ant outcome → outcome.killed ≡ [] → has_ant (outcome.cells p).ant ≡ true
     → Stayed instruction cells p ant outcome
 does_stay instruction sheet cells p ant outcome is (inl stayed) none there = stayed

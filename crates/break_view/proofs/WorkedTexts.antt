@@ -66,7 +66,7 @@ round_x : IsBreakFault (codes "Round x") (BadNumber 1)
 unfolding decimal_value
 round_x = first_line_fault-first (codes "Round x") (BadNumber 1) refl
 
--- of two faults of a line the first position's, whatever stands after it
+-- of two faults of a line the first position's, whatever is after it
 faults_of_a_line : (IsBreakFault (codes "Round x 2") (BadNumber 1)) × (IsBreakFault (codes "State Green") (UnknownWord 1)) × (IsBreakFault (codes "Food x") (BadNumber 1)) × (IsBreakFault (codes "Score Red") (MissingToken 1))
 unfolding decimal_value
 faults_of_a_line = (first_line_fault-first (codes "Round x 2") (BadNumber 1) refl, first_line_fault-first (codes "State Green") (UnknownWord 1) refl, first_line_fault-first (codes "Food x") (BadNumber 1) refl, first_line_fault-first (codes "Score Red") (MissingToken 1) refl)

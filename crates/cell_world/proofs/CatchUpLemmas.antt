@@ -158,7 +158,7 @@ body-place : (width height : ℕ) (tiles : List Tile) (bodies : List Body) (t : 
 body-place width height tiles bodies t index made =
     sym (get_or-map (λ (b : Body). b.place) bodies t no_body None made) ∙ index.agrees t None made
 
--- what a tile names stands there
+-- what a tile names is there
 named-holds : (width height : ℕ) (tiles : List Tile) (bodies : List Body) (p : Pos) (t : ℕ) → IsWorld (grid_from width height tiles bodies) → IsInside width height p → Names tiles (index_of width p) t →
     holds_id t (cell_in (grid_from width height tiles bodies) p) ≡ true
 unfolding ant_named

@@ -113,7 +113,7 @@ minded body ant = record body { state = ant.state; resting = ant.resting; facing
 abbrev pub fields_minded : Inside → Body → Ant → Inside
 fields_minded fields body ant = record fields { bodies = with_item fields.bodies ant.id (minded body ant) }
 
--- which is the ant's own body at p, if the body stands at p and is of its colour and load
+-- which is the ant's own body at p, if the body is at p and is of its colour and load
 minded-own : (p : Pos) (body : Body) (ant : Ant) → body.place ≡ Some p → body.colour ≡ ant.colour → body.laden ≡ ant.laden → minded body ant ≡ body_at p ant
 minded-own p body ant place colour load =
     let with : Option Pos → Colour → Bool → Body = λ o k l. record { place = o; state = ant.state; resting = ant.resting; facing = ant.facing; colour = k; laden = l } in

@@ -66,7 +66,7 @@ patched_ant-load_own parts (Some ant) (Some other) other_s = rw other_s
 patched_ant-load_own parts it source other_s = refl
 
 module _ (cell source : Cell) (parts : Parts) where
-  -- who stands there comes from the source where it is named
+  -- who is there comes from the source where it is named
   pub patched-ant : parts.who ≡ true → (patched cell source parts).ant ≡ source.ant
   unfolding patched
   patched-ant named = cond-true _ _ _ named
@@ -108,7 +108,7 @@ module _ (cell source : Cell) (parts : Parts) where
     patched-named Food named = cond-true _ _ _ named
     patched-named it named = cond-true _ _ _ named
 
-    -- who stands there is named only with its posture and its load
+    -- who is there is named only with its posture and its load
     who_unnamed : (b : Bool) → b ≡ false → (parts.who ≡ true → b ≡ true) → parts.who ≡ false
     who_unnamed b other whole = elim (cases_Bool parts.who) [
       | inl who ↦ absurd (false≢true (sym other ∙ whole who))

@@ -20,8 +20,7 @@ later =
     (record { x = 2; y = 1 }) (record floor { hill = Some Red; food = 2; ant = Some (record (new_ant Black 2) { laden = true }) }))
     (record { x = 3; y = 1 }) (record floor { hill = Some Black; food = 1 })
 
--- the score is what lies on each hill, whoever stands there; what is carried, and what lies elsewhere, is food but no
--- score
+-- the score is what lies on each hill, whoever is there; what is carried, and what lies elsewhere, is food but no score
 score-later : (score_of later ≡ record { red = 5; black = 1 }) × (food_of later ≡ 11) × (alive_of later Red ≡ 1) × (alive_of later Black ≡ 1)
 unfolding score_of hill_food_of food_of alive_of put_cell same_pos cell_in opening rock floor
 score-later = (refl, refl, refl, refl)

@@ -109,14 +109,14 @@ front-free kind front choice fit =
     (is_among-one (option_of choice) (word_of kind) ∙ or_from (bytes_eq (word_of kind) (option_of choice)) false (option-not_first kind choice) refl)
     (is_among-fit (places_of kind) front choice fit)
 
--- an option's word stands among a command's words where it stands among its options
+-- an option's word is among a command's words where it is among its options
 among-options : (kind : CommandKind) (front : List (List (List ℕ))) (given : List Given) (choice : Choice) → FitAll (places_of kind) front
     → is_among (option_of choice) (words_of kind front given) ≡ is_among (option_of choice) (flat_map given_words given)
 among-options kind front given choice fit =
     is_among-append (option_of choice) (word_of kind ∷ joined front) (flat_map given_words given)
     ∙ ap (λ b. b || is_among (option_of choice) (flat_map given_words given)) (front-free kind front choice fit)
 
--- an option's word stands among the options where the option is given
+-- an option's word is among the options where the option is given
 among-given : (kind : CommandKind) (given : List Given) (choice : Choice) → AllByRecursion (IsOptionOf kind) given
     → is_among (option_of choice) (flat_map given_words given) ≡ has_given choice given
 among-given kind [] choice options = is_among-none (option_of choice)
@@ -132,7 +132,7 @@ among-given kind (g ∷ given) choice options =
     go true rest = refl
     go false rest = rest
 
--- what stands at a place depends on the words before the options alone
+-- what is at a place depends on the words before the options alone
 slice_get-front : (front back : List (List ℕ)) (number : ℕ) → number < length front → slice_get (front ++ back) number ≡ slice_get front number
 slice_get-front [] back number less = absurd (omega arith)
 slice_get-front (word ∷ front) back zero less = refl

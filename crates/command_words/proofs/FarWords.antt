@@ -91,7 +91,7 @@ cut-far (word ∷ words) among = elim (cases_Bool (bytes_eq word (option_of Far)
       )
 ]
 
--- `--far` stands among the words of a far run
+-- `--far` is among the words of a far run
 far_among : (words : List (List ℕ)) → is_far_run words ≡ true → list_any (λ other. bytes_eq other (option_of Far)) words ≡ true
 far_among [] far = absurd (false≢true far)
 far_among (word ∷ words) far =

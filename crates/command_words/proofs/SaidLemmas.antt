@@ -1,4 +1,4 @@
--- What is requested stands among the words.
+-- What is requested is among the words.
 use Rattle.std.proofs.Common.{◌≡◌, ℕ, zero, suc, ◌+◌, true, false, cond, nat_le, List, [], ◌∷◌, length, Option, Some, None, is_some, unwrap_or, slice_get, refl, sym, ap, ◌∙◌, subst, inl, inr, arith}
 use Rattle.std.specs.List.{AllByRecursion, Contains}
 use Rattle.std.proofs.lemmas.Bool.{and_parts, false≢true}
@@ -25,7 +25,7 @@ said-there kind default word fit = go (number_in kind word) fit where
   go None fit = absurd (false≢true fit)
   go (Some n) fit = refl
 
--- no place that is read stands after names
+-- no place that is read is after names
 none-read : (places : List Place) (place : ℕ) (slot : Slot) → none_is_read places ≡ true → slice_get places place ≡ Some (Word slot) → is_keyword slot ≡ true
 none-read [] place slot none e = (let no : ⊥ = cc in absurd no)
 none-read (Word other ∷ places) zero slot none e =

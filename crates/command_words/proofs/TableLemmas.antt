@@ -286,7 +286,7 @@ none_is_read [] = true
 none_is_read (Word slot ∷ places) = is_keyword slot && none_is_read places
 none_is_read (Names list ∷ places) = none_is_read places
 
--- each place that is read by its number stands before all names
+-- each place that is read by its number is before all names
 abbrev pub indexed : List Place → Bool
 indexed [] = true
 indexed (Word slot ∷ places) = indexed places

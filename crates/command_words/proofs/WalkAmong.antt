@@ -42,7 +42,7 @@ option-unlike slot word choice fit =
     false_from_ne_true (bytes_eq word (option_of choice))
     (λ e. false≢true (sym (option-unfit slot choice) ∙ ap (fits slot) (sym ((bytes_eq-Decides word (option_of choice)).0 e)) ∙ fit))
 
--- no option's word stands at a place
+-- no option's word is at a place
 place-unlike : (place : Place) (words : List (List ℕ)) (choice : Choice) → FitsPlace place words → Unlike (option_of choice) words
 place-unlike (Word slot) [] choice fit = elim fit [ ]
 place-unlike (Word slot) (word ∷ []) choice fit = (option-unlike slot word choice fit, tt)

@@ -26,7 +26,7 @@ pub record MayBe (list : NameList) (names : List (List ℕ)) : Type 0 where
   pub each : AllByRecursion (λ name. is_file_name name ≡ true) names
   pub different : must_differ list ≡ true → AllDiffer names
 
--- what stands at the place that is due may be the first words of it
+-- what is at the place that is due may be the first words of it
 abbrev pub IsOpen : List Place → List (List ℕ) → Type 0
 IsOpen [] names = Unit {0}
 IsOpen (Word slot ∷ places) names = Unit {0}
@@ -147,7 +147,7 @@ pub all-between : {X : Type 0} (P : X → Type 0) (xs : List X) (x : X) (ys : Li
 all-between P [] x ys all = all.0
 all-between P (first ∷ xs) x ys all = all-between P xs x ys all.1
 
--- of different names none stands among those before it
+-- of different names none is among those before it
 differ-between : (names : List (List ℕ)) (name : List ℕ) (more : List (List ℕ)) → AllDiffer (names ++ name ∷ more) → is_among name names ≡ false
 differ-between [] name more differ = is_among-none name
 differ-between (first ∷ names) name more differ =

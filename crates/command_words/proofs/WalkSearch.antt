@@ -5,7 +5,7 @@ use Rattle.std.proofs.lemmas.List.Folds.{list_any-append}
 use Rattle.command_words.specs.Slots.{is_file_name}
 use Rattle.command_words.specs.Command.{is_among, rest_after, names_front}
 
--- a word among two lists stands among one of them
+-- a word among two lists is among one of them
 pub is_among-append : (word : List ℕ) (front back : List (List ℕ)) → is_among word (front ++ back) ≡ (is_among word front || is_among word back)
 unfolding is_among
 is_among-append word front back = list_any-append (λ other. bytes_eq other word) front back

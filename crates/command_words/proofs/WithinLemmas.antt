@@ -131,7 +131,7 @@ names-have list (Names other ∷ places) has = elim (Contains-cases (Names other
     or-later true rest = refl
     or-later false rest = rest
 
--- no name stands after names
+-- no name is after names
 after-names : (places : List Place) (front : List (List (List ℕ))) → stops places ≡ true → FitAll places front → NoName (joined front)
 after-names [] [] end fit = tt
 after-names [] (part ∷ front) end fit = absurd fit

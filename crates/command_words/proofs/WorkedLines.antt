@@ -374,7 +374,7 @@ pub trace_least : Says Trace (codes "trace w r b 007 --seed 0 --rounds 0 --from 
 unfolding command_kind_of choice_of is_among rest_after is_file_name is_dumps dumps_of decimal_value
 trace_least = says _ _ _ refl (refl, (refl, (refl, (refl, (refl, (refl, (refl, (refl, (refl, (refl, tt))))))))))
 
--- the id stands before the options
+-- the id is before the options
 pub trace_without_id : IsRefusedAt (words_of (codes "trace w r b --seed 1 --rounds 2")) 5
 unfolding command_kind_of choice_of is_among rest_after is_file_name is_dumps dumps_of decimal_value
 trace_without_id = read-refuses (words_of (codes "trace w r b --seed 1 --rounds 2")) 5 refl
@@ -497,7 +497,7 @@ pub profile_from_eleven_digits : IsRefusedAt (words_of (codes "profile w r b --f
 unfolding command_kind_of choice_of is_among rest_after is_file_name is_dumps dumps_of decimal_value
 profile_from_eleven_digits = read-refuses (words_of (codes "profile w r b --from 00000000001")) 6 refl
 
--- the id of an ant stands after its option, once; and a seed and rounds are needed
+-- the id of an ant is after its option, once; and a seed and rounds are needed
 pub acts_id_as_a_place : IsRefusedAt (words_of (codes "acts w r b 1 --seed 1 --rounds 2")) 5
 unfolding command_kind_of choice_of is_among rest_after is_file_name is_dumps dumps_of decimal_value
 acts_id_as_a_place = read-refuses (words_of (codes "acts w r b 1 --seed 1 --rounds 2")) 5 refl

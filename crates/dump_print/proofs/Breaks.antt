@@ -20,7 +20,7 @@ numbered-shift lf f g (suc n) one =
     ∙ ap (λ t. numbered g n ++ t) (one n)
     ∙ sym (append_assoc (numbered g n) (g n) lf)
 
--- what precedes the first part stands in front of all
+-- what precedes the first part is in front of all
 numbered-first : (front : List ℕ) (f g : ℕ → List ℕ) (n : ℕ) → f 0 ≡ front ++ g 0 → ((i : ℕ) → f (suc i) ≡ g (suc i)) → numbered f (suc n) ≡ front ++ numbered g (suc n)
 unfolding numbered
 numbered-first front f g zero first same = first

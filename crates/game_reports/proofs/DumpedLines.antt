@@ -1,4 +1,4 @@
--- The line of a cell stands in the dump of its world.
+-- The line of a cell is in the dump of its world.
 use Rattle.std.proofs.Common.{◌≡◌, ℕ, ◌+◌, ◌<◌, List, ◌++◌, codes, decimal, ◌∙◌, ap, append_assoc, arith}
 use Rattle.ant_base.specs.Layout.{numbered}
 use Rattle.ant_base.proofs.Numbered.{numbered-front, numbered-more}
@@ -10,7 +10,7 @@ use Rattle.dump_print.specs.Texts.{cell_line, cells_text, dump_text, row_text}
 use Rattle.game_reports.specs.Laws.{LinesAreOfDumps, StandsInDump}
 use Rattle.game_reports.specs.Trace.{way_line}
 
--- a part stands among all of them
+-- a part is among all of them
 part-stands : (f : ℕ → List ℕ) (i n : ℕ) → i < n → (before : List ℕ) × (behind : List ℕ) × (numbered f n ≡ before ++ (f i ++ behind))
 part-stands f i n early =
     let front = numbered-front f (i + 1) n (omega (arith, early)) in
@@ -20,7 +20,7 @@ part-stands f i n early =
 regroup : (a b c rows lines line more rest : List ℕ) → a ++ (b ++ (c ++ (rows ++ ((lines ++ (line ++ more)) ++ rest)))) ≡ (a ++ (b ++ (c ++ (rows ++ lines)))) ++ (line ++ (more ++ rest))
 regroup a b c rows lines line more rest = simp append_assoc
 
--- the line of a cell that is inside stands in the dump
+-- the line of a cell that is inside is in the dump
 cell-stands : (w : World) (round : ℕ) (p : Pos) → IsInside w.width w.height p → StandsInDump w round (cell_line p.x p.y (w.cells p))
 unfolding dump_text cells_text row_text
 cell-stands w round p inside =

@@ -32,8 +32,8 @@ use Rattle.game_reports.specs.Events.{event_lines}
 use Rattle.game_reports.specs.Report.{report_lines, report_text}
 use Rattle.game_reports.proofs.EventsWorked.{one_laden, stepping}
 
--- the one clear cell of a world, of this hill and with this much food, on which a black ant stands in state 1 that is
--- laden or not
+-- the one clear cell of a world, of this hill and with this much food, on which a black ant is in state 1 that is laden
+-- or not
 abbrev on_cell : Option Colour → ℕ → Bool → World
 on_cell hill food laden =
     put (world_of (opening 3 3 one_hill)) (at 1 1) (record floor { hill = hill; food = food; ant = Some (record { id = 0; colour = Black; state = 1; resting = 0; facing = SouthEast; laden = laden }) })
@@ -48,7 +48,7 @@ heap_told : (food_told true (PickUp 0 0) (on_cell None 2 false) ≡ codes "round
 unfolding seen digits turn place_in cell_in opening floor rock put_cell same_pos score_of hill_food_of
 heap_told = (refl, refl)
 
--- a hill, whoever's it is: the line stands before that of the score
+-- a hill, whoever's it is: the line is before that of the score
 hill_told : (food_told true (Drop 0) (on_cell (Some Black) 0 true) ≡ codes "round 4, black ant 0: state 1 drops food on (1, 1), black hill" ∷ codes "round 4, black ant 0: score: red 0 black 1" ∷ [])
     × (food_told true (Drop 0) (on_cell (Some Red) 2 true) ≡ codes "round 4, black ant 0: state 1 drops food on (1, 1), red hill" ∷ codes "round 4, black ant 0: score: red 3 black 0" ∷ [])
     × (food_told true (PickUp 0 0) (on_cell (Some Red) 2 false) ≡ codes "round 4, black ant 0: state 1 takes food on (1, 1), red hill" ∷ codes "round 4, black ant 0: score: red 1 black 0" ∷ [])

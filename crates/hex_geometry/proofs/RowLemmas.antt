@@ -42,7 +42,7 @@ pos_at-inside width height i early =
 above : (width : ℕ) (p q : Pos) → p.x < width → p.y < q.y → index_of width p < index_of width q
 above width p q column row = let rows : (p.y + 1) * width ≤ q.y * width = mul-le (p.y + 1) width q.y width (omega arith) (omega arith) in omega arith
 
--- a position stands before another exactly if its number is less
+-- a position is before another exactly if its number is less
 pub IsBefore-index_of : (width : ℕ) (p q : Pos) → p.x < width → q.x < width → IsBefore p q ↔ (index_of width p < index_of width q)
 IsBefore-index_of width p q left right = (
   λ before. elim (cases_lt p.y q.y) [

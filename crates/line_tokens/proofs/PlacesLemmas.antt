@@ -82,7 +82,7 @@ abbrev pub Stand : {A : Type 0} → (ℕ → A) → List A → Type 0
 Stand at [] = Unit {0}
 Stand at (thing ∷ things) = (at 0 ≡ thing) × Stand (λ i. at (suc i)) things
 
--- what a token names is what stands at the place of its word
+-- what a token names is what is at the place of its word
 pub named-place : {A B : Type 0} (word : A → List ℕ) (at : ℕ → A) (f : A → B) (things : List A) (token : List ℕ) → Stand at things → option_map f (named word things token) ≡ option_map (λ i. f (at i)) (word_place (map word things) token)
 named-place word at f [] token stand = refl
 named-place {A} {B} word at f (thing ∷ things) token stand = go (str_eq_ignore_ascii_case (word thing) token) (named-place word (λ i. at (suc i)) f things token stand.1)

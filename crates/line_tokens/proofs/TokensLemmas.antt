@@ -31,7 +31,7 @@ plain byte h = let parts = or_parts (is_separator byte) (begins_comment byte) (n
 abbrev pub pieces : List ℕ → List (List ℕ)
 pieces line = slice_split is_separator (before_comment line)
 
--- the pieces of a line where a token byte stands in front
+-- the pieces of a line where a token byte is in front
 pub pieces-cons : (byte : ℕ) (line : List ℕ) → IsPlain byte → pieces (byte ∷ line) ≡ onto_first byte (pieces line)
 pieces-cons byte line p = rw (p.comment, p.separator) refl
 
@@ -47,7 +47,7 @@ tokens_of-past (byte ∷ line) = go (is_separator byte) refl (tokens_of-past lin
     go true e rest = rw one-add (rest ∙ sym (tokens_of-separator line byte e))
     go false e rest = refl
 
--- whether a separator stands at the front
+-- whether a separator is at the front
 abbrev begins_separator : List ℕ → Bool
 begins_separator [] = false
 begins_separator (byte ∷ line) = is_separator byte
@@ -60,7 +60,7 @@ begins_separator-past (byte ∷ line) = go (is_separator byte) refl (begins_sepa
     go true e rest = rw one-add rest
     go false e rest = e
 
--- If no token stands in front, the first piece is empty.
+-- If no token is in front, the first piece is empty.
 pieces-ended : (line : List ℕ) → begins_token line ≡ false → (rest : List (List ℕ)) × (pieces line ≡ [] ∷ rest)
 pieces-ended [] none = ([], refl)
 pieces-ended (byte ∷ line) none =
@@ -68,7 +68,7 @@ pieces-ended (byte ∷ line) none =
     (by_separator (λ b. (rest : List (List ℕ)) × (pieces (b ∷ line) ≡ [] ∷ rest)) (pieces line, refl) (pieces line, refl) (pieces line, refl))
     ([], refl) byte none
 
--- If neither a token nor a separator stands in front, there is no token.
+-- If neither a token nor a separator is in front, there is no token.
 tokens_of-ended : (line : List ℕ) → begins_token line ≡ false → begins_separator line ≡ false → tokens_of line ≡ []
 tokens_of-ended [] none bare = refl
 tokens_of-ended (byte ∷ line) none bare =
@@ -96,7 +96,7 @@ tokens_of-cut : (line token rest : List ℕ) → IsCut line token rest → has_a
 tokens_of-cut line token rest c some =
     ap (filter has_any) c.whole ∙ ap (λ b. cond b (token ∷ filter has_any c.others) (filter has_any c.others)) some ∙ ap (λ ts. token ∷ ts) (sym (ap (filter has_any) c.left))
 
--- a token is cut off where one stands in front
+-- a token is cut off where one is in front
 has_any-token : (line : List ℕ) → has_any (take (prefix_len is_token_byte line) line) ≡ begins_token line
 has_any-token [] = refl
 has_any-token (byte ∷ line) = go (is_token_byte byte)

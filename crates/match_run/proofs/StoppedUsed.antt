@@ -19,7 +19,7 @@ module _ (old new : GameAloneValue) (sink new_sink : SinkState) where
       × PushedFront lost.mid new_sink (dump_text (world_of new.world) new.done)
   loses_dump_used lost = (lost.left, lost.played.done, lost.played.now, lost.before, lost.failed)
 
-  -- at the score it stands after all three rounds, all of whose dumps were pushed
+  -- at the score it is after all three rounds, all of whose dumps were pushed
   loses_score_used : (lost : LosesScore old new 3 (λ _. true) sink new_sink) →
       (new.done ≡ old.done + 3) × (standing new ≡ after_rounds old.minds old.seed (standing old) 3)
       × PushedAll sink lost.mid (later_dumps old.minds old.seed (λ _. true) (standing old) old.done 3)

@@ -46,7 +46,7 @@ IsAtMoment-turn minds w next s later t world place fits = record {
   fit = fits;
 }
 
--- it stands at a moment, and then where something leads from there
+-- it is at a moment, and then where something leads from there
 IsAtMoment-then : {minds : Minds} {m : Moment} {start s later : SeedAndPlace} {w next : World} → IsAtMoment minds m start w s → (f : ℕ → Moment → Moment) → IsAtMoment minds (f s.seed (moment_of w s)) s next later → IsAtMoment minds (f start.seed m) start next later
 IsAtMoment-then stands f then = record {
   moment = then.moment ∙ ap₂ f stands.seed stands.moment;

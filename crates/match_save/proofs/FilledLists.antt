@@ -93,7 +93,7 @@ foods-refused width i value values old k at e = first-refused (food_at width i v
 pub foods-none : (width i : ℕ) (old : List ℕ) (at : Left (List ℕ)) → behind old (read_foods width i [] at) ≡ Ok (old, at)
 foods-none width i old at = ap (λ l. Ok (l, at)) (append-nil old)
 
--- what is answered for the next ant, and for all
+-- what is returned for the next ant, and for all
 abbrev NextAnt : Type 0
 NextAnt = Result (Option PlacedAnt × Left (List ℕ)) ℕ
 

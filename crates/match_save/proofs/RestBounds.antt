@@ -20,7 +20,7 @@ use Rattle.ant_turn.specs.Turn.{Outcome, acts, arrived, execute, in_state, instr
 use Rattle.ant_turn.proofs.KeptByChecks.{check_all-ant}
 
 module _ (most : ℕ) where
-  -- the ant of a cell, if one stands there, rests for this many turns at most
+  -- the ant of a cell, if one is there, rests for this many turns at most
   Rests : Cell → Type 0
   Rests cell = (ant : Ant) → cell.ant ≡ Some ant → ant.resting ≤ most
 

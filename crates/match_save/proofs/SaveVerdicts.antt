@@ -69,7 +69,7 @@ judged-is text d (Err (BadLine line)) is judged = absurd judged
 judged-is text d (Err BadState) is judged = inl (record { draft = d; is = is; wrong = judged })
 judged-is text d (Err OutOfMemory) is judged = inr refl
 
--- a save that is answered is the text's
+-- a save that is returned is the text's
 pub reads-saved : (text : List ℕ) (result : Result SavedValue SaveFault) → ReadsSave text result → IfOk result (λ saved. IsSaveText text saved)
 reads-saved text (Ok saved) is = is
 reads-saved text (Err fault) is = tt

@@ -100,7 +100,7 @@ in_either (x ∷ a) b it (inl same) = inl (inl same)
 in_either (x ∷ a) b it (inr is) = elim (in_either a b it is) [ inl front ↦ inl (inr front) | inr last ↦ inr last ]
 
 module _ (g : Grid) (world : IsWorld g) where
-  -- an ant that lives: it has an id below n, and stands at its place
+  -- an ant that lives: it has an id below n, and is at its place
   pub record Lives (n : ℕ) (it : PlacedAnt) : Type 0 where
     pub id : it.ant.id < n
     pub place : place_in (world_of g) it.ant.id ≡ Some it.place

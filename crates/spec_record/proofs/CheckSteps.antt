@@ -26,7 +26,7 @@ use Rattle.spec_record.proofs.Steps.{InStep, InStep-keeps, InStep-none, InStep-p
 of_identity : {A : Type 0} (f : Option Ant → A) (g : Option Identity → A) → ((o : Option Ant) → f o ≡ g (option_map identity_of o)) → (a b : Option Ant) → option_map identity_of a ≡ option_map identity_of b → f a ≡ f b
 of_identity {A} f g by a b who = by a ∙ ap g who ∙ sym (by b)
 
--- whether one of a colour stands there
+-- whether one of a colour is there
 colour_of : Colour → Option Identity → Bool
 colour_of colour None = false
 colour_of colour (Some who) = same_colour colour who.colour

@@ -336,7 +336,7 @@ module _ {minds : Minds} {seed : ℕ} {w : World} {guess t : ℕ} {p : Pos} {ant
     pub writes-there : (last : Cells) → length (going_writes w.cells last p q) ≤ 7
     writes-there last = going_writes-fit w.cells last p q ant.facing acting-inner.from_left acting-inner.from_top other-there there.ahead
 
-    -- where nobody is killed no cell is emptied
+    -- where no ant is killed no cell is emptied
     pub spared-there : (last : Cells) → last ≡ outcome.cells → outcome.killed ≡ [] → fallen w.cells last p q ≡ []
     spared-there last left none =
         sym (emptied-fallen minds.sheet w.cells last p ant q there.next inner-there.from_left inner-there.from_top (last-there last left))
@@ -353,7 +353,7 @@ module _ {minds : Minds} {seed : ℕ} {w : World} {guess t : ℕ} {p : Pos} {ant
     pub within-there : IsWithin 1 q p
     within-there = within-back 1 p q (subst (IsWithin 1 p) (sym there.ahead) (within-beside p ant.facing))
 
-    -- where no foe is near nobody is killed
+    -- where no foe is near no ant is killed
     module _ (some : 1 ≤ minds.sheet.surround) (none : AreNoneOf (foe_of ant.colour) (calm_reads w.cells p q)) where
       none_around : AllByRecursion (NoneAt (foe_of ant.colour) w.cells) (seen_around (stepped minds.sheet w.cells p ant q there.next) q)
       none_around =

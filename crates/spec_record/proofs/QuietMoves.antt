@@ -1,4 +1,4 @@
--- A Move that goes if no foe is near: nobody is killed.
+-- A Move that goes if no foe is near: no ant is killed.
 use Rattle.std.proofs.Common.{◌≡◌, ◌≢◌, inl, inr, ℕ, ◌≤◌, true, false, nat_le, List, [], ◌∷◌, ◌++◌, Option, Some, None, refl, sym, ◌∙◌, ap, subst, arith}
 use Rattle.std.specs.List.{AllByRecursion, flat_map}
 use Rattle.std.proofs.lemmas.Bool.{cases_Bool, cond-true, cond-false, lt-leb}
@@ -104,7 +104,7 @@ spared sheet cells colour r (Some ant) is some none beside =
     ap (λ c. ants_among cells (foe_of c) (neighbours_of r)) (no_foe colour ant none) ∙ none_among (foe_of colour) cells (neighbours_of r) (beside refl) in
     ap (has_foes sheet cells (neighbours_of r)) is ∙ ap (nat_le sheet.surround) none_beside ∙ lt-leb sheet.surround 0 (omega arith)
 
--- if no foe of a colour decides the checks around a position, nobody is surrounded there
+-- if no foe of a colour decides the checks around a position, no ant is surrounded there
 calm-around : (sheet : Sheet) (cells : Cells) (colour : Colour) (q : Pos) → 1 ≤ sheet.surround → AllByRecursion (NoneAt (foe_of colour) cells) (seen_around cells q) → AllByRecursion (λ r. is_surrounded sheet cells r ≡ false) (places_around q)
 unfolding places_around
 calm-around sheet cells colour q some all =
@@ -174,7 +174,7 @@ apart-once (old ∷ list) apart = (go list apart.0, apart-once list apart.1)
     go [] all = tt
     go (s ∷ more) all = ((λ e. same_pos_false (seen_place old) (seen_place s) all.0 (sym e)), go more all.1)
 
--- if no foe of the ant that goes is seen, nobody is surrounded after its step
+-- if no foe of the ant that goes is seen, no ant is surrounded after its step
 module _ (sheet : Sheet) (cells : Cells) (p : Pos) (ant : Ant) (q : Pos) (next : ℕ) (left : 1 ≤ q.x) (top : 1 ≤ q.y) (some : 1 ≤ sheet.surround) (none : AllByRecursion (NoneAt (foe_of ant.colour) cells) (seen_around (stepped sheet cells p ant q next) q)) where
   abbrev after : Cells
   after = stepped sheet cells p ant q next

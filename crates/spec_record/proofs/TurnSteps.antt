@@ -273,7 +273,7 @@ same_but_load a None who mind = absurd (cc)
 same_but_load a (Some b) who mind = (b.laden, ap Some (same_parts_ant b (record a { laden = b.laden }) (sym (some_one who)) (sym (some_one mind)) refl))
 
 module _ (minds : Minds) (seed : ℕ) (base : World) (guess : ℕ) (now : World) (place t : ℕ) (goes : GoesOn base now t) where
-  -- an ant that stands at p in the base
+  -- an ant that is at p in the base
   stands_both : (p : Pos) (a : Ant) → place_in base t ≡ Some p → (base.cells p).ant ≡ Some a → a.id ≡ t → AgreeInAll base.cells now.cells (reads_of minds base.cells p (Some a)) → (flips_now a.resting minds a ≡ true → place ≡ guess) →
       SameOutcome (writes_of minds base.cells p (Some a)) base.cells now.cells (turn_at minds seed base.cells guess p (Some a)) (turn minds seed now place t)
   unfolding turn

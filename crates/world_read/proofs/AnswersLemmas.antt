@@ -50,7 +50,7 @@ pub world_of_text-wrong : (text : List ℕ) (fault : WorldFault) → IsWorldFaul
 unfolding world_of_text
 world_of_text-wrong text fault wrong = ap opened (plan_of-wrong text fault wrong)
 
--- a fault that is answered is out of memory, or it was told
+-- a fault that is returned is out of memory, or it was told
 pub ReadsAs-fault : {A : Type 0} (told : Result A WorldFault) (fault : WorldFault) → ReadsAs told (Err fault) → (fault ≡ OutOfMemory) ⊎ (told ≡ Err fault)
 ReadsAs-fault told OutOfMemory is = inl refl
 ReadsAs-fault told it is = inr is
@@ -71,12 +71,12 @@ pub IsFaultOr-answered : (text : List ℕ) (result : Result Grid WorldFault) →
 IsFaultOr-answered text (Ok world) told = tt
 IsFaultOr-answered text (Err fault) told = elim (ReadsAs-fault (world_of_text text) fault told) [ inl want ↦ inr want | inr is ↦ inl (IsWorldFault-known text fault is) ]
 
--- of a world's text that world is answered
+-- of a world's text that world is returned
 pub AnswersValue-answered : (text : List ℕ) (result : Result Grid WorldFault) (world : Grid) → ReadsAs (world_of_text text) result → OpensAs text world → AnswersValue OutOfMemory result world
 AnswersValue-answered text (Ok answered) world told opens = let read = world_of_text-opens text world opens in cc
 AnswersValue-answered text (Err fault) world told opens = fault-of_value (world_of_text text) world OutOfMemory fault (world_of_text-opens text world opens) (ReadsAs-fault (world_of_text text) fault told)
 
--- of a text with a fault that fault is answered
+-- of a text with a fault that fault is returned
 pub AnswersFault-answered : (text : List ℕ) (result : Result Grid WorldFault) (fault : WorldFault) → ReadsAs (world_of_text text) result → IsWorldFault text fault → AnswersFault OutOfMemory result fault
 AnswersFault-answered text (Ok answered) fault told wrong = let read = world_of_text-wrong text fault wrong in cc
 AnswersFault-answered text (Err answered) fault told wrong = fault-of_fault (world_of_text text) fault OutOfMemory answered (world_of_text-wrong text fault wrong) (ReadsAs-fault (world_of_text text) answered told)

@@ -184,7 +184,7 @@ world_fault-row text (LongRow row) h = h
 world_fault-row text BadWidth h = absurd h.wrong
 world_fault-row text it h = absurd h.wrong
 
--- a line that isn't blank stands among these
+-- a line that isn't blank is among these
 record HasOther (lines : List (List ℕ)) : Type 0 where
   before : List (List ℕ)
   line : List ℕ

@@ -4,7 +4,7 @@ use Rattle.world_read.specs.declared.fault.WorldFault.{WorldFault}
 use Rattle.world_read.specs.declared.fault.WorldFault.TheVariants.{OutOfMemory}
 use Rattle.world_read.specs.Inner.Reading.{ReadsAs}
 
--- a fault that was told may be answered
+-- a fault that was told may be returned
 pub ReadsAs-told : {A : Type 0} (told : Result A WorldFault) (fault : WorldFault) → told ≡ Err fault → ReadsAs told (Err fault)
 ReadsAs-told told OutOfMemory is = tt
 ReadsAs-told told it is = is

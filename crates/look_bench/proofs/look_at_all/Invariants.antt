@@ -1,4 +1,4 @@
--- the stream stands at the guess of the next turn
+-- the stream is at the guess of the next turn
 use Rattle.std.proofs.Common.{◌≡◌, ◌≤◌}
 use Rattle.cell_world.specs.Grid.{world_of}
 use Rattle.ant_turn.specs.Minds.{minds_of}

@@ -28,7 +28,7 @@ with_brain-requires c =
     subst IsBrain (sym c.in_ok-made.ensures.list)
     (main-brain c.args.text.now c.deref.result.now (subst (AreBodiesOf c.args.text.now) (sym c.deref.ensures.value) c.in_ok-bodies.ensures.bodies))
 
--- what is answered
+-- what is returned
 made : (c : After-with_brain) → IsAssembledText c.args.text.now c.with_brain.result.brain c.with_brain.result.places
 made c =
     text-assembled c.args.text.now c.deref.result.now (subst (AreBodiesOf c.args.text.now) (sym c.deref.ensures.value) c.in_ok-bodies.ensures.bodies) c.with_brain.result.brain c.with_brain.result.places

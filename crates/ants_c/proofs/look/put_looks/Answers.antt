@@ -1,4 +1,4 @@
--- the brains fit the world; and each look stands after those before it
+-- the brains fit the world; and each look is after those before it
 use Rattle.std.proofs.Common.{◌<◌, ◌-◌, ◌∙◌, ℕ, length, ap, subst, sym, arith, slice_index_or}
 use Rattle.ant_turn.proofs.FitLemmas.{Fits-opening}
 use Rattle.cell_world.specs.Grid.{world_of}

@@ -1,4 +1,4 @@
--- the rounds so far have their scores and their ants, and the game stands after the last of them
+-- the rounds so far have their scores and their ants, and the game is after the last of them
 use Rattle.ants_c.proofs.Looks.{AreLaid, Looking}
 use Rattle.ants_c.proofs.look.put_looks.Given as goal
 

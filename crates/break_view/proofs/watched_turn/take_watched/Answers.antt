@@ -14,7 +14,7 @@ use Rattle.break_view.proofs.QuietTurns.{looks_same}
 use Rattle.break_view.proofs.watched_turn.take_watched.Goals as goal
 use Rattle.break_view.proofs.watched_turn.take_watched.Goals.{After-is_empty, After-score_in_any-then-is_empty}
 
--- nobody was killed
+-- no ant was killed
 none : (c : After-is_empty) → c.is_empty.result ≡ true → (turn (minds_of c.args.brains) c.args.stream.now.seed (world_of c.args.world.now) c.args.stream.now.place c.args.id).killed ≡ []
 none c empty = sym c.take_turn-deed.ensures.killed ∙ nil_from_length c.take_turn-deed.result.killed.items (eqb-true _ _ (sym c.is_empty.ensures ∙ empty))
 

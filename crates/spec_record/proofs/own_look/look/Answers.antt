@@ -1,4 +1,4 @@
--- the stream stands at the guess where that matters
+-- the stream is at the guess where that matters
 use Rattle.std.proofs.Common.{◌∙◌, ap}
 use Rattle.cell_world.specs.Grid.{world_of}
 use Rattle.ant_turn.specs.Minds.{minds_of}

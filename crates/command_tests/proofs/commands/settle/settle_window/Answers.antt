@@ -17,7 +17,7 @@ AreGuesses field book guesses = guesses ≡ guesses_of field.minds (world_of fie
 length-given : (field : FieldValue) (book : BookValue) (guesses : List ℕ) → AreGuesses field book guesses → length guesses ≡ book.to - book.from
 length-given field book guesses given = ap length given ∙ guesses_of-length field.minds (world_of field.world) field.place book.from book.from (book.to - book.from)
 
--- where a window stands after some turns
+-- where a window is after some turns
 going-at : (field : FieldValue) (old book : BookValue) (guesses : List ℕ) (k id : ℕ) → AreGuesses field old guesses → k < length guesses → StandsOn field book → IsSameWindow old book → book.next ≡ old.from + k → id ≡ book.next
     → Going field old.from old.to id book (slice_index_or guesses k 0)
 unfolding guess_for
