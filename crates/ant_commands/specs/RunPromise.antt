@@ -29,8 +29,8 @@ use Rattle.ant_commands.specs.Run.{IsNoCommand, IsRunTo}
 abbrev pub IsNumber : ℕ → ℕ → ℕ → List ℕ → Type 0
 IsNumber least greatest number word = (decimal_value word ≡ Some number) × (least ≤ number) × (number ≤ greatest)
 
--- a word chooses the rounds that are dumped: `none`, `all`, or the numbers of these rounds, with one comma, the byte
--- 44, between them
+-- a word chooses the rounds that are dumped: `none`, `all`, or the numbers of these rounds, separated by single commas,
+-- which are the byte 44
 pub data IsDumps : (ℕ → Bool) → List ℕ → Type 0 where
   NoRound : IsDumps (λ round. false) (codes "none")
   EveryRound : IsDumps (λ round. true) (codes "all")
@@ -181,8 +181,8 @@ abbrev pub IsUnfit : TextKind → Result (List ℕ) FetchFault → List ℕ → 
 IsUnfit kind (Ok bytes) _ = ¬ IsText kind bytes
 IsUnfit kind (Err fault) says = (fault ≡ TooLong) × (says ≡ codes "too long")
 
--- 5: a file is not a world or not a brain, or its fetch returned that it is too long. The law `headline` says which
--- fault of a text the line names
+-- 5: a file is not the world or the brain that it has to be, or its fetch returned that it is too long. The law
+-- `headline` says which fault of a text the line names
 pub record IsNotAccepted (asked : RunAsked) (before after : Outside) : Type 0 where
   pub kind : TextKind
   pub name : List ℕ

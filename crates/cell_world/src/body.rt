@@ -5,8 +5,7 @@ ghost use Rattle.cell_world.specs.Inner.Stored.{ant_from, body_at, is_living};
 use crate::ant::{Ant, Colour};
 use hex_geometry::{Dir, Pos};
 
-// What a world keeps of an ant, by its id: its position, which is a special value if it is dead, and everything else
-// about it.
+// What a world keeps of an ant, by its id: its position, which is `None` if it is dead, and everything else about it.
 #[derive(Clone, Copy)]
 pub struct Body {
     pub place: Option<Pos>,

@@ -13,7 +13,7 @@ pub struct Seeds {
 }
 
 impl Seeds {
-    /// The number of the world, given the number of a pair of a world and a seed. It takes no memory.
+    /// The number of the world of pair number `n`, counted from 0. It takes no memory.
     #[inline]
     pub fn world_at(&self, n: u32) -> u32
         requires { 0 < self.now.count }
@@ -22,7 +22,7 @@ impl Seeds {
         n / self.count
     }
 
-    /// The seed, given the number of a pair of a world and a seed. It takes no memory.
+    /// The seed of pair number `n`, counted from 0. It takes no memory.
     #[inline]
     pub fn seed_at(&self, n: u32) -> u32
         requires { 0 < self.now.count }
