@@ -1,4 +1,4 @@
--- What is told of a line of a body that is used, and of the lines after it.
+-- The report of a line of a body that is used, and of the lines after it.
 use Rattle.std.proofs.Common.{◌≡◌, ℕ, zero, suc, ◌+◌, ◌<◌, ◌≤◌, List, [], ◌∷◌, ◌++◌, drop, length, Some, refl, sym, ap, ◌∙◌, subst, arith}
 use Rattle.std.specs.Prelude.{◌==◌, if◌then◌else◌, slice_get, slice_index_or}
 use Rattle.std.proofs.lemmas.List.{drop_more}
@@ -37,7 +37,7 @@ inner-split blocks (NamedLine.Use line name block) rest at after way size is =
     ap (λ (n : ℕ). used_states blocks (NamedLine.Use line name block) at (state_at (outline_size rest) n after) way ++ inner_states rest n after way)
     (let e : at + outline_size (slice_index_or blocks block Closed) ≡ at + size = omega (arith, is) in e)
 
--- where the instructions of a line stand
+-- the lines of the instructions of a line
 abbrev pub line_states : List Outline → NamedLine → ℕ → List WayStep → List StateLine
 line_states blocks (NamedLine.Label name) at way = []
 line_states blocks (NamedLine.Instruction line) at way = (record { state = at; line = line; way = way }) ∷ []
@@ -89,7 +89,7 @@ module _ {bodies : List NamedBody} {number : ℕ} {body : NamedBody} (a : AtBody
     pub body-size : body.size ≡ outline_size whole
     body-size = let same = named.size (omega (arith, fits)) in same
 
-  -- the lines, of which none was told
+  -- the lines, with none reported yet
   pub told-start : (tell : Outline → ℕ → List ℕ) (base : ℕ) (list : List NamedLine) (state : SinkState) → list ≡ body.lines.items →
       AreTold tell (tell whole base) (base + outline_size whole) (lines_before blocks (drop 0 list) Closed) base state state
   told-start tell base list state same =

@@ -1,4 +1,4 @@
--- What is told of a body, line by line.
+-- The report of a body, line by line.
 use Rattle.std.proofs.Common.{◌≡◌, ℕ, ◌+◌, Bool, true, false, List, [], ◌++◌, refl, sym, ap, ◌∙◌, subst, arith, append_assoc}
 use Rattle.std.specs.Prelude.{◌==◌, if◌then◌else◌}
 use Rattle.std.proofs.lemmas.Bool.{eq-eqb, eqb-true}
@@ -7,7 +7,8 @@ use Rattle.ant_base.proofs.Pushes.{all_of_nothing, all_then, front_more, front_t
 use Rattle.ant_asm.specs.Labels.{Outline}
 use Rattle.ant_asm.specs.Inner.Outlines.{outline_size, state_at}
 
--- a text was told; that of the lines that are left, the first of whose instructions has this number, is the rest of it
+-- a text was reported; that of the lines that are left, the first of whose instructions has this number, is the rest of
+-- it
 pub record AreTold (tell : Outline → ℕ → List ℕ) (all : List ℕ) (end : ℕ) (rest : Outline) (at : ℕ) (old new : SinkState) : Type 0 where
   pub told : List ℕ
   pub pushed : PushedAll old new told
@@ -47,7 +48,7 @@ state-is at end after left sum = ap (λ (b : Bool). if b then after else at) (sa
     same false true first second =
         let z : left ≡ 0 = eqb-true left 0 second in let e : at ≡ end = omega (arith, z, sum) in let never : true ≡ false = sym (eq-eqb at end e) ∙ first in absurd (cc)
 
--- a text was told; this one is the rest of it
+-- a text was reported; this one is the rest of it
 pub record IsToldTo (all left : List ℕ) (old new : SinkState) : Type 0 where
   pub told : List ℕ
   pub pushed : PushedAll old new told

@@ -1,4 +1,4 @@
--- Where an address lies, and that each is numbered once.
+-- The places of addresses, and that each is numbered once.
 pub mod Addresses
 pub mod Firsts
 pub mod Brains

@@ -1,4 +1,4 @@
--- The line that is told of a state says its instruction, and the uses that are told lead to it.
+-- The line reported for a state has its instruction, and the reported uses lead to it.
 use Rattle.std.proofs.Common.{◌≡◌, ℕ, zero, suc, ◌+◌, List, [], ◌∷◌, ◌++◌, length, Option, Some, refl, sym, ap, ◌∙◌, subst, arith}
 use Rattle.std.specs.Prelude.{slice_get}
 use Rattle.std.specs.List.{AllByRecursion}
@@ -92,7 +92,7 @@ module _ (text : List ℕ) where
   said-told (line ∷ lines) (At number Ends ∷ others) are keep = (tt, said-told lines others are.2 (λ i. keep (suc i)))
 
   module _ (main : Items) where
-    -- what is told of the instruction at an address
+    -- the report of the instruction at an address
     record IsToldAt (it : StateLine) (address : Address) : Type 0 where
       says : SaidBy it.line (placed main address).action
       deep : length address ≡ suc (length it.way)
@@ -115,7 +115,7 @@ module _ (text : List ℕ) where
     told-at (one ∷ lines) (other ∷ list) (suc i) it address told at there = told-at lines list i it address told.1 at there
     told-at it that i one address told at there = absurd told
 
-    -- what is told goes with the addresses
+    -- the reports are in the order of the addresses
     lines-told : (outline : Outline) (items body : Items) (frame : Frame) (numbers : Numbers) (k at : ℕ) (way : List WayStep) → Stands main body frame numbers → from_place k body ≡ items →
         Tells SaidBy UsedBy outline items → length frame.path ≡ length way → AllByRecursion (SaysUse text) way → AreToldAt (told_lines outline at way) (places_of items frame.path k)
     unfolding placed

@@ -1,4 +1,4 @@
--- Where the instructions of a program stand: by addresses as by numbers, and one for each state.
+-- The lines of a program's instructions: by addresses the same as by numbers, and one for each state.
 use Rattle.std.proofs.Common.{◌≡◌, ℕ, zero, suc, ◌+◌, List, [], ◌∷◌, ◌++◌, length, Some, refl, sym, ap, ap₂, ◌∙◌, arith, append_assoc}
 use Rattle.std.specs.Prelude.{slice_get}
 use Rattle.ant_asm.specs.Program.{Items}
@@ -61,7 +61,7 @@ pub lines_at-length : (main : Outline) (state : ℕ) (addresses : List Address) 
 lines_at-length main state [] = refl
 lines_at-length main state (address ∷ addresses) = ap suc (lines_at-length main (suc state) addresses)
 
--- each is told with its state
+-- each is reported with its state
 line_from-state : (state : ℕ) (address : Address) (outline : Outline) (way : List WayStep) → (line_from state address outline way).state ≡ state
 line_from-state state [] (Instructed line others) way = refl
 line_from-state state (k ∷ address) (Used line name block others) way = line_from-state state address (from_item k block) (further way name line)

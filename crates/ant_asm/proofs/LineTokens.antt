@@ -1,4 +1,4 @@
--- What the tokens of a line stand for, where it is read as in a brain's text, and as names and labels.
+-- The meaning of a line's tokens, as in a brain's text, and as names and labels.
 use Rattle.std.proofs.Common.{◌≡◌, ℕ, ◌<◌, ◌≤◌, suc, Bool, true, false, not, ◌&&◌, ◌||◌, List, [], ◌∷◌, ◌++◌, codes, Option, Some, None, Ok, Err, map, option_map, cond, nat_le, refl, sym, ap, ◌∙◌, subst, length, ◌+◌, arith, leb-true, ltb-false, ltb-true, nat_lt, bytes_eq}
 use Rattle.std.specs.Prelude.{if◌then◌else◌, ◌==◌}
 use Rattle.std.specs.List.{list_any}

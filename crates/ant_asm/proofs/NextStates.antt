@@ -48,7 +48,7 @@ module _ (P : Ant → Type 0) where
   pub of_this : (cell : Cell) (ant : Ant) → cell.ant ≡ Some ant → P ant → OfAnt cell
   of_this cell ant is holds other there = subst P (same_Some ant other (sym is ∙ there)) holds
 
-  -- where the cell of p is changed
+  -- if the cell of p is changed
   pub put_cell-of : (cells : Cells) (p : Pos) (cell : Cell) → OfOthers cells p → OfAnt cell → OfAll (put_cell cells p cell)
   put_cell-of cells p cell others new q = elim (cases_pos p q) [
     | inl one ↦ subst (λ r. OfAnt (put_cell cells p cell r)) one (subst OfAnt (sym (put_cell-same cells p cell)) new)

@@ -74,11 +74,11 @@ Blocks = List ℕ → Option Block
 abbrev Named-blocks : Type 0
 Named-blocks = List ℕ → Option Outline
 
--- where lines add to main
+-- if lines are added to main
 abbrev outside : Draft → ℕ → Blocks → Option ℕ → Standing
 outside main count blocks unknown = record { main = main; count = count; blocks = blocks; begun = None; unknown = unknown }
 
--- where they add to a block
+-- if they are added to a block
 abbrev inside : Draft → ℕ → Blocks → Option ℕ → List ℕ → ℕ → Draft → Standing
 inside main count blocks unknown name line draft = record { main = main; count = count; blocks = blocks; begun = Some (record { name = name; line = line; draft = draft }); unknown = unknown }
 

@@ -1,4 +1,4 @@
--- A text has one program or one fault, where a line says one thing or has one fault.
+-- A text has one program or one fault, if each line says one thing or has one fault.
 use Rattle.std.proofs.Common.{◌≡◌, ◌⊎◌, inl, inr, ℕ, List, [], ◌∷◌, ◌++◌, Option, Some, None, refl, sym, ap, ◌∙◌, subst}
 use Rattle.std.proofs.lemmas.Option.{same_Some}
 use Rattle.line_tokens.specs.TokenLines.{TokenLine, lines_with_tokens}

@@ -74,7 +74,7 @@ counted-inside place (NamedLine.Instruction line ∷ lines) =
 counted-inside place (NamedLine.Use line name block ∷ lines) =
     (omega arith, AllByRecursion-weaker (λ (p : ℕ). p < suc place + length lines) (λ (p : ℕ). p < place + suc (length lines)) (counted_from (suc place) lines) (counted-inside (suc place) lines) (λ p inside. omega (arith, inside)))
 
--- without labels as many instructions are told, and no more steps are left
+-- without labels the same number of instructions is reported, and no more steps are left
 module _ (blocks : List Outline) where
   abbrev bare : List NamedLine → Outline
   bare lines = lines_before blocks (items_in lines) Closed
@@ -384,7 +384,7 @@ module _ (old : Walk) (is : IsWalk old) (line : NamedLine) (behind : Spot) (next
               (subst (IsSpotIn bodies (0 + length old.outer.items)) (sym at-use) (subst (λ (n : ℕ). IsSpotIn bodies n behind) (let e : length old.outer.items ≡ 0 + length old.outer.items = omega arith in e) behind-spot)));
         }
 
-    -- what is left is told after the use
+    -- what is left is reported after the use
     later-left : {A : Type 0} (tell : Spot → List WayStep → List A) → left_in tell outer.items [] ≡ tell behind way ++ left_in tell old.outer.items []
     later-left tell =
         ap (λ (l : List Level). left_in tell l []) pushed ∙ left-last tell old.outer.items level []

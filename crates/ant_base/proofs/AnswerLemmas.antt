@@ -1,4 +1,4 @@
--- What is returned of a text whose verdict was judged, where memory may be wanted.
+-- What is returned for a text whose verdict was judged, if memory may run out.
 use Rattle.std.proofs.Common.{◌≡◌, ◌⊎◌, inl, inr, Result, Ok, Err, sym, ◌∙◌}
 
 -- if it was judged to have a value, memory ran out

@@ -8,7 +8,7 @@ use Rattle.ant_base.specs.Lines.{ends_in_lf}
 use Rattle.ant_base.specs.Faults.{Rose}
 use Rattle.ant_base.specs.Sink.{SinkState, NothingWaits, PushedAll, PushedFront, Pushed}
 
--- the bytes held after some more, if they are told
+-- the bytes held after some more, if they are reported
 abbrev with_more : Option (List ℕ) → List ℕ → Option (List ℕ)
 with_more held more = option_map (λ bytes. bytes ++ more) held
 

@@ -33,7 +33,7 @@ given_none : (kind : ErrorKind) (n : ℕ) → given_at kind ≡ Ok (Some n) → 
 given_none Interrupted n is = cc
 given_none _ n is = cc
 
--- a read gives no more than it was asked for
+-- a read gives no more than was requested
 pub read_fits : (answer : Result ℕ Error) (read : Result (Option ℕ) FetchFault) (field : Option ℕ) (chunk : List ℕ) (given : ℕ) → IfOk answer (λ n. IsPrefixLen n chunk) → read ≡ given_of answer → read ≡ Ok field → field ≡ Some given → given ≤ length chunk
 read_fits (Ok n) read field chunk given bound is was some = let same : n ≡ given = cc in subst (λ m. m ≤ length chunk) same bound.0
 read_fits (Err error) read field chunk given bound is was some = absurd (given_none (error_kind error) given (sym is ∙ was ∙ ap Ok some))

@@ -34,7 +34,7 @@ stayed_counts = ((λ rose. omega (arith, rose)), (λ rose. omega (arith, rose)),
 dash_alone : dash ≡ codes "-"
 dash_alone = refl
 
--- out of memory is told from every other fault
+-- out of memory is distinguished from every other fault
 faults_of_kinds : map fetch_fault_at (kind.NotFound ∷ kind.PermissionDenied ∷ kind.OutOfMemory ∷ kind.Interrupted ∷ []) ≡ fault.Failed ∷ fault.Failed ∷ fault.OutOfMemory ∷ fault.Failed ∷ []
 faults_of_kinds = refl
 

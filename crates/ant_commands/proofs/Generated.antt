@@ -45,7 +45,7 @@ pub fits_generated : (seed : ℕ) (shape : Shape) (world : Grid) → IsGenerated
 fits_generated seed shape world generated =
     subst (λ (g : Grid). Fits (world_of g) sample_minds) (sym generated.is) (Fits-opening shape.width shape.height generated.kinds sample_minds sample_brain-sound.some sample_brain-sound.some)
 
--- no world came, for want of room or of memory
+-- no world was generated, because there was no room or no memory
 pub carries_ungenerated : {U : Type 0} (command : Job) (seed : ℕ) (shape : Shape) (shelf : ShelfState) (out : SinkState) (result : Result U CommandStop) (why : CommandStop) → files_of command ≡ []
     → ((element : ℕ) → HasNoRoom seed shape element → LacksRoom command element) → IsErrAnd result (λ other. other ≡ why)
     → IsGenerating seed shape (Err why) → CarriesOut command shelf shelf out out (ending_of result)

@@ -52,7 +52,7 @@ use Rattle.ant_commands.proofs.ReadContents.{IsReading, has_text_of, has_told, o
 use Rattle.ant_commands.proofs.TextEnds.{EndsInLf, lf_acts, lf_advance, lf_brain, lf_canonical, lf_comparison, lf_difference, lf_events, lf_last, lf_help, lf_match, lf_minimised, lf_profile, lf_rest, lf_save, lf_show, lf_standing, lf_state_lines, lf_states, lf_printed, lf_trace, lf_version, lf_view, lf_workload, lines_labels}
 use Rattle.ant_commands.proofs.Viewed.{view_of-view}
 
--- what is told ends in LF
+-- the text of a value ends in LF
 pub ends : {text other : List ℕ} → text ≡ other → EndsInLf other → ends_in_lf text ≡ true
 ends {text} {other} is last = subst (λ (t : List ℕ). ends_in_lf t ≡ true) (sym is) last.is
 
@@ -117,7 +117,7 @@ same-ends : (way : Bool) (pair : ReadPair) (text : List ℕ) → TellsSame way p
 same-ends false pair text told = ends told.told (lf_comparison told.comparison)
 same-ends true pair text told = ends told.told (lf_difference told.comparison told.steps)
 
--- what is told of one value is one text
+-- one value has one text
 one-minimised : (states : Bool) (list : List Instr) (text other : List ℕ) → TellsMinimised states list text → TellsMinimised states list other → text ≡ other
 one-minimised states list text other a b =
     let same = one_minimised list a.new b.new a.numbers b.numbers a.minimised b.minimised in
@@ -156,7 +156,7 @@ one-asm false false file contents text other a b = one_told (read_program file) 
 one-asm false true file contents text other a b = one_text_of (read_source file) (source_text false true) contents text other a b
 one-asm true lines file contents text other a b = one_text_of (read_source file) (source_text true lines) contents text other a b
 
--- what is told of each value is told
+-- each value has a text
 has-minimised : (states : Bool) (name : List ℕ) (fetches : List Fetched) (list : List Instr) → AreAccepted (brain_file name ∷ []) fetches (brain_contents list) → (text : List ℕ) × TellsMinimised states list text
 has-minimised states name [] list are = absurd are
 has-minimised states name (fetch ∷ fetches) list are =

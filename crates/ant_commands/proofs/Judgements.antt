@@ -66,7 +66,7 @@ same_verdict at files first second (AllAccepted a) (FirstRefused name fault) one
 same_verdict at files first second (FirstRefused name fault) (AllAccepted b) one two is also = absurd (accepted_never_refused at files second first b name fault two one also is)
 same_verdict at files first second (FirstRefused name fault) (FirstRefused other another) one two is also = same_refusal at files first second name other fault another one two is also
 
--- a file that was judged: by a fetch that agrees with what is told it is accepted, or refused
+-- a file that was judged: by a fetch that agrees with the reported contents it is accepted, or refused
 abbrev HasFileVerdict : At → File → Type 0
 HasFileVerdict at file =
     ((fetch : Fetched) × (content : FileContent) × IsTold (Some at) fetch × IsAccepted file fetch content) ⊎ ((fetch : Fetched) × (fault : FileFault) × IsTold (Some at) fetch × IsRefused file fetch fault)

@@ -142,7 +142,7 @@ begins world red black setup game (a ∷ b ∷ c ∷ fetches) within are = recor
   is_black = are.1.1.0.reads;
 }
 
--- what is told of a game's files, and of a save's
+-- the text of a game's files, and of a save's
 game_told : (world red black : List ℕ) (text_of : ReadGame → List ℕ) (game : ReadGame) (text : List ℕ) → Tells game_contents (is_text_of text_of) (game_contents game) text → text ≡ text_of game
 game_told world red black text_of game text is = is.told ∙ ap text_of ((read_game world red black).one is.value game (sym is.read))
 

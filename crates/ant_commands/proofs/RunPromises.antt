@@ -268,7 +268,7 @@ record HasStopped (world red black : List ℕ) (setup : RunSetup) (before after 
   stopped : StopsFor (run_job world red black setup) before after fetches reason
   line : GotLine before.err after.err (fault_line reason)
 
--- where a file was not read
+-- if a file was not read
 unread_at : (world red black : List ℕ) (setup : RunSetup) (before after : Outside) (name : List ℕ) → HasStopped world red black setup before after (AtFile name)
     → (kind : TextKind) × StopsAtFile (asked_for world red black setup) before after kind name (Err why.Failed)
 unread_at world red black setup before after name it =

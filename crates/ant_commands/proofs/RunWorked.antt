@@ -215,7 +215,7 @@ stopped_alone : {asked : RunAsked} {before after : Outside} {kind : TextKind} {n
     → after.out ≡ before.out
 stopped_alone at = at.unwritten
 
--- so is it where it stopped before the text was begun, and what it fetched is told
+-- the same if it stopped before the text was begun; what it fetched is reported
 unbegun_alone : (asked : RunAsked) (before after : Outside) → IsNotBegun asked before after → (after.out ≡ before.out) × ((fetches : List Fetched) × DidFetch before after fetches)
 unbegun_alone asked before after (NothingFetched did unwritten) = (unwritten, ([], did))
 unbegun_alone asked before after (BytesCame kind name bytes at) = (at.unwritten, (at.earlier ++ (fetch name (Ok bytes) ∷ []), at.fetched))

@@ -35,7 +35,7 @@ At = List ℕ → Option (List ℕ)
 some_same : (a b : List ℕ) → Some a ≡ Some b → a ≡ b
 some_same a b same = cc
 
--- bytes that were got are told
+-- bytes that were fetched are the reported ones
 told_bytes : (at : At) (name bytes : List ℕ) (fetch : Fetched) → IsTold (Some at) fetch → fetch ≡ record { name = name; answer = Ok bytes } → AnswerIsTold (Some at) name (Ok bytes)
 told_bytes at name bytes fetch told got = subst (IsTold (Some at)) got told
 
@@ -89,7 +89,7 @@ accepted_never_refused at (file ∷ files) (x ∷ first) (y ∷ second) (content
       | inr later ↦ accepted_never_refused at files first second contents name fault one.1 two.1 are.1 later.2
     ]
 
--- the fetch of an accepted file asked for its name
+-- the fetch of an accepted file requested its name
 accepted_name : (file : File) (fetch : Fetched) (content : FileContent) → IsAccepted file fetch content → fetch.name ≡ file.name
 accepted_name file fetch content is = ap (λ (f : Fetched). f.name) is.got
 
@@ -228,7 +228,7 @@ complete_by at command before after fetches told contents (Some (AtInput name fa
 complete_by at command before after fetches told contents (Some (AtRoom element)) one two are room ends shelf_held out_held = absurd (room element ends.lacks)
 complete_by at command before after fetches told contents (Some AtMemory) one two are room ends shelf_held out_held = inr refl
 
--- the fetches of a run agree with what is told
+-- the fetches of a run agree with the reported contents
 told_of_run : (words : List (List ℕ)) (before after : Outside) (ended : Status) (at : At) → (run : IsRun words before after ended) → before.shelf.files ≡ Some at → AllByRecursion (IsTold (Some at)) run.fetches
 told_of_run words before after ended at run told = subst (λ (files : Option At). AllByRecursion (IsTold files) run.fetches) told run.fetched.told
 

@@ -27,11 +27,11 @@ sample_minds-of brain sheet same by_contest =
     by_sheet : List Instr → Sheet → Minds
     by_sheet b s = record { red = b; black = b; sheet = s }
 
--- what is told of a game that ended in this world with these totals
+-- the result of a game that ended in this world with these totals
 abbrev told : World → World → Totals → Summary
 told w end totals = record { ants = w.ids; food = food_on w; red = alive_of end Red; black = alive_of end Black; score = score_of end; totals = totals }
 
--- what is told of a game after its rounds
+-- the result of a game after its rounds
 pub summary_of-played : (seed rounds : ℕ) (w : World) (minds : Minds) (game : GameValue) → minds ≡ sample_minds → world_of game.field.world ≡ world_after minds seed w rounds
     → game.totals ≡ totals_of minds seed (default_of Window) (start_of w) rounds
     → record { ants = w.ids; food = food_on w; red = alive_of (world_of game.field.world) Red; black = alive_of (world_of game.field.world) Black; score = score_of (world_of game.field.world); totals = game.totals } ≡ summary_of seed rounds w

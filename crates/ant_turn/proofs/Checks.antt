@@ -27,7 +27,7 @@ pub check_at-spared : (sheet : Sheet) (cells : Cells) (p : Pos) → is_surrounde
 unfolding check_at
 check_at-spared sheet cells p spared = cond-false _ _ _ spared
 
--- and kills nobody
+-- and kills no ant
 pub killed_at-spared : (sheet : Sheet) (cells : Cells) (p : Pos) → is_surrounded sheet cells p ≡ false → killed_at sheet cells p ≡ []
 unfolding killed_at
 killed_at-spared sheet cells p spared = cond-false _ _ _ spared
@@ -62,7 +62,7 @@ someone : (sheet : Sheet) (cells : Cells) (places : List Pos) (o : Option Ant) �
 someone sheet cells places None foes = absurd (false≢true foes)
 someone sheet cells places (Some ant) foes = (ant, refl)
 
--- where a cell is surrounded an ant is
+-- if a cell is surrounded, there is an ant
 pub is_surrounded-true : (sheet : Sheet) (cells : Cells) (p : Pos) → is_surrounded sheet cells p ≡ true → Struck sheet cells p
 unfolding is_surrounded
 is_surrounded-true sheet cells p foes =

@@ -6,7 +6,7 @@ use Rattle.cell_world.specs.declared.ant.PlacedAnt.{PlacedAnt}
 use Rattle.cell_world.specs.World.{World}
 use Rattle.ant_random.specs.Stream.{SeedAndPlace}
 
--- where the ant is that was found
+-- the place of the ant that was found
 pub found-place : (place : Option Pos) (result : Option PlacedAnt) (it : PlacedAnt) → option_map (λ (s : PlacedAnt). s.place) result ≡ place → result ≡ Some it → place ≡ Some it.place
 found-place place result it told is = sym told ∙ ap (option_map (λ (s : PlacedAnt). s.place)) is
 

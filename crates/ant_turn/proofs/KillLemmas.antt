@@ -36,7 +36,7 @@ record Spares (w : World) (t : ℕ) (now : World) (killed : List ℕ) : Type 0 w
   own_lives : (Contains killed t → ⊥) → IsSome (place_in w t) → IsSome (place_in now t)
   dead_stay : place_in w t ≡ None → place_in now t ≡ None
 
--- where no ant is killed and everybody stays
+-- if no ant is killed, all others stay
 Spares-all : (w : World) (t : ℕ) (now : World) → ((u : ℕ) → place_in now u ≡ place_in w u) → Spares w t now []
 Spares-all w t now same = record {
   were_alive = λ u found. absurd (omega (arith, found.1));
@@ -141,7 +141,7 @@ does-own sheet w t p ant instruction outcome q valid found is id (inr went) now 
     let own : place_in there t ≡ Some ahead = ap (place_in there) (sym id) ∙ step-own sheet w p ant ahead went.next valid is went.free in
     inr (check_all-own sheet (places_around ahead) there t ahead q (step-Valid sheet w p ant ahead went.next valid is went.free) own (subst (λ (o : Outcome). place_in (with_cells w o.cells) t ≡ Some q) went.is now))
 
--- where an ant is after its turn
+-- the place of an ant after its turn
 pub turn-own : (minds : Minds) (seed : ℕ) (w : World) (place t : ℕ) (p : Pos) (ant : Ant) (q : Pos) → Valid w → place_in w t ≡ Some p → (w.cells p).ant ≡ Some ant → place_in (world_after_turn minds seed w place t) t ≡ Some q →
     (q ≡ p) ⊎ (q ≡ adjacent_pos p ant.facing)
 turn-own minds seed w place t p ant q valid found is now =

@@ -84,11 +84,11 @@ turn-elsewhere minds seed w place t p ant q found is apart away =
     rw (turn-acts minds seed w place t p ant found is)
     (does-elsewhere (instruction_at (mind_of minds ant.colour) ant.state) minds.sheet w.cells p ant (acts ant.resting minds seed w.cells place p ant) q (acts_parts minds seed w.cells place p ant ant.resting) (λ e. apart (sym e)) away)
 
--- nobody of these is at q
+-- none of these is at q
 abbrev NoneAt : Cells → List ℕ → Pos → Type 0
 NoneAt cells killed q = (u : ℕ) → Contains killed u → holds_id u (cells q) ≡ false
 
--- a check changes no cell from which it kills nobody
+-- a check that kills no ant on a cell doesn't change it
 check_at-spared_cell : (sheet : Sheet) (cells : Cells) (p q : Pos) → NoneAt cells (killed_at sheet cells p) q → check_at sheet cells p q ≡ cells q
 check_at-spared_cell sheet cells p q =
     check_at-cases sheet cells p (λ now killed. NoneAt cells killed q → now q ≡ cells q)
@@ -129,7 +129,7 @@ turn-spared minds seed w place t p ant q found is apart beyond =
     subst (λ (o : Outcome). NoneAt w.cells o.killed q → o.cells q ≡ w.cells q) (sym (turn-acts minds seed w place t p ant found is))
     (does-spared (instruction_at (mind_of minds ant.colour) ant.state) minds.sheet w.cells p ant (acts ant.resting minds seed w.cells place p ant) q (acts_parts minds seed w.cells place p ant ant.resting) (λ e. apart (sym e)) (λ e. beyond (sym e)))
 
--- nobody is on the cell that an ant left
+-- no ant is on the cell that an ant left
 left_empty : (sheet : Sheet) (cells : Cells) (p : Pos) (ant : Ant) (ahead : Pos) (next : ℕ) → p ≢ ahead → (stepped sheet cells p ant ahead next p).ant ≡ None
 unfolding stepped
 left_empty sheet cells p ant ahead next apart =

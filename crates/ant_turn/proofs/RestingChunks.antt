@@ -234,7 +234,7 @@ AreUp-listed acts w first last from (suc n) made tells =
         let none : before.resting ≡ 0 = eqb-true before.resting 0 (sym (told before refl (omega (arith, id)) (omega (arith, id))) ∙ ap acts id ∙ ready) in
         sym (ap (λ (a : Ant). a.resting) same) ∙ ap (one_less first last before.id) none ∙ one_less-none first last before.id
 
--- what a chunk of a round comes to, by what was told of it
+-- the result of a chunk of a round, from what was reported of it
 module _ (minds : Minds) (seed : ℕ) (m : Moment) (from n : ℕ) (listed : List ℕ) (told : ActsListed m.world from n listed) where
   pub chunk-moment : AreSound minds → Valid m.world → Fits m.world minds → after_listed minds seed (rested_moment from (from + n) m) listed ≡ after_turns minds seed m from n
   chunk-moment sound valid fits = ap (after_listed minds seed (rested_moment from (from + n) m)) told.are ∙ resting_first told.acts minds seed m from n (from + n) refl sound valid fits told.each

@@ -97,8 +97,8 @@ unmark : (after (ant_of Red false) marked_cell floor (Unmark 3 7) ≡ then_in (a
 unfolding after around put_cell same_pos floor
 unmark = (refl, refl)
 
--- PickUp takes a particle and goes to its first state; where there is none, or the ant carries one, it goes to its
--- second and changes nothing else
+-- PickUp takes a particle and goes to its first state; if there is none, or the ant carries one, it goes to its second
+-- and changes nothing else
 pick_up : (after (ant_of Red false) (record floor { food = 2 }) floor (PickUp 7 8) ≡ then_in (ant_of Red true) 7 (record floor { food = 1 }))
     × (after (ant_of Red false) floor floor (PickUp 7 8) ≡ then_in (ant_of Red false) 8 floor)
     × (after (ant_of Red true) (record floor { food = 2 }) floor (PickUp 7 8) ≡ then_in (ant_of Red true) 8 (record floor { food = 2 }))

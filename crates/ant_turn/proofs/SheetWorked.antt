@@ -83,8 +83,8 @@ gap = world_of (opening 6 6 (
     ∷ Rock ∷ Clear ∷ BlackHill ∷ BlackHill ∷ Clear ∷ Rock
     ∷ Rock ∷ Rock ∷ Rock ∷ Rock ∷ Rock ∷ Rock ∷ []))
 
--- black ant 3 has five foes then, and red ant 6 five too until that one dies, and then four: where four surround both
--- die, where five do the first alone, and where six must nobody
+-- then black ant 3 has five foes, and red ant 6 has five until that one dies, and then four: if four surround, both
+-- die; if five do, only the first; if six must, none
 gap_kills :
     (killed_in (rules (sheet 4 3 14)) 1 gap 0 2 ≡ 3 ∷ 6 ∷ [])
     × (killed_in (rules (sheet 5 3 14)) 1 gap 0 2 ≡ 3 ∷ [])

@@ -21,8 +21,8 @@ use Rattle.ant_turn.specs.Kills.{check_around_at, check_at, is_surrounded, kille
 use Rattle.ant_turn.specs.Sheet.{contest}
 use Rattle.ant_turn.specs.Turn.{execute, in_state, with_ant}
 
--- the first number of seed 12345 is 7193, which leaves 2 modulo 3: `Flip 3 7 8` goes to 8, uses that number and kills
--- nobody
+-- the first number of seed 12345 is 7193, which is 2 modulo 3: `Flip 3 7 8` goes to 8, uses that number and kills no
+-- ant
 flip-12345 : (cells : Cells) (p : Pos) (ant : Ant) → execute contest 12345 cells 0 p ant (Flip 3 7 8) ≡ record { cells = put_cell cells p (with_ant (cells p) (in_state ant 8)); drew = true; killed = [] }
 unfolding drawn random_at state_at
 flip-12345 cells p ant = refl

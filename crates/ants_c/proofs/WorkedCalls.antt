@@ -22,7 +22,7 @@ two_files = refl
 are_two : AreFiles ([] ∷ [] ∷ []) (2 ∷ 1 ∷ []) (1 ∷ 2 ∷ 3 ∷ [])
 are_two = record { named = (IsUtf8-nil, (IsUtf8-nil, tt)); sized = refl; whole = refl }
 
--- no byte may be left, none may be wanting, and each name has its size
+-- no byte may be left, none may be missing, and each name has its size
 byte_left : AreFiles ((97 ∷ []) ∷ []) (1 ∷ []) (1 ∷ 2 ∷ []) → ⊥
 byte_left are = let whole = are.whole in omega (arith, whole)
 
@@ -60,7 +60,7 @@ done_tells_nothing = refl
 word_told : call_fault [] [] [] [] (lent [] 0 [] 0 some_fault) (RefusedWord 3) ≡ record { text = 0; kind = 0; line = 0; column = 0; number = 3; words = 0 }
 word_told = refl
 
--- of two files of one name the first is told
+-- of two files with one name the first is used
 first_file_told : file_named (codes "b") (codes "a" ∷ codes "b" ∷ codes "b" ∷ []) ≡ 2
 first_file_told = refl
 

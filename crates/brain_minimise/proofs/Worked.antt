@@ -29,12 +29,12 @@ three = Flip 2 1 2 ∷ Move 0 0 ∷ Move 0 0 ∷ []
 flip_is_no_move : AreEquivalent three 0 1 → ⊥
 flip_is_no_move equivalent = let shapes = equivalent.bisimulation.shape 0 1 equivalent.holds in cc
 
--- what is told of it
+-- the text of it
 three_told : minimised_text three (Flip 2 1 1 ∷ Move 0 0 ∷ []) ≡ codes "; 3 states, 2 kept\nFlip 2 1 1\nMove 0 0\n"
 unfolding digits minimised_text brain_text instruction_text
 three_told = refl
 
--- what is told of the states of a map: the second was dropped, and the fourth is the first
+-- the text of the states of a map: the second was dropped, and the fourth is the first
 states_told : states_text (Some 0 ∷ None ∷ Some 1 ∷ Some 0 ∷ []) ≡ codes "0 0\n1 dropped\n2 1\n3 0\n"
 unfolding digits numbered states_text
 states_told = refl

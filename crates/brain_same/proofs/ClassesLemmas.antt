@@ -32,7 +32,7 @@ total-falls from to (class ∷ classes) less =
     let rest = total-falls from to classes less in
     omega arith
 
--- where there was such a class their sum falls
+-- if there was such a class, their sum falls
 total-lower : (from to : ℕ) (classes : List ℕ) (k : ℕ) → to < from → k < length classes → slice_index classes k ≡ from → total (map (renamed from to) classes) < total classes
 total-lower from to [] k less inside is = absurd (omega arith)
 total-lower from to (class ∷ classes) zero less inside is =

@@ -132,7 +132,7 @@ module _ (first second : List Instr) (sound : IsBrain first) (too : IsBrain seco
         least = least-front classes pair rest front;
       })
 
--- where none waits the classes are a bisimulation
+-- if none waits, the classes are a bisimulation
 module _ (first second : List Instr) (sound : IsBrain first) (too : IsBrain second) (classes : List ℕ) (done : List (List Bool)) (searches : Searches first second classes done []) where
   -- the class of a state of each brain
   abbrev class : ℕ → ℕ
@@ -206,7 +206,7 @@ module _ (first second : List Instr) (sound : IsBrain first) (too : IsBrain seco
         ];
       }
 
--- where no pair waits the brains are the same
+-- if no pair waits, the brains are the same
 pub AreSame-searched : (first second : List Instr) (sound : IsBrain first) (too : IsBrain second) (classes : List ℕ) (queue : List Pair) → length queue ≡ 0 → Searching first second classes queue → AreSame first second
 AreSame-searched first second sound too classes queue none searching =
     AreSame-done first second sound too classes searching.done

@@ -34,7 +34,7 @@ met_goes comparison steps (ByWay many a b difference) =
 never_there : (same : ℕ) → LeadsOn straight crossed (step 0 (Move 1 2) 0 (Move 2 1) true ∷ []) 0 0 same same → ⊥
 never_there same (next, other, is, there) = omega (arith, same_Some 1 next is.leads, same_Some 2 other is.leads_too, there.0, there.1)
 
--- where states 0 differ there is no step
+-- if states 0 differ, there is no step
 none_goes : (comparison : Comparison) (steps : List Step) → IsWayComparison (Turn Left 0 ∷ []) (Turn Right 0 ∷ []) comparison steps → steps ≡ []
 none_goes comparison steps (NoWay same) = refl
 none_goes comparison steps (ByWay many a b difference) = go difference.answers (difference.least [] 0 0 (record { one = refl; other = refl; differ = λ same. cc })) where

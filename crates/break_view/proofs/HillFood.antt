@@ -62,7 +62,7 @@ step-counts sheet w p ant q next inside beyond apart colour =
     let own : hill_food_in colour (put_cell left q (with_ant (w.cells q) (arrived sheet ant next)) p) ≡ hill_food_in colour (w.cells p) = ap (hill_food_in colour) (stepped-from sheet w.cells p ant q next apart) in
     omega (arith, first, second, own)
 
--- checks that kill nobody change nothing
+-- checks that kill no ant change nothing
 pub spared : (sheet : Sheet) (places : List Pos) (cells : Cells) → killed_all sheet cells places ≡ [] → check_all sheet cells places ≡ cells
 spared sheet [] cells none = refl
 spared sheet (p ∷ places) cells none =

@@ -387,7 +387,7 @@ needed-given kind front given fit options all choice has need =
     ∙ ap (λ b. not b || is_among (option_of choice) (words_of kind front given)) (sym need)
     ∙ list_all-at (λ choice. not (is_needed choice) || is_among (option_of choice) (words_of kind front given)) (choices_of kind) choice all has)
 
--- the slot of a place, where only places of one word stand before it
+-- the slot of a place, if only places of one word are before it
 abbrev pub slot_at : List Place → ℕ → Option Slot
 slot_at [] number = None
 slot_at (Names list ∷ places) number = None

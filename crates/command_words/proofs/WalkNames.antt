@@ -42,7 +42,7 @@ abbrev pub GoesOn : Place → List (List ℕ) → List (List ℕ) → Type 0
 GoesOn (Word slot) names part = FitsPlace (Word slot) part
 GoesOn (Names list) names part = AreNames list (names ++ part)
 
--- words for the places that are due, where names stand at the first one
+-- words for the places that are due, if names are at the first one
 abbrev pub FitRest : List Place → List (List ℕ) → List (List (List ℕ)) → Type 0
 FitRest [] names [] = Unit {0}
 FitRest [] names (part ∷ parts) = ⊥
@@ -110,7 +110,7 @@ abbrev pub further : CommandKind → List (List ℕ) → List (List ℕ) → Lis
 further kind words names before word here =
     go_on (due_after kind here names before word) (length before + 1) (λ later. walk kind words later (names_after here names word) (before ++ word ∷ []))
 
--- where no names may stand it doesn't matter which ones do
+-- if no names are allowed, it doesn't matter which ones are given
 pub walk-same : (kind : CommandKind) (due : List Place) (words names before : List (List ℕ)) → Stops due
     → walk kind words due names before ≡ walk kind words due [] before
 walk-same kind [] [] names before stops = refl

@@ -389,7 +389,7 @@ pub trace_id_a_name : IsRefusedAt (words_of (codes "trace w r b a")) 5
 unfolding command_kind_of choice_of is_among rest_after is_file_name is_dumps dumps_of decimal_value
 trace_id_a_name = read-refuses (words_of (codes "trace w r b a")) 5 refl
 
--- 1,000,001 rounds before the first that is told
+-- 1,000,001 rounds before the first that is reported
 pub trace_from_too_late : IsRefusedAt (words_of (codes "trace w r b 1 --from 1000001")) 7
 unfolding command_kind_of choice_of is_among rest_after is_file_name is_dumps dumps_of decimal_value
 trace_from_too_late = read-refuses (words_of (codes "trace w r b 1 --from 1000001")) 7 refl
@@ -410,7 +410,7 @@ pub profile_defaults : Says Profile (codes "profile w r b --rounds 2 --seed 1")
 unfolding command_kind_of choice_of is_among rest_after is_file_name is_dumps dumps_of decimal_value
 profile_defaults = says _ _ _ refl (refl, (refl, (refl, (refl, (refl, (refl, (refl, (refl, (refl, tt)))))))))
 
--- what ants execute is told of all of them, from round 0 on
+-- what ants execute is reported for all of them, from round 0 on
 pub acts_defaults : Says Acts (codes "acts w r b --rounds 2 --seed 1")
     (AtFile 0 (codes "w") ∷ AtFile 1 (codes "r") ∷ AtFile 2 (codes "b") ∷ OptionIs Seed 1 ∷ OptionIs Rounds 2 ∷ OptionIs From 0 ∷ IsGivenAs Ant false ∷ OptionIs Surround 5 ∷ OptionIs Corpse 3 ∷ OptionIs Rest 14 ∷ [])
 unfolding command_kind_of choice_of is_among rest_after is_file_name is_dumps dumps_of decimal_value
@@ -484,7 +484,7 @@ pub acts_ant_eleven_digits : IsRefusedAt (words_of (codes "acts w r b --ant 0000
 unfolding command_kind_of choice_of is_among rest_after is_file_name is_dumps dumps_of decimal_value
 acts_ant_eleven_digits = read-refuses (words_of (codes "acts w r b --ant 00000000001")) 6 refl
 
--- 1,000,001 rounds before the first that is told
+-- 1,000,001 rounds before the first that is reported
 pub acts_from_too_late : IsRefusedAt (words_of (codes "acts w r b --from 1000001")) 6
 unfolding command_kind_of choice_of is_among rest_after is_file_name is_dumps dumps_of decimal_value
 acts_from_too_late = read-refuses (words_of (codes "acts w r b --from 1000001")) 6 refl

@@ -49,7 +49,7 @@ shared_options = game_options ++ shape_options ++ common_options
 abbrev own_options : List (List ℕ)
 own_options = (codes "--labels") ∷ (codes "--lines") ∷ (codes "--states") ∷ (codes "--way") ∷ (codes "--games") ∷ []
 
--- the options of what is told of a game
+-- the options of a game that is reported
 abbrev told_options : List (List ℕ)
 told_options = (codes "--from") ∷ (codes "--ant") ∷ (codes "--food") ∷ []
 
@@ -272,6 +272,6 @@ pub dump_too_late : IsRefusedAt (words_of (codes "run w r b --dump 0,1000001")) 
 unfolding command_kind_of choice_of is_among rest_after is_file_name is_dumps dumps_of decimal_value
 dump_too_late = read-refuses (words_of (codes "run w r b --dump 0,1000001")) 6 refl
 
--- what a command's row lacks can't be asked for
+-- what a command's row doesn't have can't be requested
 row_lacks : (HasFile Run 3 → ⊥) × (HasNumber Run 0 → ⊥) × (HasNames Run Worlds → ⊥) × (HasOption Show Seed → ⊥) × (HasNumberOption Run Stats → ⊥)
 row_lacks = (false≢true, false≢true, false≢true, false≢true, false≢true)

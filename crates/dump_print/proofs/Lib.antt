@@ -1,4 +1,4 @@
--- Where a line breaks.
+-- The breaks between lines.
 pub mod Breaks
 -- Worked values.
 pub mod Worked

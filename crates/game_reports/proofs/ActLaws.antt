@@ -15,7 +15,7 @@ use Rattle.game_reports.specs.Profile.{executed_in, executed_in_rounds, is_of, m
 use Rattle.game_reports.specs.Report.{report_lines}
 use Rattle.game_reports.proofs.ExecutedLemmas.{executed-seen}
 
--- what is told of each thing by one thing is a list as long
+-- one report for each thing gives a list of the same length
 one-each : {A B : Type 0} (f : A → B) (list : List A) → flat_map (λ a. f a ∷ []) list ≡ map f list
 one-each f [] = refl
 one-each f (a ∷ list) = ap (λ rest. f a ∷ rest) (one-each f list)
@@ -45,7 +45,7 @@ abbrev executed_as : Seen → Executed
 executed_as it = record { colour = it.ant.colour; state = it.ant.state; met = it.met }
 
 module _ (minds : Minds) (seed : ℕ) (w : World) (rounds from : ℕ) where
-  -- what is told of what is seen from a round on
+  -- the reports of what is seen from a round on
   seen-told : {B : Type 0} (f : Seen → B) → told_in_rounds (from_round from (λ round m t. flat_map (λ it. f it ∷ []) (seen minds seed round m t))) minds seed (start_of w) rounds ≡ map f (seen_in_rounds minds seed w rounds from)
   unfolding seen_in_rounds
   seen-told {B} f =

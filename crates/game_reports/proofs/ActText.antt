@@ -35,7 +35,7 @@ module _ (minds : Minds) (seed : ℕ) (w : World) (rounds from : ℕ) where
       go true other = absurd (cc)
       go false is = ap (λ n. seed_text seed +++ unmade_text n) (same_Some one id is)
 
-  -- it was, or all are told of
+  -- it was, or all are reported
   pub acts-made : (one : Option ℕ) → unmade_of one w.ids ≡ None → acts_text minds seed w rounds one from ≡ report_text (act_lines one) from minds seed w rounds
   unfolding acts_text
   acts-made None made = refl

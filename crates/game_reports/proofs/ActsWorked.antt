@@ -62,8 +62,8 @@ unmade_acts : (acts_text flipping 12345 start 2 (Some 1) 0 ≡ codes "random see
 unfolding acts_text unmade_text digits seed_text opening
 unmade_acts = (refl, refl)
 
--- a red ant moves, rests in round 2 and is blocked in round 3: of a rest nothing is told, and the answer is the real
--- one, though both states of the Move are the same
+-- a red ant moves, rests in round 2 and is blocked in round 3: a rest isn't reported, and the answer is the real one,
+-- though both states of the Move are the same
 rest_untold : acts_text hasty 12345 lane 3 None 0 ≡
     codes "random seed: 12345\n"
     +++ codes "round 1, red ant 0: on (1, 1), dir 0, food 0, state 0: Move 0 0: met\n"
@@ -86,7 +86,7 @@ ambush_acts : acts_text trapped 12345 (world_of (opening 7 6 ambush)) 1 None 0 �
 unfolding acts_text act_line report_text report_lines seen instruction_words digits seed_text after_round after_turn turn stepped check_at is_surrounded killed_at places_around neighbours_of adjacent_pos directions place_in cell_in opening floor rock put_cell same_pos drawn random_at state_at
 ambush_acts = refl
 
--- of one ant its lines are told, and of one that is dead none
+-- for one ant its lines are reported, and none for a dead one
 one_told : (acts_text trapped 12345 (world_of (opening 7 6 ambush)) 1 (Some 4) 0 ≡ codes "random seed: 12345\nround 1, red ant 4: on (1, 4), dir 0, food 0, state 0: Flip 2 0 0: unmet\n")
     × (acts_text trapped 12345 (world_of (opening 7 6 ambush)) 1 (Some 2) 0 ≡ codes "random seed: 12345\n")
     × (acts_text trapped 12345 (world_of (opening 7 6 ambush)) 1 (Some 7) 0 ≡ codes "random seed: 12345\nno ant of id 7\n")
@@ -98,7 +98,7 @@ own_death_told : flat_map (act_lines None) (seen stepping 0 1 (start_of own_deat
 unfolding act_line seen instruction_words digits turn stepped check_at is_surrounded killed_at places_around neighbours_of adjacent_pos directions place_in cell_in opening floor rock put_cell same_pos
 own_death_told = refl
 
--- what is told of the turn of a red ant in round 4, which is alone on a cell
+-- the report of the turn of a red ant in round 4, which is alone on a cell
 abbrev lone_acts : Instr → World → List (List ℕ)
 lone_acts instruction w = flat_map (act_lines None) (seen (contest_minds (instruction ∷ []) (Drop 0 ∷ [])) 12345 4 (start_of w) 0)
 

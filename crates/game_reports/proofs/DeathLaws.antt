@@ -55,7 +55,7 @@ record Kills (old new : World) (deaths : List ℕ) : Type 0 where
   dead : (u : ℕ) → place_in old u ≡ None → place_in new u ≡ None
   once : AllPairs ◌≢◌ deaths
 
--- nobody dies
+-- no ant dies
 Kills-none : (w : World) → Kills w w []
 Kills-none w = record {
   lived = λ u found. absurd (Contains-none u found);

@@ -1,4 +1,4 @@
--- The lines of events, as they are told and as they are pushed.
+-- The lines of events, as they are defined and as they are pushed.
 use Rattle.std.proofs.Common.{◌≡◌, ℕ, ◌&&◌, List, [], ◌∷◌, ◌++◌, Some, codes, refl, sym, ◌∙◌, ap, ap₂, append_assoc}
 use Rattle.std.specs.List.{flat_map}
 use Rattle.std.proofs.lemmas.Bool.{cond-true, eq-eqb}

@@ -51,7 +51,7 @@ of_turn minds seed round m t = refl
 unchanged : (round : ℕ) (w : World) (t : ℕ) (after : Score) → score_of w ≡ after → map (score_words round w t) (changed_score (score_of w) after) ≡ []
 unchanged round w t after same = ap (λ s. map (score_words round w t) (changed_score (score_of w) s)) (sym same) ∙ ap (map (score_words round w t)) (changed_score-same (score_of w))
 
--- of the turn of a dead ant nothing is told
+-- the turn of a dead ant isn't reported
 lines-dead : (minds : Minds) (seed round : ℕ) (m : Moment) (t : ℕ) → place_in m.world t ≡ None → turn_lines minds seed round m t ≡ []
 lines-dead minds seed round m t dead =
     of_turn minds seed round m t ∙ ap (lines_of round m.world t) (turn-dead minds seed m.world m.place t dead) ∙ unchanged round m.world t (score_of m.world) refl

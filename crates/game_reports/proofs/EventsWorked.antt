@@ -139,11 +139,11 @@ abbrev pub alone_on : Colour → ℕ → Bool → World
 alone_on hill food laden =
     put (world_of (opening 3 3 one_hill)) (at 1 1) (record floor { hill = Some hill; food = food; ant = Some (record { id = 0; colour = Red; state = 0; resting = 0; facing = East; laden = laden }) })
 
--- what is told of its turn in round 4
+-- the report of its turn in round 4
 abbrev lone_lines : Instr → World → List (List ℕ)
 lone_lines instruction w = turn_lines (contest_minds (instruction ∷ []) (Drop 0 ∷ [])) 12345 4 (start_of w) 0
 
--- a particle that is dropped on a hill or taken from one changes its side's score, whoever's hill it is
+-- a particle that is dropped on a hill or taken from one changes that side's score, even on a foe's hill
 score_told : (lone_lines (Drop 0) (alone_on Red 2 true) ≡ codes "round 4, red ant 0: score: red 3 black 0" ∷ [])
     × (lone_lines (Drop 0) (alone_on Black 0 true) ≡ codes "round 4, red ant 0: score: red 0 black 1" ∷ [])
     × (lone_lines (PickUp 0 0) (alone_on Red 2 false) ≡ codes "round 4, red ant 0: score: red 1 black 0" ∷ [])

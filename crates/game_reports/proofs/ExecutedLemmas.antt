@@ -36,7 +36,7 @@ executed-acts minds seed m t p ant instruction found is ready at =
     ∙ ap (λ n. executed_by n minds seed m.world.cells m.place p ant) ready
     ∙ ap (λ i. let e : Executed = record { colour = ant.colour; state = ant.state; met = is_met seed m.world.cells m.place p ant i } in e ∷ []) (get_or_from_slice_get (mind_of minds ant.colour) ant.state instruction (Drop 0) at)
 
--- what is executed is told of what is seen
+-- what is executed is a report of what is seen
 abbrev pub executed_of : Seen → List Executed
 executed_of it = record { colour = it.ant.colour; state = it.ant.state; met = it.met } ∷ []
 

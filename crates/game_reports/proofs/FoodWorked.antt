@@ -38,7 +38,7 @@ abbrev on_cell : Option Colour → ℕ → Bool → World
 on_cell hill food laden =
     put (world_of (opening 3 3 one_hill)) (at 1 1) (record floor { hill = hill; food = food; ant = Some (record { id = 0; colour = Black; state = 1; resting = 0; facing = SouthEast; laden = laden }) })
 
--- what is told of its turn in round 4, with food or without
+-- the report of its turn in round 4, with food or without
 abbrev food_told : Bool → Instr → World → List (List ℕ)
 food_told food instruction w = flat_map (event_lines food) (seen (contest_minds (Drop 0 ∷ []) (Drop 0 ∷ instruction ∷ [])) 12345 4 (start_of w) 0)
 
@@ -48,7 +48,7 @@ heap_told : (food_told true (PickUp 0 0) (on_cell None 2 false) ≡ codes "round
 unfolding seen digits turn place_in cell_in opening floor rock put_cell same_pos score_of hill_food_of
 heap_told = (refl, refl)
 
--- a hill, whoever's it is: the line is before that of the score
+-- a hill of either side: the line is before that of the score
 hill_told : (food_told true (Drop 0) (on_cell (Some Black) 0 true) ≡ codes "round 4, black ant 0: state 1 drops food on (1, 1), black hill" ∷ codes "round 4, black ant 0: score: red 0 black 1" ∷ [])
     × (food_told true (Drop 0) (on_cell (Some Red) 2 true) ≡ codes "round 4, black ant 0: state 1 drops food on (1, 1), red hill" ∷ codes "round 4, black ant 0: score: red 3 black 0" ∷ [])
     × (food_told true (PickUp 0 0) (on_cell (Some Red) 2 false) ≡ codes "round 4, black ant 0: state 1 takes food on (1, 1), red hill" ∷ codes "round 4, black ant 0: score: red 1 black 0" ∷ [])
@@ -65,7 +65,7 @@ idle_untold : (food_told true (Drop 0) (on_cell (Some Red) 2 false) ≡ [])
 unfolding seen digits turn adjacent_pos place_in cell_in opening floor rock put_cell same_pos score_of hill_food_of
 idle_untold = (refl, refl, refl, refl)
 
--- without food the score alone is told
+-- without food only the score is reported
 food_untold : (food_told false (PickUp 0 0) (on_cell None 2 false) ≡ [])
     × (food_told false (Drop 0) (on_cell (Some Red) 2 true) ≡ codes "round 4, black ant 0: score: red 3 black 0" ∷ [])
 unfolding seen digits turn place_in cell_in opening floor rock put_cell same_pos score_of hill_food_of
@@ -106,8 +106,8 @@ all_fetched : fetched true 8 0 ≡
 unfolding report_text report_lines seen digits seed_text after_round after_turn turn stepped check_at is_surrounded killed_at places_around neighbours_of adjacent_pos directions turned_by place_in cell_in opening floor rock put_cell same_pos score_of hill_food_of
 all_fetched = refl
 
--- the lines of rounds before the first one are left out, and nothing is told of what changed in them; scores are those
--- of the whole game
+-- the lines of rounds before the first one are left out, and their changes aren't reported; scores are those of the
+-- whole game
 fetched_since : (fetched true 8 8 ≡
     codes "random seed: 12345\n"
     +++ codes "round 8, red ant 0: state 7 takes food on (1, 1), red hill\n"

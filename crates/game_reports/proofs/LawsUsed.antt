@@ -66,7 +66,7 @@ acting_told = refl
 counts_add_up_used : CountsAddUp → sum_below (times_of (executed_in_rounds minds 12345 start 1 0) Red) 1 + sum_below (times_of (executed_in_rounds minds 12345 start 1 0) Black) 1 ≡ 6
 counts_add_up_used law = law minds 12345 start 1 sound valid fits ∙ ap length acting_told
 
--- red ant 2 is told dead, and is dead
+-- red ant 2 is reported dead, and is dead
 death_told : all_deaths minds 12345 start 1 ≡ 2 ∷ []
 unfolding all_deaths deaths_in after_round after_turn turn stepped check_at is_surrounded killed_at places_around neighbours_of adjacent_pos directions place_in cell_in opening floor rock put_cell same_pos drawn random_at state_at
 death_told = refl

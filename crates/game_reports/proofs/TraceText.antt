@@ -30,12 +30,12 @@ trace_text-parts minds seed w rounds id from = go (nat_lt id w.ids)
         ∙ ap (λ t. seed_words seed ++ t) (way-shift worlds id from (rounds + 1 - from))
     go false = simp append_assoc
 
--- where no ant of the id was made
+-- if no ant ever had the id
 pub broken_end-unmade : (minds : Minds) (seed : ℕ) (w : World) (rounds id from : ℕ) → w.ids ≤ id → broken_end minds seed w rounds id from ≡ codes "\nno ant of id " ++ decimal id
 unfolding broken_end
 broken_end-unmade minds seed w rounds id from unmade = cond-false _ _ _ (le-ltb id w.ids unmade)
 
--- if one was, but no round is told
+-- if one had, but no round is reported
 pub broken_end-none : (minds : Minds) (seed : ℕ) (w : World) (rounds id from : ℕ) → id < w.ids → rounds < from → broken_end minds seed w rounds id from ≡ []
 unfolding broken_end
 broken_end-none minds seed w rounds id from made later =
@@ -52,7 +52,7 @@ worlds_from-begun minds seed w game from same_minds same_seed now = fun_ext λ i
     ∙ ap (λ (m : Moment). (after_rounds minds seed m i).world) now
     ∙ ap (λ (m : Moment). m.world) (after_rounds-then minds seed (start_of w) from i)
 
--- where the game was played up to the first round that is told
+-- if the game was played up to the first round that is reported
 pub broken_end-told : (minds : Minds) (seed : ℕ) (w : World) (begun game : GameAloneValue) (rounds id from : ℕ) → id < w.ids
     → begun.minds ≡ minds → begun.seed ≡ seed → standing begun ≡ start_of w → begun.done ≡ 0 → IsPlayedOn begun game from
     → broken_end minds seed w rounds id from ≡ numbered (broken_line (worlds_from game) id game.done) (rounds + 1 - game.done)

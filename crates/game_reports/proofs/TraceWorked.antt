@@ -46,12 +46,12 @@ abbrev gone : ℕ → World
 gone (suc zero) = stone
 gone it = start
 
--- its death is told once, and nothing after it
+-- its death is reported once, and nothing after it
 death_told : way_text gone 0 17 4 ≡ codes "round 17: cell (1, 1): red hill; red ant of id 0, dir 0, food 0, state 0, resting 0\nround 18: dead\n"
 unfolding way_text told_line numbered digits cell_line content_text standing_ant_text place_in cell_in opening floor rock
 death_told = refl
 
--- if it is dead at the first round that is told, that is the one line
+-- if it is dead at the first round that is reported, that is the one line
 dead_first : way_text (λ i. stone) 0 17 4 ≡ codes "round 17: dead\n"
 unfolding way_text told_line numbered digits place_in rock
 dead_first = refl

@@ -1,4 +1,4 @@
--- The lines of an ant, as they are told and as they are pushed.
+-- The lines of an ant, as they are defined and as they are pushed.
 use Rattle.std.proofs.Common.{◌≡◌, ℕ, zero, suc, ◌+◌, ◌&&◌, Bool, true, false, cond, List, [], ◌++◌, Option, Some, None, is_some, is_none, codes, refl, ◌∙◌, ap, ap₂, append_assoc, append-nil, add-one, arith}
 use Rattle.std.proofs.lemmas.Bool.{cond-true, cond-false}
 use Rattle.hex_geometry.specs.declared.position.Pos.{Pos}
@@ -31,7 +31,7 @@ broken-more worlds id from n lives =
     numbered-more (broken_line worlds id from) n
     ∙ ap (λ line. numbered (broken_line worlds id from) n ++ line) (cond-true _ _ _ lives)
 
--- once it is dead, nothing is told
+-- once it is dead, nothing is reported
 pub broken-dead : (worlds : ℕ → World) (id from k more : ℕ) → lives_in_first worlds id k ≡ false → numbered (broken_line worlds id from) (k + more) ≡ numbered (broken_line worlds id from) k
 unfolding broken_line numbered
 broken-dead worlds id from k more dead = go more
@@ -70,7 +70,7 @@ pub not_last-lives : (w : World) (round : ℕ) (place : Option Pos) → is_none 
 not_last-lives w round None more = absurd (cc)
 not_last-lives w round (Some p) more = refl
 
--- what is told of a game that was played so far
+-- the report of a game that was played so far
 pub told-played : {first game : GameAloneValue} {k : ℕ} → IsPlayedOn first game k → (id : ℕ) (world : Grid) (done : ℕ) → world ≡ game.world → done ≡ game.done
     → told_of (world_of world) done (place_in (world_of world) id) ≡ told_of (worlds_from first k) (first.done + k) (place_in (worlds_from first k) id)
 unfolding worlds_from

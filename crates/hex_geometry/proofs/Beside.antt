@@ -22,7 +22,7 @@ pair x y = record { x = x; y = y }
 pair_same : {x u y v : ℤ} → x ≡ u → y ≡ v → pair x y ≡ pair u v
 pair_same {x} {u} {y} {v} columns rows = ap (λ a. pair a y) columns ∙ ap (pair u) rows
 
--- where the row is even
+-- if the row is even
 even_row : (p : Pos) (d : Dir) → p.y % 2 ≡ 0 → 1 ≤ p.x → 1 ≤ p.y → point_of (adjacent_pos p d) ≡ beside_in_even (pos p.x) (pos p.y) d
 unfolding adjacent_pos
 even_row p East e hx hy = refl
@@ -31,7 +31,7 @@ even_row p NorthWest e hx hy = pair_same (omega (arith, ints)) (omega (arith, in
 even_row p NorthEast e hx hy = pair_same (ap pos (omega arith)) (omega (arith, ints))
 even_row p it e hx hy = pair_same (omega (arith, ints)) refl
 
--- where the row is odd
+-- if the row is odd
 odd_row : (p : Pos) (d : Dir) → p.y % 2 ≡ 1 → 1 ≤ p.x → 1 ≤ p.y → point_of (adjacent_pos p d) ≡ beside_in_odd (pos p.x) (pos p.y) d
 unfolding adjacent_pos
 odd_row p East e hx hy = refl

@@ -1,5 +1,5 @@
--- A text that is read line by line, where each line with a token is one item: the reading stops at the first line at
--- fault, and continues from any line.
+-- A text that is read line by line, and in which each line with a token is one item: the reading stops at the first
+-- line at fault, and can continue from any line.
 use Rattle.std.proofs.Common.{◌≡◌, ◌+◌, ◌<◌, ◌≤◌, ℕ, Bool, true, false, List, [], ◌∷◌, ◌++◌, length, Option, Some, None, Result, Ok, Err, cond, nat_le, refl, sym, ap, ◌∙◌, arith, leb-false, append_assoc, append-nil}
 use Rattle.std.specs.Option.{option_or}
 use Rattle.std.proofs.lemmas.Bool.{lt-leb}

@@ -47,7 +47,7 @@ one_round :
 unfolding round_totals window_totals window_at counts_of is_taken look_for look_of guess_for moment_before after_round after_turn turn reads writes merged stepped is_surrounded check_at killed_at places_around put_cell same_pos neighbours_of adjacent_pos directions guess flips opening cell_in rock floor place_in drawn random_at state_at
 one_round = (refl, refl, refl)
 
--- two rounds in windows of three: in the second one the killed ant has its turn still, and nobody moves
+-- two rounds in windows of three: in the second one the killed ant still has its turn, and no ant moves
 two_rounds : totals_of minds 12345 3 (start_of field) 2 ≡ record { turns = 14; taken = 13; redone = 1 }
 unfolding round_totals window_totals window_at counts_of is_taken look_for look_of guess_for moment_before after_round after_turn turn reads writes merged stepped is_surrounded check_at killed_at places_around put_cell same_pos neighbours_of adjacent_pos directions guess flips opening cell_in rock floor place_in drawn random_at state_at
 two_rounds = refl

@@ -78,7 +78,7 @@ module _ (old : GameValue) (field : FieldValue) (next : ℕ) (totals : Totals) (
   same : (done later : ℕ) → IsSameGame old (with_field old field done later totals)
   same done later = record { minds = played.minds; seed = played.seed; ids = played.ids; window = refl; first_place = refl }
 
-  -- where a window was refused
+  -- if a window was refused
   pub IsGame-refused : next < old.field.world.ids → IsGame (with_field old field old.done next totals)
   IsGame-refused left =
       let within = next-within old is in
@@ -104,7 +104,7 @@ module _ (old : GameValue) (field : FieldValue) (next : ℕ) (totals : Totals) (
         early = is.early;
       }
 
-  -- where all windows were played
+  -- if all windows were played
   pub IsGame-played : old.done < most_rounds → old.field.world.ids ≤ next → IsGame (with_field old field (old.done + 1) 0 totals)
   IsGame-played few over =
       let within = next-within old is in

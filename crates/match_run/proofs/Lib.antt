@@ -1,7 +1,7 @@
 -- Rounds that are played one after another.
 pub mod AloneLemmas
 pub mod RisingRounds
--- What is told of turns, and who watches them.
+-- The reports of turns, and the watch.
 pub mod ToldLemmas
 pub mod RestsUntold
 pub mod WatchLemmas

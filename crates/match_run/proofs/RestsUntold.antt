@@ -1,5 +1,4 @@
--- Of a turn that is idle nothing is told, so what is told of some ids is told of those whose ants act, once the others
--- rest.
+-- An idle turn has no report, so the reports of some ids are those of the ids whose ants act, once the others rest.
 use Rattle.std.proofs.Common.{◌≡◌, ℕ, zero, suc, ◌+◌, ◌-◌, Bool, true, false, List, [], ◌∷◌, ◌++◌, Option, Some, None, refl, sym, ap, ap₂, ◌∙◌, add-zero, append-nil, append_assoc, arith}
 use Rattle.std.specs.Prelude.{nat_eq}
 use Rattle.std.proofs.lemmas.Bool.{cond_both, eqb-true}
@@ -25,7 +24,7 @@ some_rest zero e = absurd (cc)
 some_rest (suc n) e = omega arith
 
 module _ {A : Type 0} (minds : Minds) (seed : ℕ) (telling : Telling A) where
-  -- what is told of some turns and then of more
+  -- the reports of some turns and then of more
   pub told_in_turns-then : (m : Moment) (from k n : ℕ) → told_in_turns telling minds seed m from (k + n) ≡ told_in_turns telling minds seed m from k ++ told_in_turns telling minds seed (after_turns minds seed m from k) (from + k) n
   told_in_turns-then m from k zero = ap (told_in_turns telling minds seed m from) (add-zero k) ∙ sym (append-nil (told_in_turns telling minds seed m from k))
   told_in_turns-then m from k (suc n) =
@@ -37,7 +36,7 @@ module _ {A : Type 0} (minds : Minds) (seed : ℕ) (telling : Telling A) where
       (ap₂ telling (sym (after_turns-then minds seed m from k n)) (let e : from + (k + n) ≡ (from + k) + n = omega arith in e))
       ∙ append_assoc first (told_in_turns telling minds seed later (from + k) n) (telling (after_turns minds seed later (from + k) n) ((from + k) + n))
 
-  -- what is told of a turn and then of more
+  -- the report of a turn and then of more
   told_in_turns-first : (m : Moment) (from n : ℕ) → told_in_turns telling minds seed m from (suc n) ≡ telling m from ++ told_in_turns telling minds seed (after_turn minds seed m from) (from + 1) n
   told_in_turns-first m from n =
       ap (told_in_turns telling minds seed m from) (let e : suc n ≡ 1 + n = omega arith in e)
@@ -45,7 +44,7 @@ module _ {A : Type 0} (minds : Minds) (seed : ℕ) (telling : Telling A) where
       ∙ ap (λ t. telling m t ++ told_in_turns telling minds seed (after_turn minds seed m t) (from + 1) n) (add-zero from)
 
   module _ (ignores : IgnoresRest telling) where
-    -- of an id that doesn't act nothing is told
+    -- an id that doesn't act has no report
     untold : (acts : ℕ → Bool) (m : Moment) (t n : ℕ) → TellsWhoActs acts m.world t (suc n) → acts t ≡ false → (place : Option Pos) → place_in m.world t ≡ place → telling m t ≡ []
     untold acts m t n tells rests None dead = ignores.dead m t dead
     untold acts m t n tells rests (Some p) found =
@@ -53,7 +52,7 @@ module _ {A : Type 0} (minds : Minds) (seed : ℕ) (telling : Telling A) where
         let idle : false ≡ nat_eq it.ant.resting 0 = sym rests ∙ ap acts (sym it.id) ∙ tells p it.ant it.is (omega (arith, it.id)) (omega (arith, it.id)) in
         ignores.resting m t p it.ant (it.ant.resting - 1) found it.is (some_rest it.ant.resting idle)
 
-    -- what is told of n ids is told of the acting ones, once those that rest have one turn less to rest
+    -- the reports of n ids are those of the acting ones, once those that rest have one turn less to rest
     told-resting_first : (acts : ℕ → Bool) (m : Moment) (from n to : ℕ) → from + n ≡ to → AreSound minds → Valid m.world → Fits m.world minds → TellsWhoActs acts m.world from n →
         told_in_listed telling minds seed (rested_moment from to m) (ids_where acts from n) ≡ told_in_turns telling minds seed m from n
     told-resting_first acts m from zero to all sound valid fits tells = refl

@@ -1,5 +1,5 @@
--- What is seen of a turn, by where its ant is; and it doesn't ask for the rest of others, nor does what is told of it
--- alone.
+-- What is seen of a turn, by its ant's place. It doesn't depend on how long others rest, and neither does a report of
+-- it alone.
 use Rattle.std.proofs.Common.{◌≡◌, ℕ, Bool, zero, suc, ◌+◌, List, [], ◌∷◌, Option, Some, None, map, ◌∙◌, ap, ap₂, refl, sym, arith}
 use Rattle.std.specs.Prelude.{◌||◌, not, if◌then◌else◌, nat_eq, nat_lt, option_map}
 use Rattle.std.specs.List.{flat_map}
@@ -28,7 +28,7 @@ use Rattle.match_run.specs.Told.{Telling, from_round}
 use Rattle.match_run.specs.Watch.{IgnoresRest}
 use Rattle.match_run.proofs.ScoreLemmas.{score-with_rests}
 
--- what is told of what is told asks for no more than that
+-- a report of a report depends on no more than that
 pub IgnoresRest-mapped : {A B : Type 0} (lines : A → List B) {telling : Telling A} → IgnoresRest telling → IgnoresRest (λ m t. flat_map lines (telling m t))
 IgnoresRest-mapped lines ignores = record {
   dead = λ m t none. ap (flat_map lines) (ignores.dead m t none);
@@ -36,7 +36,7 @@ IgnoresRest-mapped lines ignores = record {
   others = λ f t own m. ap (flat_map lines) (ignores.others f t own m);
 }
 
--- nor does what is told from a round on
+-- nor does a report from a round on
 pub IgnoresRest-from : {A : Type 0} (from : ℕ) {telling : ℕ → Telling A} → ((round : ℕ) → IgnoresRest (telling round)) → (round : ℕ) → IgnoresRest (from_round from telling round)
 IgnoresRest-from {A} from {telling} ignores round = record {
   dead = λ m t none. kept (telling round m t) ((ignores round).dead m t none);

@@ -75,7 +75,7 @@ module _ {A Log Stop : Type 0} {telling : ℕ → Telling A} {logs : Log → Log
     room = λ left has. fair.fewer log left 0 has;
   }
 
-  -- nothing is told of an idle turn
+  -- an idle turn has no report
   pub IsWatched-idle : (w : World) {next : World} {s later : SeedAndPlace} (t : ℕ) {told : List A} (log : Log) → told ≡ []
       → next ≡ with_cells w (turn minds s.seed w s.place t).cells
       → later ≡ record s { place = s.place + one_if (turn minds s.seed w s.place t).drew }
@@ -115,7 +115,7 @@ module _ {A Log Stop : Type 0} {telling : ℕ → Telling A} {logs : Log → Log
         goes left (first.room (left + more) (subst (ready old) (let e : left + (turns + more) ≡ (left + more) + turns = omega arith in e) has))) then.room;
   }
 
-  -- what is told may be written otherwise, and so may where it leads
+  -- reports may be written in a different form, and so may the moments to which they lead
   pub IsWatched-as : {start s : SeedAndPlace} {old new : Log} {told other : List A} {turns n : ℕ} {m then : Moment} {w : World} {result : Result (Unit {0}) Stop} → told ≡ other → turns ≡ n → m ≡ then
       → IsWatched logs ready minds start old new told turns m w s result → IsWatched logs ready minds start old new other n then w s result
   IsWatched-as {start} {s} {old} {new} {told} {other} {turns} {n} {m} {then} {w} {result} same count led watched =

@@ -56,7 +56,7 @@ some_verdict text = go (draft_of_text text) refl where
 pub every_verdict : EveryTextHasOneVerdict
 every_verdict = record { some = some_verdict; one_save = same_save; one_fault = same_fault; never_both = save-or-fault }
 
--- a fault that was told is the text's
+-- a fault that was judged is the text's
 pub fault-of : (text : List ℕ) (fault : SaveFault) → FaultTold (draft_of_text text) fault → IsFaultOr OutOfMemory (IsSaveFault text) fault
 fault-of text (BadLine line) told = inl (refused-known text line told)
 fault-of text BadState told = absurd told

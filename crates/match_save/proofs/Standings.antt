@@ -66,13 +66,13 @@ module _ (g : Grid) (full : length g.cells ≡ g.width * g.height) (it : PlacedA
   pub cell-other : (q : Pos) → it.place ≢ q → cell_in (standing g it) q ≡ cell_in g q
   cell-other q apart = ap (λ (w : World). w.cells q) (world_of-standing g it full inside) ∙ put_cell-other (cell_in g) it.place (stood_on g it) q apart
 
-  -- whoever can stand elsewhere can still
+  -- an ant that can be elsewhere still can
   stand-later : (other : PlacedAnt) → other.place ≢ it.place → CanStand g other → CanStand (standing g it) other
   stand-later other apart can =
       let same = cell-other other.place (λ e. apart (sym e)) in
       record { clear = ap (λ (c : Cell). c.rocky) same ∙ can.clear; free = ap (λ (c : Cell). c.ant) same ∙ can.free; made = can.made }
 
-  -- whoever can stand later stands elsewhere, and could before
+  -- an ant that can be placed later is elsewhere, and could be before
   stand-before : (other : PlacedAnt) → CanStand (standing g it) other → (other.place ≢ it.place) × CanStand g other
   stand-before other can = (apart, record { clear = ap (λ (c : Cell). c.rocky) (sym same) ∙ can.clear; free = ap (λ (c : Cell). c.ant) (sym same) ∙ can.free; made = can.made }) where
     apart : other.place ≢ it.place

@@ -124,7 +124,7 @@ module _ (g : Grid) (world : IsWorld g) where
     | inr last ↦ lives_at n m it (omega (arith, low)) (place_in (world_of g) n) refl last
   ]
 
-  -- whoever stands somewhere lives
+  -- an ant with a place is alive
   in_living : (n : ℕ) (it : PlacedAnt) → Lives n it → In it (living g n)
   in_living zero it alive = absurd (let l = alive.id in let wrong : ⊥ = omega (arith, l) in wrong)
   in_living (suc n) it alive = go (eqb it.ant.id n) refl (λ earlier. in_living n it earlier) where

@@ -55,7 +55,7 @@ marked_and_sensed asked = record {
   to = 2;
 }
 
--- the mark undoes the look that asked for marks of that colour, and no other
+-- the mark invalidates the look that reads marks of that colour, and no other
 counts-sensed :
     (counts_of (marked_and_sensed condition.Food) ≡ record { taken = 2; redone = 0 })
     × (counts_of (marked_and_sensed condition.FoeMarker) ≡ record { taken = 1; redone = 1 })

@@ -14,7 +14,7 @@ pub IsWindow-called : {F : Type 0} (g : Mut F (MutBor Field × (ℕ × (ℕ × U
 IsWindow-called g plays f f' shown left from to result can called =
     plays f shown.now from to result f' left.now can (record { shown = shown; shows = refl; left = left; called = called; leaves = refl })
 
--- where it didn't go well
+-- if it failed
 pub IsWindow-err : (result answer : Result Counts OutOfMemory) (old : FieldValue) (from to : ℕ) (new : FieldValue) (e : OutOfMemory) → IsWindow result old from to new → result ≡ Err e → OnErr answer (new ≡ old)
 IsWindow-err result answer old from to new e window is = always answer (subst (λ r. OnErr r (new ≡ old)) is window.unchanged) where
   always : (r : Result Counts OutOfMemory) → new ≡ old → OnErr r (new ≡ old)

@@ -137,7 +137,7 @@ nothing-put verdict can = not_put (after two_drawn) 0 refl can.is_put
 out-of-order : (verdict : Verdict) → ¬ IsLawful all_seven (after one_put) (Settles verdict)
 out-of-order verdict can = not_put (after one_put) 0 refl can.is_put
 
--- no look is put by a hand that didn't draw its ticket, none twice, and none of a ticket that nobody drew
+-- a look is put only by the hand that drew its ticket, never twice, and never for a ticket that wasn't drawn
 other-hand : ¬ IsLawful all_seven (after two_drawn) (Puts 0 1)
 other-hand can = ⊎_elim (λ same. let e : 0 ≡ 1 = same in omega arith) (λ none. absurd (Contains-none 1 none)) (Contains-cases 0 1 [] can.is_held)
 

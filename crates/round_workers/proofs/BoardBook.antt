@@ -48,7 +48,7 @@ rest-stays v w rests no_put no_take ep et j = record { put = ap (times j) ep; to
 
 module _ (key : Basis) (slots id : ℕ) (v : View) (about : v.about ≡ Some key) where
   module _ (c : List (ℕ × BoardSlot)) (zeroth : v.number ≡ 0) (unopened : v.opened ≡ false) (rests : v.phase ≡ Resting) where
-    -- while the first seat hasn't opened the book, nobody has, nor is about to
+    -- while the first seat hasn't opened the book, no other has, nor is about to
     none-opened : (s : State BoardSlot View) → IsKept key s → get_elem? s.views id ≡ maybe.some v → summed (λ u. phase_opening u.phase) s.views + summed has_opened s.views ≡ 0
     none-opened s r at =
         let sum = total-add (λ (u : View). phase_opening u.phase) has_opened s.views in

@@ -1,4 +1,4 @@
--- What is true of a board's last state, where its first seat has every part.
+-- What holds of a board's last state, if its first seat has every part.
 use Rattle.std.proofs.Common.{◌≡◌, ◌≢◌, ℕ, zero, suc, ◌+◌, ◌^◌, ◌<◌, ◌≤◌, Bool, true, false, List, [], ◌∷◌, ◌++◌, map, length, get_or, set, sym, refl, ap, ◌∙◌, subst, ⊎_elim, arith, get_or-set_other, get_or-set_same, Option, Some, None}
 use mathlib.Core.Option as maybe
 use native.Mathlib.Decide.{ℕ_discrete}

@@ -35,7 +35,7 @@ module _ (key : Basis) (slots id : ℕ) (v : View) (about : v.about ≡ Some key
   its-look = look_for (window_for key) ((window_for key).from + j)
 
   module _ (c : List (ℕ × BoardSlot)) (rests : v.phase ≡ Resting) where
-    -- what a seat drew and hasn't put, nobody put
+    -- what a seat drew and hasn't put, no seat has put
     none-put : (s : State BoardSlot View) → IsKept key s → get_elem? s.views id ≡ maybe.some v → 1 ≤ times j v.drawn → times j v.put ≡ 0
         → summed (λ u. times j u.put) s.views + summed (λ u. putting j u.phase) s.views ≡ 0
     none-put s r at drawn unput =

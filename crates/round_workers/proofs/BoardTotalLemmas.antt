@@ -33,7 +33,7 @@ module _ {A : Type 0} (f : A → ℕ) where
   total-none [] none_of = refl
   total-none (x ∷ xs) none_of = let here : f x ≡ 0 = none_of 0 x refl in let there = total-none xs (λ i. none_of (suc i)) in omega arith
 
-  -- where no other element counts
+  -- if no other element counts
   pub total-alone : (l : List A) (i : ℕ) (v : A) → get_elem? l i ≡ some v → ((j : ℕ) (w : A) → j ≢ i → get_elem? l j ≡ some w → f w ≡ 0) → summed f l ≡ f v
   total-alone [] i v e none_of = absurd (some-ne-none v (sym e))
   total-alone (x ∷ xs) zero v e none_of =
@@ -50,7 +50,7 @@ module _ {A : Type 0} (f : A → ℕ) where
     total-le [] le = omega arith
     total-le (x ∷ xs) le = let here : f x ≤ g x = le 0 x refl in let r = total-le xs (λ j. le (suc j)) in omega arith
 
-    -- where f is nowhere above g, the gap of one element is at most that of the totals
+    -- if f is nowhere above g, the gap of one element is at most that of the totals
     pub total-gap : (l : List A) (i : ℕ) (v : A) → get_elem? l i ≡ some v → ((j : ℕ) (u : A) → get_elem? l j ≡ some u → f u ≤ g u) → summed f l + g v ≤ summed g l + f v
     total-gap [] i v e le = absurd (some-ne-none v (sym e))
     total-gap (x ∷ xs) zero v e le =

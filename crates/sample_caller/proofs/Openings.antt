@@ -36,7 +36,7 @@ some-minimised old new numbers minimised =
     let inside = (Carries-minimised old new numbers minimised).inside 0 0 (zero-number old new numbers minimised) in
     omega (arith, inside.1)
 
--- where both sides play by it, the score is that of the game where both play by the brain
+-- if both sides play by it, the score is that of the game in which both play by the brain
 pub score-of-both : (grid : Grid) (old new : List Instr) (numbers : List (Option ℕ)) (seed rounds : ℕ) → IsOpeningWorld grid → IsMinimised old new numbers
     → score_of (world_after (contest_minds new new) seed (world_of grid) rounds) ≡ score_of (world_after (contest_minds old old) seed (world_of grid) rounds)
 unfolding world_after

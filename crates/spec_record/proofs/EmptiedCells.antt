@@ -79,7 +79,7 @@ emptied-flat sheet (p ∷ places) cells last distinct is =
     ap (λ some. some ++ emptied sheet (check_at sheet cells p) places) (emptied_at-first sheet cells last p here)
     ∙ ap (λ more. emptied_at cells last p ++ more) (emptied-flat sheet places (check_at sheet cells p) last distinct.1 is ∙ flat_map-alike (emptied_at (check_at sheet cells p) last) (emptied_at cells last) places (alike_later sheet cells last p places distinct.0))
 
--- where checks kill nobody they empty no cell
+-- checks that kill no ant empty no cell
 spared-none : (sheet : Sheet) (cells : Cells) (p : Pos) → killed_at sheet cells p ≡ [] → is_surrounded sheet cells p ≡ false
 spared-none sheet cells p none =
     elim (cases_Bool (is_surrounded sheet cells p)) [

@@ -8,7 +8,7 @@ use Rattle.ant_turn.specs.Minds.{Minds, mind_of}
 use Rattle.ant_turn.specs.Turn.{instruction_at}
 use Rattle.spec_record.specs.Guess.{ant_flips, flips, flips_among, flips_from, flips_now, guess, guesses_of, is_flip}
 
--- nobody flips that has no place
+-- an ant without a place doesn't flip
 pub flips-dead : (minds : Minds) (w : World) (t : ℕ) → place_in w t ≡ None → flips minds w t ≡ false
 unfolding flips
 flips-dead minds w t dead = ap (flips_from minds w.cells) dead

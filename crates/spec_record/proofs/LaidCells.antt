@@ -30,7 +30,7 @@ abbrev pub or_cell : Option Cell → Cell → Cell
 or_cell None cell = cell
 or_cell (Some found) cell = found
 
--- where the search has come so far
+-- how far the search has got
 or_cell-step : (base cells : Cells) (p : Pos) (found : Option Cell) (new : Pos × Cell) (same : Bool) → same_pos new.0 p ≡ same → or_cell found (base p) ≡ cells p →
     or_cell (cond same (Some new.1) found) (base p) ≡ cond same new.1 (cells p)
 or_cell-step base cells p found new true at so_far = refl
@@ -82,7 +82,7 @@ laid-kept base sets t p (Some cell) none is holds = let wrong : Some cell ≡ No
 pub laid-stayed : (base : Cells) (sets : Sets) (t : ℕ) (p : Pos) → first_held sets t sets ≡ None → holds_id t (laid base sets p) ≡ true → holds_id t (base p) ≡ true
 laid-stayed base sets t p none holds = laid-kept base sets t p (newest None p sets) none refl (ap (holds_id t) (sym (laid-newest base base p None sets refl)) ∙ holds)
 
--- where an ant of a trail is: on the first cell that was set and holds it
+-- the place of an ant of a trail: on the first cell that was set and holds it
 pub place_in-set : (trail : TrailValue) (t : ℕ) (p : Pos) → Valid (trail_world trail) → first_held trail.sets t trail.sets ≡ Some p → place_in (trail_world trail) t ≡ Some p
 place_in-set trail t p valid found = place_in-found (trail_world trail) t p valid (first_held-holds (world_of trail.base).cells t trail.sets trail.sets p found)
 

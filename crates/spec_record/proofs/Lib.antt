@@ -1,4 +1,4 @@
--- Where reads and writes lie, and how many they are.
+-- The positions of reads and writes, and how many there are.
 pub mod Sighting
 pub mod MoveReads
 pub mod Ring

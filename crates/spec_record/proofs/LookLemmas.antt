@@ -166,7 +166,7 @@ look_by-stays sheet seed cells guess t p ant instruction outcome stays is =
     ap (λ (o : Outcome). look_claiming cells t guess o (claim p who_and_mind ∷ reads_besides sheet cells p ant instruction) (claim p (only part.Mind) ∷ writes_besides sheet cells p ant instruction)) (sym is)
     ∙ ap₂ (look_with t guess outcome) (reads-stays sheet cells p ant instruction stays) (writes-stays sheet cells outcome.cells p ant instruction stays)
 
--- where an ant goes by a Move
+-- the cell to which an ant goes by a Move
 pub record Goes (sheet : Sheet) (seed : ℕ) (cells : Cells) (guess : ℕ) (p : Pos) (ant : Ant) (instruction : Instr) (q : Pos) : Type 0 where
   pub next : ℕ
   pub ahead : q ≡ adjacent_pos p ant.facing
@@ -336,7 +336,7 @@ module _ {minds : Minds} {seed : ℕ} {w : World} {guess t : ℕ} {p : Pos} {ant
     pub writes-there : (last : Cells) → length (going_writes w.cells last p q) ≤ 7
     writes-there last = going_writes-fit w.cells last p q ant.facing acting-inner.from_left acting-inner.from_top other-there there.ahead
 
-    -- where no ant is killed no cell is emptied
+    -- if no ant is killed, no cell is emptied
     pub spared-there : (last : Cells) → last ≡ outcome.cells → outcome.killed ≡ [] → fallen w.cells last p q ≡ []
     spared-there last left none =
         sym (emptied-fallen minds.sheet w.cells last p ant q there.next inner-there.from_left inner-there.from_top (last-there last left))
@@ -353,7 +353,7 @@ module _ {minds : Minds} {seed : ℕ} {w : World} {guess t : ℕ} {p : Pos} {ant
     pub within-there : IsWithin 1 q p
     within-there = within-back 1 p q (subst (IsWithin 1 p) (sym there.ahead) (within-beside p ant.facing))
 
-    -- where no foe is near no ant is killed
+    -- if no foe is near, no ant is killed
     module _ (some : 1 ≤ minds.sheet.surround) (none : AreNoneOf (foe_of ant.colour) (calm_reads w.cells p q)) where
       none_around : AllByRecursion (NoneAt (foe_of ant.colour) w.cells) (seen_around (stepped minds.sheet w.cells p ant q there.next) q)
       none_around =

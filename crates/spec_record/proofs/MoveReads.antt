@@ -22,7 +22,7 @@ there : (o : Option Ant) → has_ant o ≡ true → (ant : Ant) × (o ≡ Some a
 there None is = absurd (cc)
 there (Some ant) is = (ant, refl)
 
--- where an ant is the cell isn't on the rim
+-- a cell with an ant isn't on the rim
 pub manned-clear : (w : World) (p r : Pos) → Valid w → is_manned w.cells p r ≡ true → (w.cells r).rocky ≡ false
 manned-clear w p r valid is =
     let it : (ant : Ant) × ((w.cells r).ant ≡ Some ant) = there (w.cells r).ant (and_parts (not (same_pos r p)) (has_ant (w.cells r).ant) is).1 in

@@ -1,4 +1,4 @@
--- Where turns and rounds leave the place in the stream.
+-- The place in the stream after turns and rounds.
 use Rattle.std.proofs.Common.{◌≡◌, ℕ, zero, suc, ◌+◌, ap, arith}
 use Rattle.cell_world.specs.Cell.{one_if}
 use Rattle.ant_turn.specs.Minds.{Minds}

@@ -71,7 +71,7 @@ arrives-heavier sheet cell ant next none light =
     let empty : ant_weight cell.ant ≡ 0 = ap ant_weight none in
     omega (arith, light, empty)
 
--- if it is killed, nobody new is there
+-- if it is killed, no new ant is there
 Replaces-perished : (sheet : Sheet) (cell : Cell) (ant : Ant) (next : ℕ) → cell_weight (after_kill sheet (with_ant cell (arrived sheet ant next))) ≤ cell_weight cell → Replaces cell (after_kill sheet (with_ant cell (arrived sheet ant next)))
 Replaces-perished sheet cell ant next light = record { same_kind = refl; same_hill = refl; same_ant = λ t held. absurd (false≢true held); no_heavier = light }
 

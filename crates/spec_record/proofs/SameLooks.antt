@@ -38,7 +38,7 @@ use Rattle.spec_record.proofs.LookLemmas.{look_by, look_of-dead, look_of-execute
 use Rattle.spec_record.proofs.TurnSteps.{all_both}
 use Rattle.spec_record.specs.SameLooks.{LooksAgree, SameAt, SameForLook}
 
--- where two worlds hold the same they do so afterwards
+-- if two worlds are the same at a place, they are so afterwards
 abbrev KeepSame : Cells → Cells → Cells → Cells → Type 0
 KeepSame v w v' w' = (r : Pos) → v r ≡ w r → v' r ≡ w' r
 
@@ -213,7 +213,7 @@ module _ (sheet : Sheet) (v w : Cells) (p : Pos) (ant : Ant) (q : Pos) (next : �
 
 -- the ant of p, the same in both
 module _ (sheet : Sheet) (seed : ℕ) (v w : Cells) (place : ℕ) (p : Pos) (a : Ant) (here : v p ≡ w p) where
-  -- where its own cell alone changes
+  -- if only its own cell changes
   own-same : (f : Cell → Cell) → KeepSame v w (put_cell v p (f (v p))) (put_cell w p (f (w p)))
   own-same f = KeepSame-put v w p (f (v p)) (f (w p)) (ap f here)
 

@@ -24,7 +24,7 @@ use Rattle.spec_record.specs.SameLooks.{SameForLook}
 use Rattle.spec_record.proofs.LooksWorked.{field, minds}
 use Rattle.spec_record.proofs.SameLooks.{looks_agree}
 
--- the field, where food lies on (1, 1), and the two ants of the lowest row have no hill
+-- the field, with food on (1, 1), and without a hill for the two ants of the lowest row
 abbrev elsewhere_kinds : List Kind
 elsewhere_kinds =
     Rock ∷ Rock ∷ Rock ∷ Rock ∷ Rock ∷ Rock ∷ Rock

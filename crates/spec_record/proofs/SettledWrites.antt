@@ -37,7 +37,7 @@ pub patched-again : (cell source : Cell) (parts : Parts) → CanPatch cell sourc
 patched-again cell source parts can =
     patched-unchanged (patched cell source parts) source parts (CanPatch-again cell source parts can) (patched-named cell source parts can)
 
--- where a write is set it makes the same again
+-- a write that is already set changes nothing
 Makes-again : (cells now wanted : Cells) (write : Sighting) → Makes cells wanted write → now (seen_place write) ≡ wanted (seen_place write) → Makes now wanted write
 Makes-again cells now wanted write made is =
     let after : Cell = patched (cells (seen_place write)) (seen_cell write) (seen_parts write) in
@@ -79,7 +79,7 @@ lighter_can w room wanted write left valid eases light =
       can_set = subst (λ c. CanSet w room (seen_place write) c) (sym eases.makes.makes) (CanSet-replaces w room (seen_place write) (wanted (seen_place write)) valid left eases.clear (eases.replaces wanted_light) eases.six);
     }
 
--- what comes of the writes that don't raise their cell's weight: each of these cells is as wanted, and all others are
+-- the result of the writes that don't raise their cell's weight: each of these cells is the new one, and all others are
 -- unchanged
 pub record Eased (w : World) (wanted : Cells) (writes : List Sighting) (now : World) : Type 0 where
   pub valid : Valid now
@@ -192,7 +192,7 @@ heavier_one room q (write ∷ writes) w once light can =
       )
     ]
 
--- what comes of the writes that raise their cell's weight: each of these cells is as wanted, and all others are
+-- the result of the writes that raise their cell's weight: each of these cells is the new one, and all others are
 -- unchanged
 record Raised (w : World) (wanted : Cells) (writes : List Sighting) (now : World) : Type 0 where
   sizes : with_cells now w.cells ≡ w
@@ -249,7 +249,7 @@ zip_all : (P Q R : Sighting → Type 0) (writes : List Sighting) → ((write : S
 zip_all P Q R [] f first second = tt
 zip_all P Q R (write ∷ writes) f first second = (f write first.0 second.0, zip_all P Q R writes f first.1 second.1)
 
--- writes that make wanted cells of a world, by a turn that raises the weight of one cell at most
+-- writes that make the new cells of a world, by a turn that raises the weight of at most one cell
 pub record Settles (w : World) (wanted : Cells) (writes : List Sighting) (q : Pos) : Type 0 where
   pub valid : Valid w
   pub still : Valid (with_cells w wanted)
@@ -293,7 +293,7 @@ module _ {w : World} {wanted : Cells} {writes : List Sighting} {q : Pos} (settle
         | inr light ↦ Makes-again w.cells between.cells wanted write makes (each.0 light)
       ]) settles.made first.1.each
 
-  -- away from the one, all is as wanted
+  -- except for the one, all cells are the new ones
   write_light : (write : Sighting) → seen_place write ≢ q → Makes w.cells wanted write → raises w.cells write ≡ false
   write_light write other makes =
       ap (λ c. nat_lt (cell_weight (w.cells (seen_place write))) (cell_weight c)) makes.makes ∙ le-ltb (cell_weight (w.cells (seen_place write))) (cell_weight (wanted (seen_place write))) (settles.replaced (seen_place write) other).no_heavier
@@ -305,7 +305,7 @@ module _ {w : World} {wanted : Cells} {writes : List Sighting} {q : Pos} (settle
       (zip_all (Makes w.cells wanted) (λ write. (raises w.cells write ≡ false → between.cells (seen_place write) ≡ wanted (seen_place write)) × (raises w.cells write ≡ true → between.cells (seen_place write) ≡ w.cells (seen_place write))) (λ write. seen_place write ≢ q → between.cells (seen_place write) ≡ wanted (seen_place write)) writes
       (λ write makes each other. each.0 (write_light write other makes)) settles.made first.1.each) apart
 
-  -- with the one set too, it is the wanted world
+  -- with the one set too, it is the new world
   whole : put between q (wanted q) ≡ with_cells w wanted
   whole =
       let cells : put_cell between.cells q (wanted q) ≡ wanted = fun_ext λ p. elim (cases_pos q p) [
@@ -357,7 +357,7 @@ module _ {w : World} {wanted : Cells} {writes : List Sighting} {q : Pos} (settle
       }) made_between can in
       record { lighter = first.0; heavier = heavier_one room q writes between settles.once light writable }
 
-  -- and then the world is the wanted one
+  -- and then the world is the new one
   pub after_all : after_heavier (after_lighter w writes) writes ≡ with_cells w wanted
   unfolding between
   after_all =

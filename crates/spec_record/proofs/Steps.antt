@@ -47,7 +47,7 @@ InStep-keeps {claims} {v} {w} {v'} {w'} step r k alike = CellStep-keeps (step.ea
 CanPatch-none : (cell source : Cell) → CanPatch cell source no_parts
 CanPatch-none cell source = record { mind = λ e. e; load = λ e. e; same_ant = λ _ e. absurd (false≢true e) }
 
--- where nothing happens
+-- if nothing happens
 pub CellStep-none : (c d : Cell) → CellStep no_parts c d c d
 CellStep-none c d = record {
   named = λ k named. absurd (false≢true (sym (has_part-none k) ∙ named));

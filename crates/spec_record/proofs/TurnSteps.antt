@@ -151,13 +151,13 @@ module _ (sheet : Sheet) (seed : ℕ) (v w : Cells) (rocks : (r : Pos) → (w r)
   abbrev ant_now : Ant
   ant_now = record a { laden = laden }
 
-  -- where its posture alone changes
+  -- if only its posture changes
   mind_only : (a1 b1 : Ant) → identity_of a1 ≡ identity_of a → identity_of b1 ≡ identity_of a → a1.laden ≡ a.laden → b1.laden ≡ laden → posture_of a1 ≡ posture_of b1 →
       InStep (claim p (only part.Mind) ∷ []) v w (put_cell v p (with_ant (v p) a1)) (put_cell w p (with_ant (w p) b1))
   mind_only a1 b1 a_who b_who a_load b_load posture =
       InStep-put p (only part.Mind) v w (with_ant (v p) a1) (with_ant (w p) b1) (mind_step (v p) (w p) a ant_now a1 b1 holds_v holds_w refl a_who b_who posture a_load b_load)
 
-  -- where it carries the same
+  -- if it carries the same
   load_same : Alike part.Load (v p) (w p) → a.laden ≡ laden
   load_same alike = some_one (sym (ap (option_map (λ ant. ant.laden)) holds_v) ∙ alike ∙ ap (option_map (λ ant. ant.laden)) holds_w)
 
@@ -181,7 +181,7 @@ module _ (sheet : Sheet) (seed : ℕ) (v w : Cells) (rocks : (r : Pos) → (w r)
       (InStep-put p (union (only part.Mind) (only part.BlackMarks)) v w (with_ant (unmarked (v p) Black i) (in_state a next)) (with_ant (unmarked (w p) Black i) (in_state ant_now next))
       (black_step (v p) (w p) a ant_now (in_state a next) (in_state ant_now next) holds_v holds_w refl refl refl refl refl refl (without_mark (v p).black i) (without_mark (w p).black i) (ap (λ m. without_mark m i) (agree part.BlackMarks refl))))
 
-  -- where food may go from the cell to the ant or back
+  -- if food may go from the cell to the ant or back
   food_both : (f g : ℕ) (a1 b1 : Ant) → f ≡ g → identity_of a1 ≡ identity_of a → identity_of b1 ≡ identity_of a → posture_of a1 ≡ posture_of b1 → a1.laden ≡ b1.laden →
       InStep (claim p (only part.Mind) ∷ claim p load_and_food ∷ []) v w (put_cell v p (record (v p) { food = f; ant = Some a1 })) (put_cell w p (record (w p) { food = g; ant = Some b1 }))
   food_both f g a1 b1 food a_who b_who posture load = InStep-same (λ r. sym (parts_at-both p (only part.Mind) load_and_food [] r))

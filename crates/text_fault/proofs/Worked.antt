@@ -23,7 +23,7 @@ longest_read text long (Bad short wrong) = let never = wrong.told in absurd (cc)
 pub long_alone : (text : List ℕ) (brain : List Instr) (line : ℕ) → length text ≡ 4194305 → (GivesBrain text brain → ⊥) × (IsRefusal IsNoBrain text (Brain (BadByte line)) → ⊥)
 long_alone text brain line long = ((λ gives. omega (arith, long, gives.short)), λ refused. elim refused [ Long more is ↦ cc | Bad short wrong ↦ omega (arith, long, short) ])
 
--- a save may be at its last round, and is past any round before; the round that is told is its own
+-- a save may be at its last round, and is past any round before; the reported round is its own
 pub at_last : (text : List ℕ) (saved : SavedValue) → IsSaveText text saved → IsSaveWithin saved.round text saved
 at_last text saved is = (is, omega arith)
 

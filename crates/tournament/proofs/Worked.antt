@@ -74,7 +74,7 @@ by_world : map (line_of (all_played false 2 2 two_worlds)) (below 2)
 unfolding games_of each_pair_on games_with above line_of
 by_world = refl
 
--- more points stand above, whoever won more games; equal points go by the players' numbers, and not by wins
+-- more points are above, regardless of wins; equal points are ordered by the players' numbers, and not by wins
 points_before_wins :
     StandsAbove (record { player = 1; points = 3; won = 0; drawn = 3; lost = 0; food_for = 0; food_against = 0 }) (record { player = 0; points = 2; won = 1; drawn = 0; lost = 2; food_for = 0; food_against = 0 })
     × StandsAbove (record { player = 0; points = 2; won = 0; drawn = 2; lost = 1; food_for = 0; food_against = 0 }) (record { player = 1; points = 2; won = 1; drawn = 0; lost = 2; food_for = 0; food_against = 0 })

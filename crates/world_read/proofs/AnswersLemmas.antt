@@ -50,7 +50,7 @@ pub world_of_text-wrong : (text : List ℕ) (fault : WorldFault) → IsWorldFaul
 unfolding world_of_text
 world_of_text-wrong text fault wrong = ap opened (plan_of-wrong text fault wrong)
 
--- a fault that is returned is out of memory, or it was told
+-- a fault that is returned is out of memory, or it was judged
 pub ReadsAs-fault : {A : Type 0} (told : Result A WorldFault) (fault : WorldFault) → ReadsAs told (Err fault) → (fault ≡ OutOfMemory) ⊎ (told ≡ Err fault)
 ReadsAs-fault told OutOfMemory is = inl refl
 ReadsAs-fault told it is = inr is

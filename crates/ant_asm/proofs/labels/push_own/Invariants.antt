@@ -6,7 +6,7 @@ use Rattle.ant_asm.specs.Inner.Ways.{steps_of}
 use Rattle.ant_asm.proofs.LabelWalk.{AreTold}
 use Rattle.ant_asm.proofs.labels.push_own.Given as goal
 
--- the labels so far were told
+-- the labels so far were reported
 abbrev pub invariant-loop-line : goal.invariant-loop-line
 invariant-loop-line g l =
     AreTold (λ outline at. labels_text (own_states outline at l.after (steps_of l.way))) (labels_text (own_states (outline_at l.bodies l.number) l.base l.after (steps_of l.way))) (l.base + outline_size (outline_at l.bodies l.number))

@@ -27,7 +27,7 @@ undrawn sheet seed cells place p ant met unmet = go (is_blocked (cells (adjacent
     go true = refl
     go false = refl
 
--- what is no Move kills nobody
+-- any instruction except a Move kills no ant
 still : (sheet : Sheet) (cells : Cells) (p : Pos) (ant : Ant) (instruction : Instr) → ((met unmet : ℕ) → instruction ≡ Move met unmet → ⊥) → dead_by sheet cells p ant instruction ≡ []
 still sheet cells p ant (Sense sight met unmet condition) other = refl
 still sheet cells p ant (Mark i next) other = refl

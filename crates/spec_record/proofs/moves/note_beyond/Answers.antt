@@ -1,4 +1,4 @@
--- where an ant is the cell isn't on the rim
+-- a cell with an ant isn't on the rim
 use Rattle.std.proofs.Common.{sym, ◌∙◌}
 use Rattle.cell_world.specs.Grid.{world_of}
 use Rattle.spec_record.proofs.MoveReads.{manned-inner, manned-near}

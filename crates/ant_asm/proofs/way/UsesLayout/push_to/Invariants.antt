@@ -6,7 +6,7 @@ use Rattle.ant_asm.specs.Inner.Ways.{steps_of}
 use Rattle.ant_asm.proofs.LabelWalk.{IsToldTo}
 use Rattle.ant_asm.proofs.way.UsesLayout.push_to.Given as goal
 
--- the uses so far were told, and this is before the next
+-- the uses so far were reported, and this is before the next
 abbrev pub invariant-loop-level : goal.invariant-loop-level
 invariant-loop-level g l = record {
   text : shadow (Utf8 l.before);

@@ -1,4 +1,4 @@
--- what was read can be played, each world and each player has a name, and memory may be wanting after the reading; the
+-- what was read can be played, each world and each player has a name, and memory may run out after the reading; the
 -- standing is pushed last
 use Rattle.std.proofs.Common.{◌≡◌, ◌*◌, ◌≤◌, ℕ, Bool, false, List, length, ap, arith, refl, sym, subst}
 use Rattle.ant_base.specs.Sink.{Pushed}

@@ -1,4 +1,4 @@
--- what is told is that of the game after its rounds
+-- the result is that of the game after its rounds
 use Rattle.std.proofs.Common.{subst}
 use Rattle.ant_turn.specs.Sheet.{sheet_of}
 use Rattle.cell_world.specs.Grid.{world_of}

@@ -1,4 +1,4 @@
--- in a round before the first one nothing is told; in another, one thing is seen
+-- in a round before the first one nothing is reported; in another, one thing is seen
 use Rattle.std.proofs.Common.{◌∙◌, ℕ, List, [], subst, sym, ap, append-nil, lt-ltb, le-ltb, arith}
 use Rattle.std.specs.List.{flat_map}
 use Rattle.std.proofs.lemmas.Bool.{cond-false, cond-true}

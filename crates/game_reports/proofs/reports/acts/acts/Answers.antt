@@ -1,4 +1,4 @@
--- no ant of the id was made; or it was, or all are told of
+-- no ant ever had the id; or one had, or all are reported
 use Rattle.std.proofs.Common.{◌≡◌, ◌∙◌, ℕ, List, Some, None, ap, subst, sym}
 use Rattle.ant_base.specs.Sink.{Pushed}
 use Rattle.ant_turn.specs.Minds.{minds_of}

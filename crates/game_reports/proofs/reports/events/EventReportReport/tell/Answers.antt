@@ -1,4 +1,4 @@
--- of a quiet turn nothing is told
+-- a quiet turn isn't reported
 use Rattle.std.proofs.Common.{◌≡◌, ◌∙◌, ◌&&◌, ℕ, List, [], Bool, Some, slice_get, subst, sym, ap, append-nil, true, false}
 use Rattle.std.specs.List.{flat_map}
 use Rattle.std.proofs.lemmas.Option.{get_or_from_slice_get}
