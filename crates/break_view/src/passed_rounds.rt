@@ -7,9 +7,9 @@ ghost use Rattle.cell_world.specs.Limits.{most_ants};
 ghost use Rattle.match_run.specs.Inner.Alone.{moment_from};
 
 use ant_random::Stream;
-use ant_turn::{Brains, act};
-use cell_world::{PlacedAnt, World};
-use match_run::{Watch, watch_rounds};
+use ant_turn::Brains;
+use cell_world::World;
+use match_run::{Nobody, watch_rounds};
 
 // Plays so many rounds, and looks at none of their turns.
 pub(crate) fn pass_rounds(world: &mut World, brains: Brains<'_>, stream: &mut Stream, rounds: u32)
@@ -20,39 +20,5 @@ pub(crate) fn pass_rounds(world: &mut World, brains: Brains<'_>, stream: &mut St
     ensures place { stream.new.place ≤ stream.old.place + rounds * most_ants }
     ensures fit { Fits (world_of world.new) (minds_of brains.entry) }
 {
-    let _watched = watch_rounds(&Unwatched, world, &brains, stream, rounds, &mut ());
-}
-
-// Takes each turn, and looks for nothing.
-struct Unwatched;
-
-impl Watch for Unwatched {
-    ghost use Rattle.std.specs.Prelude.{⊤, [], IsTrue};
-    ghost use Rattle.std.specs.Result.{is_ok};
-
-    type On = World;
-
-    type Log = ();
-
-    type Stop = ();
-
-    ghost Told = { ⊤ };
-
-    ghost telling = { λ _ _ _ _ _ _. [] };
-
-    ghost logs = { λ _ _ _ _ result. IsTrue (is_ok result) };
-
-    #[inline(always)]
-    fn turn(
-        &self,
-        board: &mut World,
-        brains: &Brains<'_>,
-        stream: &mut Stream,
-        standing: PlacedAnt,
-        _round: u32,
-        _log: &mut (),
-    ) -> Result<(), ()> {
-        let _deed = act(board, *brains, stream, standing);
-        Ok(())
-    }
+    let _watched = watch_rounds(&Nobody, world, &brains, stream, rounds, &mut ());
 }

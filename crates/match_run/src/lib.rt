@@ -44,6 +44,6 @@ pub use laws::{
 };
 pub use plan::{MOST_ROUNDS, Plan};
 pub use scored_world::ScoredWorld;
-pub use watch::Watch;
+pub use watch::{Nobody, Watch};
 pub use watched::{watch_round, watch_rounds};
 pub use whole_run::{play, play_on};

@@ -65,8 +65,8 @@ pub trait Watch {
         ensures ready { OnOk result ((left : ℕ) → ready self.now (minds_of brains.now) log.old (left + 1) → ready self.now (minds_of brains.now) log.new left) };
 }
 
-// Nobody watches.
-pub(crate) struct Nobody;
+/// Nobody watches: each turn is taken, nothing is reported of it, and the game isn't ended.
+pub struct Nobody;
 
 impl Watch for Nobody {
     ghost use Rattle.std.specs.Prelude.{IsTrue};
