@@ -37,7 +37,7 @@ pub trait Watch {
     /// A log has room for what is reported of this number of turns.
     ghost ready: { Self → Minds → Self.Log → ℕ → Type 0 } = { λ _ _ _ _. ⊤ };
 
-    /// Takes the turn of this ant, which is alive and doesn't rest, and tells of it.
+    /// Takes the turn of this ant, which is alive and doesn't rest, and reports it.
     fn turn(
         &self,
         board: &mut Self::On,
