@@ -59,10 +59,12 @@ class Specification:
         for title, names, says in FIRST:
             self.add(title, says, [self.find(name) for name in names])
         jobs = self.find(JOBS)
-        found = [(re.match(r"%s (\w+) \w+ = (\w+)_job\b" % JOBS, text), text) for _, text in jobs.equations()]
+        found = [(re.match(r"%s (\w+) \w+ =\s+(\w+)_job\b" % JOBS, text), text) for _, text in jobs.equations()]
         self.commands, seen, words = {}, set(), Words().kinds
-        for it, text in found:
-            if it and it[2] not in seen:
+        for it, text in found[1:]:
+            if not it:
+                raise Unknown("%s: an equation that names no job: %s" % (JOBS, text))
+            if it[2] not in seen:
                 seen.add(it[2])
                 word = words[it[1]]
                 self.commands[word] = it[1]
