@@ -24,7 +24,7 @@ run: build
 try:
 	@.ci/try $(ARGS)
 
-# The second program, written from docs/RULES.md alone: it needs only a C++17 compiler, and is not proved.
+# The second program, written from docs/RULES.md and docs/COMMANDS.md alone: it needs only a C++17 compiler, and is not proved.
 second: ants2
 
 ants2: $(wildcard bench/second/*.cpp bench/second/*.hpp bench/second/commands/*.cpp)

@@ -1,9 +1,12 @@
-/* ants.h: the ant world of the ICFP Programming Contest 2004 as a library, for C and for all that can call C.
-   This file is made of the source of the functions and of library/ants.h.in by `make documents`.
+/* ants.h: the ant world of the ICFP Programming Contest 2004 as a library, for C and for every
+   language that can call C. `make documents` makes this file from the source of the functions and
+   from library/ants.h.in.
 
-   A GAME is played by two brains on a world. All are texts: bytes with a length, which no zero byte ends. A world is its width, its height
-   and its rows of cells: # rock, . clear, 1 to 9 food, + red hill, - black hill. A brain is an instruction a line. docs/RULES.md says all
-   of it; the package has it in share/doc/icfp-ants. Nothing is opened, closed or released. This is a whole program:
+   A GAME is played by two brains on a world. You pass each of them as a text: its bytes and their
+   number. No zero byte ends a text. A world is its width, its height and its rows of cells: # rock,
+   . clear, 1 to 9 food, + red hill, - black hill. A brain has one instruction on each line.
+   docs/RULES.md describes both; `make install` and the packages put it into share/doc/icfp-ants.
+   You open, close and release nothing. This is a whole program:
 
        #include <ants.h>
        #include <stdio.h>
@@ -26,13 +29,16 @@
            return (int)status;
        }
 
-   TO LINK. One file is enough; it needs the C library alone. The header is for C from C99 on, and for C++ from C++11 on.
+   TO LINK, you need one file of the library, and the C library. The header is for C from C99 on, and
+   for C++ from C++11 on. The first line links the static library, in the folder of libants.a and
+   ants.h. The second one links libants.so after `make install`, or from a package. The system finds
+   it like any other library: by ldconfig, LD_LIBRARY_PATH or -Wl,-rpath.
 
-       cc -O2 -I. game.c libants.a -o game                            the static library, which is in this folder, as this header is
-       cc -O2 game.c -o game $(pkg-config --cflags --libs icfp-ants)  libants.so, where `make install` or a package has put it; the
-                                                                      system finds it as any, by ldconfig, LD_LIBRARY_PATH or -Wl,-rpath
+       cc -O2 -I. game.c libants.a -o game
+       cc -O2 game.c -o game $(pkg-config --cflags --libs icfp-ants)
 
-   WHICH VERSION. ANTS_VERSION is the header's, and ants_version() writes the library's. Where both can part, as with libants.so, ask first:
+   WHICH VERSION. ANTS_VERSION is the version of the header, and ants_version() writes the version of
+   the library. With libants.so the two may differ, so compare them first:
 
        uint8_t version[32];
        size_t used = 0;
@@ -130,10 +136,10 @@
 
    HOW MUCH ROOM is enough, in bytes:
 
-       run, resume           100 + dumps * (30 + 150 * width * height); most cells have 20 to 25
-       save                  4,194,304; mostly some 4 for a cell, and the two brains
-       brain, minimise, asm  420,000, which is 42 for each state
-       same                  200
+       run, resume           150 + dumps * (30 + 150 * width * height); most cells have 20 to 25
+       save, advance         4,194,304; mostly some 4 for a cell, and the two brains
+       brain, minimise, asm  420,000, which is 42 for each state; asm without --labels and --lines
+       same                  200 without --way
        gen                   20 + height * (2 * width + 1)
        words of a fault      100; `said` needs 150 more than the longest name
 
@@ -143,35 +149,42 @@
    The numbers are checked first, then the room of ants_scores(), then the texts in their order,
    then other room.
 
-   WHAT A CALLER OWES, and nobody checks. The functions are proved for callers that keep to this:
+   WHAT YOU OWE as the caller. Nothing checks it, and the functions are proved for callers that keep
+   to it:
 
-    1. No pointer is NULL, and each is aligned for its type; but one whose length is 0 may be anything, as NULL, and is not looked at.
-    2. As many elements lie there as the length says, in one block of at most 2^63 - 1 bytes that may be read, and written to where the
-       parameter has no `const`.
-    3. What a call may write to (score, scores, ants, ids, out, used, fault, words, said, told, answer) overlaps nothing else that it is passed, is
-       initialised before the call (except answer), and is read and written by nobody else during it. What it only reads is written by nobody
-       during it.
-    4. This header and the library are of one version: nothing is checked at the link, but ants_version() can be asked.
-    5. malloc, calloc, realloc and free are of one allocator, and align a block to each power of two up to 16 that divides its size. If you
-       replace one of them, replace all four.
-    6. No call comes from a signal handler, nor from the forked child of a process with threads.
-    7. Below the caller there are ANTS_STACK bytes of stack. No proof bounds what a call takes; library/test_stack.c measures it over the
-       largest and the most nested texts, of which none takes more than half of that.
-    8. The system is Linux on x86-64 with glibc, and the processor has x86-64-v2 (SSE4.2 and POPCNT), as all have since 2013: on one
-       without it a call dies of an illegal instruction.
-    9. In the link the names ants_* mean the library's own functions. It shows no others.
-   10. No call is cut off halfway, as by longjmp or pthread_cancel: it would keep its memory. A call can't be stopped: 1,000,000 rounds
-       of 16,384 ants may take hours, so choose rounds with care.
+    1. No pointer is NULL, and each is aligned for its type. If a length is 0, its pointer may be
+       anything, even NULL, since it isn't used.
+    2. Each pointer leads to as many elements as its length says, in one block of at most 2^63 - 1
+       bytes. The block may be read and, if the parameter has no `const`, written.
+    3. What a call may write to (score, scores, ants, ids, out, used, fault, words, said, told,
+       answer) overlaps nothing else that you pass. It is initialised before the call (except
+       answer), and nothing else reads or writes it during the call. Nothing writes to what the call
+       only reads.
+    4. This header and the library have the same version. The link doesn't check this, but you can
+       call ants_version().
+    5. malloc, calloc, realloc and free belong to one allocator. It aligns a block to each power of
+       two up to 16 that divides the block's size. If you replace one of them, replace all four.
+    6. No call is made in a signal handler, nor in the forked child of a process with threads.
+    7. There are ANTS_STACK bytes of stack below the caller. No proof bounds what a call takes.
+       library/test_stack.c measures it over the largest and the most nested texts, and none takes
+       more than half of that.
+    8. The system is Linux on x86-64 with glibc, and the processor has x86-64-v2 (SSE4.2 and POPCNT),
+       as all have since 2013. On a processor without it, a call ends in an illegal instruction.
+    9. In your program, the names ants_* mean the library's own functions. It shows no other names.
+   10. No call is cut off halfway, as by longjmp or pthread_cancel, since its memory would be lost. A
+       call can't be stopped. A game of 1,000,000 rounds with 16,384 ants takes minutes, and a cup
+       may take days, so choose rounds and seeds with care.
 
-   NOT OWED: no initialisation, no lock and no release. Calls share nothing and keep nothing, so any threads may make them at once. None
-   prints, exits, aborts or unwinds, reads a file or the clock, or starts a thread. */
+   NOT OWED: initialisation, locks, release. Calls share nothing and keep nothing, so any threads may
+   call at once. No call prints, exits, aborts, unwinds, reads a file or the clock, or starts a
+   thread. */
 #ifndef ANTS_H
 #define ANTS_H
 
 #include <stddef.h>
 #include <stdint.h>
 
-// How many bytes of stack a caller leaves for a call; what it owes, 7, says why they are enough.
+// How many bytes of stack you leave for a call: duty 7 above says why they are enough.
 #define ANTS_STACK 262144
 
 #ifdef __cplusplus

@@ -86,7 +86,8 @@ planted bug costs this proof; two or more share it, and each costs 10 to 40 seco
 If the checker searches for the answer of a goal for seconds, write the answer down. Split a function
 that owns many values, since its cost grows faster than their number. A test that passes a table to a
 helper costs 1 to 5 seconds, and a test with assertions of its own 10 to 30. An example in `examples/`
-costs nothing here. A table of structs is a `static`. Texts cost by their number times their length.
+costs nothing here. Write a table of structs as a `static`. What texts cost grows with their number
+times their length.
 """
 
 TRIED_SAYS = """`rt plant` makes bodies with bugs by itself, and tries them against the clauses of a function. The

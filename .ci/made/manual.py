@@ -12,7 +12,7 @@ sys.dont_write_bytecode = True
 
 from tree import Unknown, read
 
-SCRIPTS = ("map", "league")
+SCRIPTS = ("map", "listing", "league")
 WIDTH = 66
 
 

@@ -14,6 +14,7 @@ CALLS, LAW = ("run_ants", "run_to_exit"), "headline"
 JOBS = "job_by"  # the job of a command, an equation a command
 COMMANDS = "CommandKind"  # the type with a variant for each first word
 FILES = ("FileKind", "FileContent")  # the data with a constructor for each kind of file
+CUP_GAMES, UNCOUNTED = "cup_games_are_runs", ("totals_of", "counts_text")  # the law of a cup's games; and the counts, which it leaves out
 GAME, COUNTS = "PrintsTheGame", "TellsItsCounts"  # of the law's page what a game prints; and what its counts are, where they are asked for
 
 FIRST = (
@@ -58,10 +59,12 @@ class Specification:
         for title, names, says in FIRST:
             self.add(title, says, [self.find(name) for name in names])
         jobs = self.find(JOBS)
-        found = [(re.match(r"%s (\w+) \w+ = (\w+)_job\b" % JOBS, text), text) for _, text in jobs.equations()]
+        found = [(re.match(r"%s (\w+) \w+ =\s+(\w+)_job\b" % JOBS, text), text) for _, text in jobs.equations()]
         self.commands, seen, words = {}, set(), Words().kinds
-        for it, text in found:
-            if it and it[2] not in seen:
+        for it, text in found[1:]:
+            if not it:
+                raise Unknown("%s: an equation that names no job: %s" % (JOBS, text))
+            if it[2] not in seen:
                 seen.add(it[2])
                 word = words[it[1]]
                 self.commands[word] = it[1]
@@ -168,8 +171,11 @@ def says_of(parts):
 def to_believe(spec, page):
     """How many lines are to be believed, and how long it takes."""
     contest, game, run, whole = spec.counts()
+    law = spec.tree.reached(spec.tree.named(Call(CRATE, CUP_GAMES)), lambda it: it.name not in UNCOUNTED)
+    added = lines_of([it for it in law if it not in set(page.reached)])
     rows = [
         ["one `run` without `--stats`, except which word status 2 names: [one page](RUN.md)", lines_of(page.reached), minutes_of(page.text)],
+        ["the score of one game of a cup: that page, and what the law `%s` adds to it" % CUP_GAMES, lines_of(page.reached) + added, minutes_of(page.text) + round(added / LINES)],
         ["the contest's rules: [the chapter](SPECIFICATION.md#the-rules-of-the-contest)", contest, None],
         ["a game: rules, texts of worlds and brains, text of a game", game, None],
         ["all that a `run` rests on, with its counts and the fault of each text", run, None],

@@ -1,5 +1,5 @@
-// The table of commands, which each file of commands/ fills, and what several of them read: the sections "The commands"
-// and "The sheet of the rules" of docs/RULES.md.
+// The table of commands, which each file of commands/ fills, and what several of them read: the sections "All commands"
+// and "Other rules" of docs/COMMANDS.md.
 #pragma once
 #include <map>
 #include <string>

@@ -1,4 +1,4 @@
-// How texts come in and go out, and how a command is refused: the section "When a command is refused" of docs/RULES.md.
+// How texts come in and go out, and how a command is refused: the section "When a command is refused" of docs/COMMANDS.md.
 #include "files.hpp"
 
 #include <errno.h>

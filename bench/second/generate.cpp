@@ -1,4 +1,4 @@
-// Generated worlds: the section of this name of docs/RULES.md.
+// Generated worlds: the section of this name of docs/COMMANDS.md.
 #include "generate.hpp"
 
 #include <optional>

@@ -1,4 +1,4 @@
-// Windows and their counts: "What a turn reads and writes" and "Counts" of docs/RULES.md, and what these name.
+// Windows and their counts: "What a turn reads and writes" of docs/RULES.md and "Counts" of docs/COMMANDS.md.
 #pragma once
 #include <cstdint>
 

@@ -1,4 +1,5 @@
-// A second program of the ant world, written from docs/RULES.md: the section "The commands".
+// A second program of the ant world, written from docs/RULES.md and docs/COMMANDS.md: the section "All commands" of
+// docs/COMMANDS.md.
 #include <csignal>
 
 #include "command.hpp"

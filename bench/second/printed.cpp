@@ -1,4 +1,4 @@
-// What is printed of a world: the section "What is printed" of docs/RULES.md.
+// What is printed of a world: the section "What run prints" of docs/COMMANDS.md.
 #include "printed.hpp"
 
 #include "files.hpp"

@@ -1,4 +1,4 @@
-// Saved games: the section "Saved games" of docs/RULES.md.
+// Saved games: the section "Saved games" of docs/COMMANDS.md.
 #pragma once
 #include <cstdint>
 #include <string>

@@ -1,5 +1,5 @@
-// Turns and games: the sections "Rounds and turns", "Surrounded ants", "The sheet of the rules", "Random numbers" and
-// "Score and weight" of docs/RULES.md.
+// Turns and games: the sections "Rounds and turns", "Surrounded ants", "Random numbers" and "Score and weight" of
+// docs/RULES.md, and "Other rules" of docs/COMMANDS.md.
 #include "turn.hpp"
 
 namespace {

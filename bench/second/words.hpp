@@ -1,5 +1,5 @@
-// The words of a command, and which of them is refused: the sections "The commands" and "When a command is refused" of
-// docs/RULES.md.
+// The words of a command, and which of them is refused: the sections "All commands" and "When a command is refused" of
+// docs/COMMANDS.md.
 #pragma once
 #include <cstdint>
 #include <functional>

@@ -4,11 +4,11 @@
     world, brain = open("contest.world").read(), open("sample.brain").read()
     red, black = icfp_ants.score(world, brain, brain, seed=12345, rounds=1000)
 
-Each command of the program except `help` is a function, with its options as keywords. `--dump` is `dumps`, and `--from` is `start`. `--labels`, `--lines`,
-`--way` and `--states` are functions of these names. `--workers` and `--far` are left out, since they change nothing that is printed. `call` takes the words
-of any command. A function returns what its command prints as str. If that is lines, as for `trace`, `labels` or `cup`, it returns named tuples, and their
-`text` is what the program prints. `score_of`, `counts_of` and `cells` read the texts of games. `look` returns scores and ants without a text, and
-`look_buffer` returns them in one buffer. `scores` and `scores_of_pairs` play many games in a call.
+Each command of the program except `help`, `--help` and `--version` is a function, with its options as keywords. `--dump` is `dumps`, and `--from` is `start`.
+`--labels`, `--lines`, `--way` and `--states` are functions of these names. `--workers` and `--far` are left out, since they change nothing that is printed.
+`call` takes the words of any command. A function returns what its command prints as str. If that is lines, as for `trace`, `labels` or `cup`, it returns
+named tuples, and their `text` is what the program prints. `score_of`, `counts_of` and `cells` read the texts of games. `look` returns scores and ants without
+a text, and `look_buffer` returns them in one buffer. `scores` and `scores_of_pairs` play many games in a call.
 
 docs/RULES.md and docs/COMMANDS.md of the project say what is printed, and what the numbers mean. Ids, columns, rows and states count from 0, rounds and
 lines from 1. Seeds are 0 to 4,294,967,295, rounds 0 to 1,000,000, workers 1 to 256. `surround` is how many foes surround an ant, 4 to 6; `corpse` how much

@@ -9,7 +9,7 @@ from ._library import Text, number_of, texts_of
 class Difference(NamedTuple):
     """Where two brains first differ: after how many answers, and in which state each is then, with its instruction there.
 
-    An answer is what an instruction comes to: met, or unmet if it names two states.
+    An answer is the outcome of an instruction: always met if it names one state, and met or unmet if it names two.
     """
     answers: int
     first_state: int

@@ -15,7 +15,7 @@ _NO_FILES: Mapping[str, Text] = MappingProxyType({})
 
 
 class Called(NamedTuple):
-    """What came of a command: the program's status, what it printed, the line that says what is wrong, which is empty at 0, and the same in numbers.
+    """The result of a command: the program's status, what it printed, the line of its error, which is empty at status 0, and the error in numbers.
 
     `numbers` is None except at status 2, 3 and 5.
     """
@@ -39,9 +39,9 @@ def _words(words: Iterable[str]) -> List[str]:
 def call(words: Iterable[str], files: Mapping[str, Text] = _NO_FILES, most: int = MOST_BYTES) -> Called:
     """Runs the program with these words, without its name, over these files by their names; "-" is a name like any other.
 
-    Nothing is read from the machine: a file that isn't among these is one that can't be read, with status 3. `--far` is no option, and workers play on
-    this thread. No word and no name has a line break. A text of more than `most` bytes is a ValueError: some lines of a program with blocks become
-    gigabytes of labels. A call maps `most` bytes, and takes memory for those that are written. So no game is played twice.
+    Nothing is read from the machine: if the words name a file that isn't among these, the status is 3. `--far` is refused, and every game is played on
+    this thread. A line break in a word or a name is a ValueError. So is a text of more than `most` bytes, since some lines of a program with blocks become
+    gigabytes of labels. A call reserves `most` bytes, and takes memory only for those that are written. So no game is played twice.
     """
     found, names = _words(words), names_of("files", files)
     return _called(found, {name: bytes_of(name, text) for name, text in files.items()}, names, most)

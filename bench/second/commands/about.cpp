@@ -1,4 +1,4 @@
-// `help`, `--help` and `--version`: the section "The commands" of docs/RULES.md, which shows of the page of help its
+// `help`, `--help` and `--version`: the section "All commands" of docs/COMMANDS.md, which shows of the page of help its
 // first line alone. So its words are judged, and it isn't here.
 #include "command.hpp"
 

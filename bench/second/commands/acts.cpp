@@ -1,4 +1,4 @@
-// `acts`: the section "Rounds and turns" of docs/RULES.md, turn by turn.
+// `acts`: the section "Acts" of docs/COMMANDS.md.
 #include <optional>
 
 #include "command.hpp"

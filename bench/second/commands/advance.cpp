@@ -1,4 +1,4 @@
-// `advance`: the section "Saved games" of docs/RULES.md.
+// `advance`: the section "Saved games" of docs/COMMANDS.md.
 #include "command.hpp"
 #include "saved.hpp"
 

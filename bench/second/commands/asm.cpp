@@ -1,4 +1,4 @@
-// `asm`: the section "Programs with labels and blocks" of docs/RULES.md.
+// `asm`: the section "Programs with labels and blocks" of docs/COMMANDS.md.
 #include <algorithm>
 #include <map>
 #include <optional>

@@ -1,4 +1,4 @@
-// `brain`: the section "The commands" of docs/RULES.md.
+// `brain`: the section "Brains" of docs/RULES.md.
 #include "command.hpp"
 
 static const Command here("brain", [](Words& words) {

@@ -1,4 +1,4 @@
-// `cup`: the section "Cups" of docs/RULES.md.
+// `cup`: the section "Cups" of docs/COMMANDS.md.
 #include <algorithm>
 #include <optional>
 

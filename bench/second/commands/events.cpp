@@ -1,4 +1,4 @@
-// `events`: the sections "Surrounded ants" and "Score and weight" of docs/RULES.md, turn by turn.
+// `events`: the section "Events" of docs/COMMANDS.md.
 #include "command.hpp"
 #include "printed.hpp"
 

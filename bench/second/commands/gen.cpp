@@ -1,4 +1,4 @@
-// `gen`: the section "Generated worlds" of docs/RULES.md.
+// `gen`: the section "Generated worlds" of docs/COMMANDS.md.
 #include "command.hpp"
 #include "generate.hpp"
 

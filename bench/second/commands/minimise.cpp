@@ -1,4 +1,4 @@
-// `minimise`: the section "Minimised brains" of docs/RULES.md.
+// `minimise`: the section "Minimised brains" of docs/COMMANDS.md.
 #include <map>
 #include <optional>
 

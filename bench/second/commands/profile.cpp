@@ -1,4 +1,4 @@
-// `profile`: the section "Rounds and turns" of docs/RULES.md, counted by states.
+// `profile`: the section "Profiles" of docs/COMMANDS.md.
 #include "command.hpp"
 #include "printed.hpp"
 

@@ -1,4 +1,4 @@
-// `resume`: the section "Saved games" of docs/RULES.md.
+// `resume`: the section "Saved games" of docs/COMMANDS.md.
 #include "command.hpp"
 #include "printed.hpp"
 #include "saved.hpp"

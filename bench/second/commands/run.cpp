@@ -1,4 +1,4 @@
-// `run`: the section "The commands" of docs/RULES.md.
+// `run`: the section "What run prints" of docs/COMMANDS.md.
 #include "command.hpp"
 #include "printed.hpp"
 

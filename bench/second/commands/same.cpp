@@ -1,4 +1,4 @@
-// `same`: the section "Minimised brains" of docs/RULES.md.
+// `same`: the section "Comparing brains" of docs/COMMANDS.md.
 #include <algorithm>
 #include <optional>
 #include <set>

@@ -1,4 +1,4 @@
-// `save`: the section "Saved games" of docs/RULES.md.
+// `save`: the section "Saved games" of docs/COMMANDS.md.
 #include "command.hpp"
 #include "saved.hpp"
 

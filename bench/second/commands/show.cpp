@@ -1,4 +1,4 @@
-// `show`: the section "The commands" of docs/RULES.md.
+// `show`: the section "What run prints" of docs/COMMANDS.md.
 #include "command.hpp"
 #include "printed.hpp"
 

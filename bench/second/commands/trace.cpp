@@ -1,4 +1,4 @@
-// `trace`: the section "The commands" of docs/RULES.md.
+// `trace`: the section "An ant's way" of docs/COMMANDS.md.
 #include "command.hpp"
 #include "printed.hpp"
 

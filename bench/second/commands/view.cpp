@@ -1,4 +1,4 @@
-// `view`: the section "Breaks" of docs/RULES.md.
+// `view`: the section "Breaks" of docs/COMMANDS.md.
 #include "command.hpp"
 #include "printed.hpp"
 

@@ -1,4 +1,4 @@
-// `workload`: the section "Workloads" of docs/RULES.md.
+// `workload`: the section "Workloads" of docs/COMMANDS.md.
 #include "command.hpp"
 #include "generate.hpp"
 #include "looks.hpp"
