@@ -20,6 +20,8 @@ def command(word, heads, places=None, limits=None, flags=()):
     words near the limits of the numbers among them, by their places, and `limits` of what stands behind an option.
     `flags` are its other options.
     """
+    if word in COMMANDS:
+        raise ValueError('two files register the command ' + word)
     COMMANDS[word] = Command(heads, places or {}, limits or {}, list(flags))
 
 
@@ -27,10 +29,12 @@ def kind(name, most=None, share=1):
     """Registers a function as what makes the cases of a kind.
 
     No more cases than `most` are made, where each takes long. `share` is how common they are where cases of any command
-    are wanted.
+    are wanted. A name that another kind has is an error.
     """
     def register(make):
         """Registers it."""
+        if name in KINDS:
+            raise ValueError('two kinds have the name %s: %s and %s' % (name, KINDS[name].make.__name__, make.__name__))
         KINDS[name] = Kind(make, most, share)
         return make
     return register
