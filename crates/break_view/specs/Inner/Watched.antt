@@ -17,7 +17,8 @@ IsIdle w t = (p : Pos) (ant : Ant) → place_in w t ≡ Some p → (w.cells p).a
 
 -- the turn of an id led from the world w to the world v, and from one place of the stream to another; the score is
 -- that of v; and where `alike` is true, breaks but those of states see both worlds alike
-pub record TurnWatched (minds : Minds) (t : ℕ) (w v : World) (s s' : SeedAndPlace) (counted : Score) (alike : Bool) : Type 0 where
+pub record TurnWatched (minds : Minds) (t : ℕ) (w v : World) (s s' : SeedAndPlace) (counted : Score)
+    (alike : Bool) : Type 0 where
   pub world : v ≡ with_cells w (turn minds s.seed w s.place t).cells
   pub stream : s' ≡ record s { place = s.place + one_if (turn minds s.seed w s.place t).drew }
   pub fit : Fits v minds
