@@ -7,6 +7,7 @@ pub mod VerdictLemmas
 pub mod MetLemmas
 pub mod HillFood
 pub mod QuietTurns
+pub mod IdleTurns
 -- The first stop, and that there is one.
 pub mod ViewLaws
 pub mod FirstStops

@@ -47,7 +47,7 @@ put_sees w p new test rocky same x y = elim (cases_pos p (record { x = x; y = y 
 ]
 
 -- an ant that stays on as much food
-put_looks : {instruction : Instr} {ant : Ant} (w : World) (p : Pos) (t : ℕ) (new : Cell) → place_in w t ≡ Some p → (w.cells p).ant ≡ Some ant → Stays instruction (w.cells p) ant new → new.food ≡ (w.cells p).food → LooksSame w (put w p new)
+pub put_looks : {instruction : Instr} {ant : Ant} (w : World) (p : Pos) (t : ℕ) (new : Cell) → place_in w t ≡ Some p → (w.cells p).ant ≡ Some ant → Stays instruction (w.cells p) ant new → new.food ≡ (w.cells p).food → LooksSame w (put w p new)
 put_looks w p t new found is stays food (Round round) r _ _ asks = refl
 put_looks w p t new found is stays food (State colour state) r _ _ asks = absurd (let never : true ≡ false = asks in cc)
 put_looks w p t new found is stays food (Stand colour x y) r _ _ asks =
@@ -71,6 +71,15 @@ does_stay instruction sheet cells p ant outcome is (inr went) none there =
     ∙ ap (λ (c : Cell). has_ant c.ant) (stepped-from sheet cells p ant q went.next (free_apart cells p ant q is went.free)) in
     absurd (let both : false ≡ true = sym gone ∙ there in cc)
 
+-- a world looks like itself
+pub same_world : (w : World) → LooksSame w w
+same_world w (Round round) r _ _ asks = refl
+same_world w (State colour state) r _ _ asks = absurd (let never : true ≡ false = asks in cc)
+same_world w (Stand colour x y) r _ _ asks = refl
+same_world w (Food x y least) r _ _ asks = refl
+same_world w (Killed id) r _ _ asks = refl
+same_world w (Score colour least) r _ _ asks = refl
+
 -- so its turn changes no break but those of states
 turn_looks : (minds : Minds) (seed : ℕ) (w : World) (place t : ℕ) → (turn minds seed w place t).killed ≡ []
     → is_left (cell_at (with_cells w (turn minds seed w place t).cells) (place_in w t)) (food_in (cell_at w (place_in w t))) ≡ true
@@ -87,14 +96,6 @@ turn_looks minds seed w place t none left = ⊎_elim
     let food : stayed.new.food ≡ (w.cells acted.p).food = ap (λ (c : Cell). c.food) (sym own) ∙ eqb-true _ _ parts.1 in
     subst (λ (cells : Cells). LooksSame w (with_cells w cells)) (sym stayed.cells_after) (put_looks w acted.p t stayed.new acted.place acted.is stayed.stays food))
     (turn_parts minds seed w place t)
-  where
-    same_world : (w : World) → LooksSame w w
-    same_world w (Round round) r _ _ asks = refl
-    same_world w (State colour state) r _ _ asks = absurd (let never : true ≡ false = asks in cc)
-    same_world w (Stand colour x y) r _ _ asks = refl
-    same_world w (Food x y least) r _ _ asks = refl
-    same_world w (Killed id) r _ _ asks = refl
-    same_world w (Score colour least) r _ _ asks = refl
 
 -- the same of what is known by equations
 pub looks_same : (minds : Minds) (seed : ℕ) (w : World) (place t : ℕ) (o : Option Pos) (new : World) (before after : Option Cell) → (turn minds seed w place t).killed ≡ []

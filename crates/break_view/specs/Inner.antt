@@ -6,3 +6,4 @@ pub mod Reading
 pub mod Rounds
 pub mod Steps
 pub mod Verdict
+pub mod Watched

@@ -1,25 +1,23 @@
 // Turns that are watched: after which of them a break has to be asked.
 ghost use Rattle.std.specs.Prelude.{◌≡◌, ◌+◌, ◌<◌, ◌^◌, ◌==◌, ◌&&◌, IsTrue, Some};
 ghost use Rattle.ant_turn.specs.Minds.{Fits, minds_of};
-ghost use Rattle.ant_turn.specs.Turn.{has_ant, turn};
-ghost use Rattle.cell_world.specs.Cell.{one_if};
+ghost use Rattle.ant_turn.specs.Turn.{has_ant};
 ghost use Rattle.cell_world.specs.Grid.{world_of};
 ghost use Rattle.cell_world.specs.Score.{score_of};
-ghost use Rattle.cell_world.specs.World.{with_cells};
 ghost use Rattle.hex_geometry.specs.Position.{IsInside};
 ghost use Rattle.hex_geometry.specs.declared.position.Pos.{Pos};
 ghost use Rattle.break_view.specs.Inner.CellScores as cell_scores;
 ghost use Rattle.break_view.specs.Inner.Changes as changes;
+ghost use Rattle.break_view.specs.Inner.Watched as watched;
 
 use crate::cell_scores::{count_again, score_in_any};
 use ant_random::Stream;
 use ant_turn::{Brains, take_turn};
-use cell_world::{Cell, Score, World};
+use cell_world::{Cell, Ground, Score, World};
 use hex_geometry::Pos;
 
-// Takes the turn of an id, and keeps the score: where nobody was killed, the food changed on the ant's own cell alone,
-// if at all. Gives whether no break can hold otherwise than before, but those of states: nobody was killed, and the ant
-// is left where it stood, on as much food, or it was dead.
+// Takes the turn of an id, and keeps the score. Gives whether no break can hold otherwise than before, but those of
+// states: the ant was dead or rested; or nobody was killed, and the ant is left where it stood, on as much food.
 pub(crate) fn take_watched(
     world: &mut World,
     brains: Brains<'_>,
@@ -31,13 +29,42 @@ pub(crate) fn take_watched(
     requires id { id < world.old.ids }
     requires place { stream.old.place + 1 < 2 ^ 63 }
     requires score { score.old ≡ score_of (world_of world.old) }
-    ensures world { world_of world.new ≡ with_cells (world_of world.old) (turn (minds_of brains.entry) stream.old.seed (world_of world.old) stream.old.place id).cells }
-    ensures stream { stream.new ≡ record stream.old {
-      place = stream.old.place + one_if (turn (minds_of brains.entry) stream.old.seed (world_of world.old) stream.old.place id).drew;
-    } }
-    ensures fit { Fits (world_of world.new) (minds_of brains.entry) }
-    ensures score { score.new ≡ score_of (world_of world.new) }
-    ensures same { IsTrue result → changes.LooksSame (world_of world.old) (world_of world.new) }
+    ensures { watched.TurnWatched (minds_of brains.entry) id (world_of world.old) (world_of world.new) stream.old stream.new score.new result }
+{
+    if is_idle(world, id) {
+        let _deed = take_turn(world, brains, stream, id);
+        return true;
+    }
+    take_acting(world, brains, stream, score, id)
+}
+
+// Whether an id's ant is dead or rests.
+#[inline(always)]
+fn is_idle(world: &mut World, id: u32) -> bool
+    requires id { id < world.old.ids }
+    ensures world { world_of world.new ≡ world_of world.old }
+    ensures idle { IsTrue result → watched.IsIdle (world_of world.old) id }
+{
+    match world.ant_of(id) {
+        Some(standing) => standing.ant.resting > 0,
+        None => true,
+    }
+}
+
+// The same, by what the turn did: if nobody was killed, the food changed on the ant's own cell alone, if at all.
+#[inline(always)]
+fn take_acting(
+    world: &mut World,
+    brains: Brains<'_>,
+    stream: &mut Stream,
+    score: &mut Score,
+    id: u32,
+) -> bool
+    requires fit { Fits (world_of world.old) (minds_of brains) }
+    requires id { id < world.old.ids }
+    requires place { stream.old.place + 1 < 2 ^ 63 }
+    requires score { score.old ≡ score_of (world_of world.old) }
+    ensures { watched.TurnWatched (minds_of brains.entry) id (world_of world.old) (world_of world.new) stream.old stream.new score.new result }
 {
     let place = world.ant_place(id);
     let before = cell_at(world, place);
