@@ -56,3 +56,25 @@ cup_takes_no_window = read-refuses (words_of (codes "cup --worlds w --brains a b
 pub cup_takes_no_rules : IsRefusedAt (words_of (codes "cup --worlds w --brains a b --surround 5")) 7
 unfolding command_kind_of choice_of is_among rest_after is_file_name is_dumps dumps_of decimal_value
 cup_takes_no_rules = read-refuses (words_of (codes "cup --worlds w --brains a b --surround 5")) 7 refl
+
+-- `--leads` and `--gauntlet` take no value, and stand once
+pub cup_leads_with_a_value : IsRefusedAt (words_of (codes "cup --worlds w --brains a b --leads 1")) 8
+unfolding command_kind_of choice_of is_among rest_after is_file_name is_dumps dumps_of decimal_value
+cup_leads_with_a_value = read-refuses (words_of (codes "cup --worlds w --brains a b --leads 1")) 8 refl
+
+pub cup_leads_twice : IsRefusedAt (words_of (codes "cup --worlds w --brains a b --leads --seed 1 --leads")) 10
+unfolding command_kind_of choice_of is_among rest_after is_file_name is_dumps dumps_of decimal_value
+cup_leads_twice = read-refuses (words_of (codes "cup --worlds w --brains a b --leads --seed 1 --leads")) 10 refl
+
+pub cup_gauntlet_with_a_value : IsRefusedAt (words_of (codes "cup --worlds w --brains a b --gauntlet 0")) 8
+unfolding command_kind_of choice_of is_among rest_after is_file_name is_dumps dumps_of decimal_value
+cup_gauntlet_with_a_value = read-refuses (words_of (codes "cup --worlds w --brains a b --gauntlet 0")) 8 refl
+
+pub cup_gauntlet_twice : IsRefusedAt (words_of (codes "cup --worlds w --brains a b --gauntlet --gauntlet")) 8
+unfolding command_kind_of choice_of is_among rest_after is_file_name is_dumps dumps_of decimal_value
+cup_gauntlet_twice = read-refuses (words_of (codes "cup --worlds w --brains a b --gauntlet --gauntlet")) 8 refl
+
+-- the last word of a line that has no number of seeds
+pub cup_seeds_at_the_end : IsRefusedAt (words_of (codes "cup --worlds w --brains a b --seed 1 --rounds 1 --seeds")) 12
+unfolding command_kind_of choice_of is_among rest_after is_file_name is_dumps dumps_of decimal_value
+cup_seeds_at_the_end = read-refuses (words_of (codes "cup --worlds w --brains a b --seed 1 --rounds 1 --seeds")) 12 refl

@@ -182,6 +182,7 @@ pub others_take_none_of_cup :
     × AreRefusedAfter (codes "view w r b k") 6 cup_options
     × AreRefusedAfter (codes "trace w r b 1") 6 cup_options
     × AreRefusedAfter (codes "events w r b") 5 cup_options
+    × AreRefusedAfter (codes "acts w r b") 5 cup_options
     × AreRefusedAfter (codes "profile w r b") 5 cup_options
     × AreRefusedAfter (codes "same a b") 4 cup_options
     × AreRefusedAfter (codes "asm p") 3 cup_options
@@ -199,11 +200,33 @@ others_take_none_of_cup = (
   refused_after (codes "view w r b k") 6 cup_options (refl, (refl, (refl, tt))),
   refused_after (codes "trace w r b 1") 6 cup_options (refl, (refl, (refl, tt))),
   refused_after (codes "events w r b") 5 cup_options (refl, (refl, (refl, tt))),
+  refused_after (codes "acts w r b") 5 cup_options (refl, (refl, (refl, tt))),
   refused_after (codes "profile w r b") 5 cup_options (refl, (refl, (refl, tt))),
   refused_after (codes "same a b") 4 cup_options (refl, (refl, (refl, tt))),
   refused_after (codes "asm p") 3 cup_options (refl, (refl, (refl, tt))),
   refused_after (codes "gen 1") 3 cup_options (refl, (refl, (refl, tt))),
   refused_after (codes "workload 1 2 3") 5 cup_options (refl, (refl, (refl, tt))),
+)
+
+-- of the options of one command, and of what is told of a game, those that the lemmas above leave out
+abbrev told_and_own : List (List ℕ)
+told_and_own = told_options ++ own_options
+
+pub others_take_none_of_told :
+    AreRefusedAfter (codes "save w r b") 5 told_and_own
+    × AreRefusedAfter (codes "resume k") 3 told_and_own
+    × AreRefusedAfter (codes "gen 1") 3 told_and_own
+    × AreRefusedAfter (codes "cup --worlds w --brains a b") 7 (told_options ++ (codes "--lines") ∷ (codes "--way") ∷ [])
+    × AreRefusedAfter (codes "view w r b k") 6 ((codes "--ant") ∷ (codes "--food") ∷ own_options)
+    × AreRefusedAfter (codes "trace w r b 1") 6 own_options
+unfolding command_kind_of choice_of is_among rest_after is_file_name is_dumps dumps_of decimal_value
+others_take_none_of_told = (
+  refused_after (codes "save w r b") 5 told_and_own (refl, (refl, (refl, (refl, (refl, (refl, (refl, (refl, tt)))))))),
+  refused_after (codes "resume k") 3 told_and_own (refl, (refl, (refl, (refl, (refl, (refl, (refl, (refl, tt)))))))),
+  refused_after (codes "gen 1") 3 told_and_own (refl, (refl, (refl, (refl, (refl, (refl, (refl, (refl, tt)))))))),
+  refused_after (codes "cup --worlds w --brains a b") 7 (told_options ++ (codes "--lines") ∷ (codes "--way") ∷ []) (refl, (refl, (refl, (refl, (refl, tt))))),
+  refused_after (codes "view w r b k") 6 ((codes "--ant") ∷ (codes "--food") ∷ own_options) (refl, (refl, (refl, (refl, (refl, (refl, (refl, tt))))))),
+  refused_after (codes "trace w r b 1") 6 own_options (refl, (refl, (refl, (refl, (refl, tt))))),
 )
 
 -- the greatest seed of a game

@@ -14,6 +14,8 @@ const STEPPING: Job<'static> = Job {
         ("a", "Move 0 0"),
         ("c", "Flip 2 0 0"),
         ("d", "Flip 2 0 0"),
+        ("half", "Move 0"),
+        ("cut", "4\n4\n# # # #\n"),
     ],
     ..NO_JOB
 };
@@ -54,6 +56,35 @@ const WITH_GAMES: [(&str, &str); 5] = [
         "game 1: red 0 black 0, w, a, c\ngame 2: red 3 black 0, w, c, a\n\
         game 3: red 0 black 0, w, a, d\ngame 4: red 3 black 0, w, d, a\n\
         3 points: c (1 won, 1 drawn, 0 lost)\n3 points: d (1 won, 1 drawn, 0 lost)\n2 points: a (0 won, 2 drawn, 2 lost)\n",
+    ),
+];
+
+// All options: three brains on two worlds with the last seed and the one after it, world by world, within a world seed
+// by seed, and within a seed in the usual order. A world that is named twice is played twice, each time with each seed.
+const IN_ORDER: [(&str, &str); 2] = [
+    (
+        "cup --worlds w x --brains a c d --games --seed 4294967295 --seeds 2 --rounds 1 --leads --workers 2",
+        "game 1: red 0 black 0, seed 4294967295, w, a, c\ngame 2: red 3 black 0, seed 4294967295, w, c, a\n\
+        game 3: red 0 black 0, seed 4294967295, w, a, d\ngame 4: red 3 black 0, seed 4294967295, w, d, a\n\
+        game 5: red 0 black 0, seed 4294967295, w, c, d\ngame 6: red 0 black 0, seed 4294967295, w, d, c\n\
+        game 7: red 0 black 0, seed 0, w, a, c\ngame 8: red 3 black 0, seed 0, w, c, a\n\
+        game 9: red 0 black 0, seed 0, w, a, d\ngame 10: red 3 black 0, seed 0, w, d, a\n\
+        game 11: red 0 black 0, seed 0, w, c, d\ngame 12: red 0 black 0, seed 0, w, d, c\n\
+        game 13: red 0 black 0, seed 4294967295, x, a, c\ngame 14: red 0 black 0, seed 4294967295, x, c, a\n\
+        game 15: red 0 black 0, seed 4294967295, x, a, d\ngame 16: red 0 black 0, seed 4294967295, x, d, a\n\
+        game 17: red 0 black 0, seed 4294967295, x, c, d\ngame 18: red 0 black 0, seed 4294967295, x, d, c\n\
+        game 19: red 0 black 0, seed 0, x, a, c\ngame 20: red 0 black 0, seed 0, x, c, a\n\
+        game 21: red 0 black 0, seed 0, x, a, d\ngame 22: red 0 black 0, seed 0, x, d, a\n\
+        game 23: red 0 black 0, seed 0, x, c, d\ngame 24: red 0 black 0, seed 0, x, d, c\n\
+        18 points: c (2 won, 14 drawn, 0 lost), lead 6\n18 points: d (2 won, 14 drawn, 0 lost), lead 6\n12 points: a (0 won, 12 drawn, 4 lost), lead -12\n",
+    ),
+    (
+        "cup --worlds w w --brains a c --rounds 1 --seed 9 --seeds 2 --games",
+        "game 1: red 0 black 0, seed 9, w, a, c\ngame 2: red 3 black 0, seed 9, w, c, a\n\
+        game 3: red 0 black 0, seed 10, w, a, c\ngame 4: red 3 black 0, seed 10, w, c, a\n\
+        game 5: red 0 black 0, seed 9, w, a, c\ngame 6: red 3 black 0, seed 9, w, c, a\n\
+        game 7: red 0 black 0, seed 10, w, a, c\ngame 8: red 3 black 0, seed 10, w, c, a\n\
+        12 points: c (4 won, 4 drawn, 0 lost)\n4 points: a (0 won, 4 drawn, 4 lost)\n",
     ),
 ];
 
@@ -122,7 +153,7 @@ const DRAWN: [(&str, &str); 3] = [
 ];
 
 // Numbers of seeds that are refused, and options that are given twice or to another command.
-const REFUSED: [(&str, &str); 8] = [
+const REFUSED: [(&str, &str); 10] = [
     (
         "cup --worlds w --brains a c --seeds 0 --seed 1 --rounds 1",
         "ants: word 8 refused\n",
@@ -151,14 +182,57 @@ const REFUSED: [(&str, &str); 8] = [
         "cup --worlds w --brains a c --leads 1",
         "ants: word 8 refused\n",
     ),
+    (
+        "cup --worlds w --brains a c --gauntlet 1",
+        "ants: word 8 refused\n",
+    ),
+    (
+        "cup --worlds w --brains a c --leads --leads",
+        "ants: word 8 refused\n",
+    ),
     ("run w r b --seeds 2", "ants: word 5 refused\n"),
 ];
+
+// With each option a file at fault is named, and no game is printed. In a gauntlet too, each brain is read.
+const AT_FAULT: [(&str, &str); 3] = [
+    (
+        "cup --worlds w cut --brains a c --seed 1 --rounds 1 --seeds 2 --games --leads",
+        "ants: cut: row 1: missing\n",
+    ),
+    (
+        "cup --worlds w --brains a c half --gauntlet --seed 1 --rounds 1 --seeds 1000 --games",
+        "ants: half: line 1: missing token\n",
+    ),
+    (
+        "cup --worlds w w --brains half c --leads --seeds 2 --seed 1 --rounds 0",
+        "ants: half: line 1: missing token\n",
+    ),
+];
+
+// Three files are read, each once, whatever the number of seeds: so a fourth read, which would fail, is never made.
+const READ_ONCE: [(&str, &str); 1] = [(
+    "cup --worlds w --brains a c --seed 1 --seeds 3 --rounds 1 --workers 2",
+    "9 points: c (3 won, 3 drawn, 0 lost)\n3 points: a (0 won, 3 drawn, 3 lost)\n",
+)];
+
+// The third read fails.
+const UNREAD: [(&str, &str); 1] = [(
+    "cup --worlds w --brains a c --seed 1 --seeds 3 --rounds 1 --games",
+    "ants: c: not read\n",
+)];
 
 static WITH_GAMES_CUPS: Table<'static> = Table {
     job: STEPPING,
     given: Given::Line,
     status: Status::Done,
     rows: &WITH_GAMES,
+};
+
+static ORDERED_CUPS: Table<'static> = Table {
+    job: STEPPING,
+    given: Given::Line,
+    status: Status::Done,
+    rows: &IN_ORDER,
 };
 
 static STANDING_CUPS: Table<'static> = Table {
@@ -183,9 +257,46 @@ static OTHER_CUPS: [Table<'static>; 2] = [
     },
 ];
 
+static READ_CUPS: [Table<'static>; 3] = [
+    Table {
+        job: STEPPING,
+        given: Given::Line,
+        status: Status::Input,
+        rows: &AT_FAULT,
+    },
+    Table {
+        job: Job {
+            failing_fetch: 4,
+            ..STEPPING
+        },
+        given: Given::Line,
+        status: Status::Done,
+        rows: &READ_ONCE,
+    },
+    Table {
+        job: Job {
+            failing_fetch: 3,
+            ..STEPPING
+        },
+        given: Given::Line,
+        status: Status::Read,
+        rows: &UNREAD,
+    },
+];
+
 #[test]
 fn a_cup_is_played_with_each_seed_and_tells_it(rt: HostRuntime) -> Result<(), Fail> {
     check_rows(&rt, rt.alloc(), &WITH_GAMES_CUPS)
+}
+
+#[test]
+fn games_go_world_by_world_and_seed_by_seed(rt: HostRuntime) -> Result<(), Fail> {
+    check_rows(&rt, rt.alloc(), &ORDERED_CUPS)
+}
+
+#[test]
+fn the_files_of_a_cup_are_read_once_for_all_seeds(rt: HostRuntime) -> Result<(), Fail> {
+    check_tables(&rt, rt.alloc(), &READ_CUPS)
 }
 
 #[test]

@@ -46,9 +46,10 @@ fn crowd(alloc: Global) -> Result<String, Fail> {
 }
 
 // Words, and the text up to where the output fails: in the line of the death in round 1; in the line of the first turn;
-// in the line of round 1; and in the line of the second game on the small world, before a game on the other one. Above
-// black ant 245 are 122 red ants in row 1, and a black and 122 red ones in row 2.
-const EARLY: [(&str, &str); 4] = [
+// in the line of round 1; and in the line of the second game on the small world, and of the third one with two seeds,
+// before a game on the other world. Above black ant 245 are 122 red ants in row 1, and a black and 122 red ones in row
+// 2.
+const EARLY: [(&str, &str); 5] = [
     (
         "events w r b --seed 12345 --rounds 1000000",
         "random seed: 12345\nround 1, black ant 245: red ant 246",
@@ -64,6 +65,10 @@ const EARLY: [(&str, &str); 4] = [
     (
         "cup --worlds k w --brains r b --games --seed 12345 --rounds 1000000",
         "game 1: red 0 black 0, k, r, b\ngame 2: ",
+    ),
+    (
+        "cup --worlds k w --brains r b --games --seed 12345 --seeds 2 --rounds 1000000",
+        "game 1: red 0 black 0, seed 12345, k, r, b\ngame 2: red 0 black 0, seed 12345, k, b, r\ngame 3: ",
     ),
 ];
 

@@ -23,7 +23,7 @@ const FETCH: Job<'static> = Job {
 };
 
 // Words, and what is printed of their game: everything; with food; and this from a round on.
-const FETCHED: [(&str, &str); 4] = [
+const FETCHED: [(&str, &str); 6] = [
     (
         "events w r b --rest 0 --seed 12345 --rounds 8",
         "random seed: 12345\nround 7, red ant 0: score: red 1 black 0\nround 8, red ant 0: score: red 0 black 0\n",
@@ -31,6 +31,14 @@ const FETCHED: [(&str, &str); 4] = [
     (
         "events w r b --food --rest 0 --seed 12345 --rounds 8",
         "random seed: 12345\nround 2, red ant 0: state 1 takes food on (2, 1)\nround 7, red ant 0: state 6 drops food on (1, 1), red hill\nround 7, red ant 0: score: red 1 black 0\nround 8, red ant 0: state 7 takes food on (1, 1), red hill\nround 8, red ant 0: score: red 0 black 0\n",
+    ),
+    (
+        "events w r b --from 0 --food --rest 0 --seed 12345 --rounds 2",
+        "random seed: 12345\nround 2, red ant 0: state 1 takes food on (2, 1)\n",
+    ),
+    (
+        "events w r b --food --rest 0 --seed 12345 --from 3 --rounds 7",
+        "random seed: 12345\nround 7, red ant 0: state 6 drops food on (1, 1), red hill\nround 7, red ant 0: score: red 1 black 0\n",
     ),
     (
         "events w r b --from 8 --rest 0 --food --seed 12345 --rounds 8",

@@ -106,7 +106,7 @@ const REFUSED_CUPS: [(&str, &str); 12] = [
 ];
 
 // The same for other commands.
-const REFUSED_OTHERS: [(&str, &str); 37] = [
+const REFUSED_OTHERS: [(&str, &str); 41] = [
     ("gen 1 --width 2", "ants: word 4 refused\n"),
     ("gen 1 --height 513", "ants: word 4 refused\n"),
     ("gen 1 --rocks 256", "ants: word 4 refused\n"),
@@ -131,6 +131,10 @@ const REFUSED_OTHERS: [(&str, &str); 37] = [
     ("acts w r b 1", "ants: word 5 refused\n"),
     ("acts w r b --ant 16384", "ants: word 6 refused\n"),
     ("acts w r b --from 00000000001", "ants: word 6 refused\n"),
+    ("acts w r b --gauntlet", "ants: word 5 refused\n"),
+    ("acts w r b --from 2 --from 2", "ants: word 7 refused\n"),
+    ("events w r b --from 2 --from 2", "ants: word 7 refused\n"),
+    ("profile w r b --from 2 --from 2", "ants: word 7 refused\n"),
     ("same r", "ants: word 3 refused\n"),
     ("same r b w", "ants: word 4 refused\n"),
     ("workload", "ants: word 2 refused\n"),
