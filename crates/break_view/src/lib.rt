@@ -3,10 +3,10 @@
 //! All of it is this project's own; turns and rounds are the task's kinetics. A [`Break`] says what is looked for after
 //! each turn: that a round has come, that the ant whose turn it was is in a state, that an ant stands on a cell, that
 //! food lies there, that an ant was killed, or that a hill has its food. [`read_breaks`] answers exactly the list of a
-//! text of breaks or exactly its fault; [`find_stop`] plays a game to the first turn, in a round from the given one on,
-//! after which some break holds, which is the least by round and then by id, and leaves the world as it is then;
-//! [`push_view`] pushes the text of it. This crate stands on `match_run`, `ant_turn`, `dump_print`, the tokens of
-//! `line_tokens` and the tables of `word_table`.
+//! text of breaks or exactly its fault; [`find_stop`] plays a game to the first turn after which some break holds,
+//! which is the least by round and then by id, and leaves the world as it is then; [`find_stop_from`] does so for the
+//! turns from a given round on; [`push_view`] pushes the text of it. This crate stands on `match_run`, `ant_turn`,
+//! `dump_print`, the tokens of `line_tokens` and the tables of `word_table`.
 #![tactic(auto)]
 
 mod breaks;
@@ -30,5 +30,5 @@ pub use laws::{
     one_list_or_one_fault, quiet_rounds_are_passed, stops_follow_turns,
 };
 pub use read::read_breaks;
-pub use stop::{Stop, find_stop};
+pub use stop::{Stop, find_stop, find_stop_from};
 pub use view::push_view;

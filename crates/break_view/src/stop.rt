@@ -33,6 +33,22 @@ pub struct Stop {
     pub which: u32,
 }
 
+/// Plays a game until a break holds after a turn, and returns the first such stop; `None` exactly if no break holds
+/// after any turn. Breaks are looked for from the first turn of round 1 on; all else is as with [`find_stop_from`].
+pub fn find_stop(
+    world: &mut World,
+    brains: Brains<'_>,
+    seed: u32,
+    rounds: u32,
+    breaks: &Breaks,
+) -> Option<Stop>
+    requires fit { Fits (world_of world.old) (minds_of brains) }
+    requires few_rounds { rounds ≤ most_rounds }
+    ensures { EndsAt (minds_of brains.entry) seed rounds 0 (world_of world.old) breaks.now result (world_of world.new) }
+{
+    find_stop_from(world, brains, seed, rounds, 0, breaks)
+}
+
 /// Plays a game until a break holds after a turn of a round from `from` on, and returns the first such stop; `None`
 /// exactly if no break holds after any turn of these rounds.
 ///
@@ -49,7 +65,7 @@ pub struct Stop {
 /// names; no other turn can make a break hold. Each costs one look-up at most: of a cell, of the place of an ant, or of
 /// the food on the hills, which is kept from turn to turn. All cells are looked at only once, and once more after each
 /// turn that killed.
-pub fn find_stop(
+pub fn find_stop_from(
     world: &mut World,
     brains: Brains<'_>,
     seed: u32,

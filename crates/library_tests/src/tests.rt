@@ -8,6 +8,7 @@ mod labelled_programs;
 mod numbers;
 mod standing_workers;
 mod stopped_games;
+mod stops;
 mod stream_sinks;
 mod turns;
 mod world_files;

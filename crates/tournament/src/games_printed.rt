@@ -15,7 +15,7 @@ use crate::names::Names;
 use crate::play::play_worlds;
 use crate::referee::Referee;
 use crate::tally::Tally;
-use crate::text::push_standing;
+use crate::text::push_standing_with;
 use ant_base::{Failed, Layout, PushFault, Sink, layout};
 use hex_geometry::OutOfMemory;
 use std::alloc::Global;
@@ -155,7 +155,7 @@ pub fn play_and_print<
         print_world(alloc, &cup, world, play, &mut tally, sink)?;
     }
     let standing = tally.standing();
-    push_standing(&standing, format.leads, players, sink)?;
+    push_standing_with(&standing, format.leads, players, sink)?;
     Ok(())
 }
 

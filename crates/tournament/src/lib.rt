@@ -42,4 +42,4 @@ pub use play::{play_all, play_all_by, play_games, play_games_alone, play_worlds}
 pub use referee::Referee;
 pub use standing::{Line, Standing};
 pub use tally::standing_of;
-pub use text::push_standing;
+pub use text::{push_standing, push_standing_with};

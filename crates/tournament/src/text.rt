@@ -1,5 +1,5 @@
 // The text of a standing.
-ghost use Rattle.std.specs.Prelude.{◌<◌, All, length, slice_index_or};
+ghost use Rattle.std.specs.Prelude.{◌<◌, All, false, length, slice_index_or};
 ghost use Rattle.ant_base.specs.Sink.{Pushed};
 ghost use Rattle.tournament.specs.Inner.Blank.{blank};
 ghost use Rattle.tournament.specs.Text.{table_line_text, standing_text};
@@ -93,11 +93,23 @@ impl Layout for Lead {
     }
 }
 
-/// Pushes a line for each player, best first, such as `3 points: b (1 won, 1 drawn, 0 lost)`. With leads it is `3
-/// points: b (1 won, 1 drawn, 0 lost), lead 3`, where the lead is the player's food minus its opponents', as a whole
-/// number. Each player of the standing has a name. At `Failed` a prefix of the lines was pushed, and the sink's count
-/// of faults rose. It takes no memory.
+/// Pushes a line for each player, best first, such as `3 points: b (1 won, 1 drawn, 0 lost)`. Each player of the
+/// standing has a name. At `Failed` a prefix of the lines was pushed, and the sink's count of faults rose. It takes no
+/// memory.
 pub fn push_standing<K: Sink>(
+    standing: &Standing,
+    names: &Names,
+    sink: &mut K,
+) -> Result<(), Failed>
+    requires { All (λ line. line.player < length names.now) standing.now }
+    ensures { Pushed (K.state sink.old) (K.state sink.new) (standing_text false names.now standing.now) result }
+{
+    push_standing_with(standing, false, names, sink)
+}
+
+/// Pushes the same lines. With leads each ends as in `3 points: b (1 won, 1 drawn, 0 lost), lead 3`: the player's own
+/// food minus its opponents', as a whole number.
+pub fn push_standing_with<K: Sink>(
     standing: &Standing,
     leads: bool,
     names: &Names,

@@ -24,7 +24,7 @@ use match_run::{OutOfMemory, play_score};
 use std::alloc::Global;
 use tournament::{
     Format, Names, Pairing, Played, PushFault, Referee, Seeds, Standing, play_all_by,
-    play_and_print, push_standing,
+    play_and_print, push_standing_with,
 };
 
 // What the files of a cup were read as.
@@ -195,5 +195,5 @@ pub fn cup<
         entry.workers,
         play,
     )?;
-    after_push(push_standing(&standing, entry.format.leads, &names, out))
+    after_push(push_standing_with(&standing, entry.format.leads, &names, out))
 }

@@ -14,7 +14,7 @@ use crate::files::read_file;
 use crate::stop::{CommandStop, after_push};
 use ant_base::{Failed, Shelf, Sink};
 use ant_turn::{Brains, Sheet};
-use break_view::{Breaks, find_stop, push_view};
+use break_view::{Breaks, find_stop_from, push_view};
 use std::alloc::Global;
 
 // Plays a game to its first stop in a round from `from` on, and pushes its view.
@@ -43,7 +43,7 @@ fn push_stop<K: Sink>(
         black: &black,
         sheet,
     };
-    let stop = find_stop(&mut world, brains, seed, rounds, from, breaks);
+    let stop = find_stop_from(&mut world, brains, seed, rounds, from, breaks);
     push_view(&world, seed, rounds, stop, out)
 }
 

@@ -13,7 +13,7 @@ use std::test::Fail;
 use std::thread::Threads;
 use tournament::{
     Added, Format, Names, Pairing, Played, PushFault, Referee, Seeds, play_all, play_all_by,
-    play_and_print, play_games, play_games_alone, push_standing, standing_of,
+    play_and_print, play_games, play_games_alone, push_standing, push_standing_with, standing_of,
 };
 
 // More bytes than any text of these tests has.
@@ -139,7 +139,7 @@ fn check<R: Threads + Sync + Abort, F: Referee>(
     for workers in [1, 2, 16] {
         let standing = play_all(rt, alloc, referee, players as u32, worlds, workers)?;
         let mut out = MemSink::with_room(alloc, ROOM, Calls::new(alloc))?;
-        let pushed = push_standing(&standing, false, names, &mut out);
+        let pushed = push_standing(&standing, names, &mut out);
         assert!(rt; pushed.is_ok());
         assert_eq!(rt; str::from_utf8(out.held())?, text, "with {workers} workers");
     }
@@ -270,7 +270,7 @@ fn check_gauntlet<R: Threads + Sync + Abort, F: Referee>(
     { played(rt, alloc, referee, games, workers) };
     let standing = play_all_by(alloc, referee, true, players as u32, 1, 2, &play)?;
     let mut out = MemSink::with_room(alloc, ROOM, Calls::new(alloc))?;
-    let pushed = push_standing(&standing, true, &names, &mut out);
+    let pushed = push_standing_with(&standing, true, &names, &mut out);
     assert!(rt; pushed.is_ok());
     assert_eq!(rt; str::from_utf8(out.held())?, text);
     Ok(())

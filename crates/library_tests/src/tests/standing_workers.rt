@@ -24,14 +24,14 @@ use std::thread::Threads;
 use world_read::read_world;
 
 // The world in which a surrounded ant dies in the first round, the brains, and its seed.
-const WORLD: &str =
+pub(crate) const WORLD: &str =
     "7\n6\n# # # # # # #\n # . . . . . #\n# . . - # . #\n # - . + - # #\n# + . - - # #\n # # # # # # #\n";
 
 const FLIPS: &str = "Flip 2 0 0";
 
 const MOVES: &str = "Move 0 0";
 
-const SEED: u32 = 12345;
+pub(crate) const SEED: u32 = 12345;
 
 // The guesses for the seven turns: each red ant draws, and no black one.
 const GUESSES: [u64; 7] = [0, 0, 0, 1, 1, 2, 2];

@@ -6,8 +6,8 @@ use Rattle.break_view.specs.declared.breaks.Break.{Break}
 use Rattle.break_view.specs.Inner.Rounds.{RoundEnds}
 use Rattle.break_view.proofs.AfterRounds.{IsAfter-passed}
 use Rattle.break_view.proofs.WatchedRounds.{watched-passed, watched-more, ends_stopped, ends_passed, ends_without}
-use Rattle.break_view.proofs.stop.find_stop.Goals as goal
-use Rattle.break_view.proofs.stop.find_stop.Goals.{After-is_some}
+use Rattle.break_view.proofs.stop.find_stop_from.Goals as goal
+use Rattle.break_view.proofs.stop.find_stop_from.Goals.{After-is_some}
 
 -- how the round ended, in terms of the list of breaks
 ended : (c : After-is_some) → RoundEnds (minds_of c.args.brains) c.loop-round.stream.seed (moment_from c.loop-round.world c.loop-round.stream) c.args.breaks.now (c.loop-round.round + 1) c.stop_in_round-stop.result (moment_from c.stop_in_round-stop.new.world c.stop_in_round-stop.new.stream)

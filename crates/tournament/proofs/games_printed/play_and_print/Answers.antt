@@ -52,16 +52,16 @@ returns-in_err-print_world g c =
     (subst (λ (n : ℕ). WorldStops (g.K.Sink.state c.loop-world.sink) (g.K.Sink.state c.print_world.new.sink)
     (games_text c.args.format worlds players (worlds_played c.args.format.gauntlet (length players) (c.loop-world.world * seeds) seeds score) (n + 1)) c.in_err-print_world.field-0.0) at.played.count c.in_err-print_world.ensures.printed))
 
-pub push_standing-requires : goal.push_standing-requires
-push_standing-requires g c =
+pub push_standing_with-requires : goal.push_standing_with-requires
+push_standing_with-requires g c =
     let players = c.args.players.now in
     let ranks = c.standing-standing.ensures (length players) (first_played c.args.format players c.loop-world.world (g.F.Referee.score c.args.referee.now)) c.loop-world.invariant.played in
     players_named (length players) (length players) _ c.standing-standing.result (omega arith) ranks
 
-pub returns-in_err-push_standing : goal.returns-in_err-push_standing
-returns-in_err-push_standing g c =
+pub returns-in_err-push_standing_with : goal.returns-in_err-push_standing_with
+returns-in_err-push_standing_with g c =
     let worlds = texts_of c.args.worlds.now in let players = c.args.players.now in let score = g.F.Referee.score c.args.referee.now in let at = c.loop-world.invariant in
-    let p = err_from_is_err_and c.from_residual-in_err-push_standing.result c.from_residual-in_err-push_standing.ensures.1 in
+    let p = err_from_is_err_and c.from_residual-in_err-push_standing_with.result c.from_residual-in_err-push_standing_with.ensures.1 in
     let many = length-map c.args.worlds.now string_bytes in
     let end = c.loop-world.auto.world-end in
     let all : c.loop-world.world ≡ length worlds = omega (arith, end, c.loop-world-test.false, many) in
@@ -70,7 +70,7 @@ returns-in_err-push_standing g c =
     rw (p.1, p.2) (record {
       text = games_text c.args.format worlds players (first_played c.args.format players c.loop-world.world score) 1 ++ standing_text c.args.format.leads players c.standing-standing.result;
       is_text = cup;
-      pushed = front_then _ _ _ _ _ at.printed c.in_err-push_standing.ensures;
+      pushed = front_then _ _ _ _ _ at.printed c.in_err-push_standing_with.ensures;
     })
 
 pub returns : goal.returns
@@ -83,5 +83,5 @@ returns g c =
     record {
       text = games_text c.args.format worlds players (first_played c.args.format players c.loop-world.world score) 1 ++ standing_text c.args.format.leads players c.standing-standing.result;
       is_text = whole_cup c.args.format worlds players score c.loop-world.world all (length players) refl c.standing-standing.result ranks;
-      pushed = all_then _ _ _ _ _ at.printed c.in_ok-push_standing.ensures;
+      pushed = all_then _ _ _ _ _ at.printed c.in_ok-push_standing_with.ensures;
     }

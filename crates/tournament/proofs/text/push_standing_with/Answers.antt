@@ -3,7 +3,7 @@ use Rattle.ant_base.specs.Sink.{Pushed}
 use Rattle.ant_base.proofs.Numbered.{numbered-list}
 use Rattle.tournament.specs.Inner.Blank.{blank}
 use Rattle.tournament.specs.Text.{table_line_text}
-use Rattle.tournament.proofs.text.push_standing.Goals as goal
+use Rattle.tournament.proofs.text.push_standing_with.Goals as goal
 
 pub returns : goal.returns
 returns g c =

@@ -51,8 +51,8 @@ returns-in_err-names g c =
     carries_wanting_later (cup_job (texts c.args.entry.worlds.now) (texts c.args.entry.brains.now) c.args.entry.format c.args.entry.rounds c.args.entry.workers c.args.entry.games) (g.S.Shelf.state c.args.shelf.now) (g.S.Shelf.state c.roster_of.new.shelf)
     (g.K.Sink.state c.args.out.now) (cup_contents c.in_ok-roster.roster.worlds.items c.in_ok-roster.roster.players.items) c.from_residual-in_err-names.result c.from_residual-in_err-names.ensures.1 c.in_ok-roster.ensures
 
-pub push_standing-requires : goal.push_standing-requires
-push_standing-requires g c =
+pub push_standing_with-requires : goal.push_standing_with-requires
+push_standing_with-requires g c =
     let named : length c.in_ok-names.names ≡ length (texts c.args.entry.brains.now) = ap length c.in_ok-names.ensures in
     let counted : length c.in_ok-roster.roster.players.items ≡ length (texts c.args.entry.brains.now) =
     players_counted (texts c.args.entry.worlds.now) (texts c.args.entry.brains.now) c.in_ok-roster.ensures.fetches c.in_ok-roster.roster.worlds.items c.in_ok-roster.roster.players.items c.in_ok-roster.ensures.comes in
@@ -69,13 +69,13 @@ pub returns : goal.returns
 returns g c =
     let off : c.args.entry.games ≡ false = c.if-entry.false in
     subst (λ (games : Bool). CarriesOut (cup_job (texts c.args.entry.worlds.now) (texts c.args.entry.brains.now) c.args.entry.format c.args.entry.rounds c.args.entry.workers games) (g.S.Shelf.state c.args.shelf.now) (g.S.Shelf.state c.roster_of.new.shelf)
-    (g.K.Sink.state c.args.out.now) (g.K.Sink.state c.push_standing.new.sink) (ending_of c.after_push.result)) (sym off)
-    (carries_pushed (cup_job (texts c.args.entry.worlds.now) (texts c.args.entry.brains.now) c.args.entry.format c.args.entry.rounds c.args.entry.workers false) (g.S.Shelf.state c.args.shelf.now) (g.S.Shelf.state c.roster_of.new.shelf) (g.K.Sink.state c.args.out.now) (g.K.Sink.state c.push_standing.new.sink)
-    (cup_contents c.in_ok-roster.roster.worlds.items c.in_ok-roster.roster.players.items) c.after_push.result c.push_standing.result c.after_push.ensures c.in_ok-roster.ensures
+    (g.K.Sink.state c.args.out.now) (g.K.Sink.state c.push_standing_with.new.sink) (ending_of c.after_push.result)) (sym off)
+    (carries_pushed (cup_job (texts c.args.entry.worlds.now) (texts c.args.entry.brains.now) c.args.entry.format c.args.entry.rounds c.args.entry.workers false) (g.S.Shelf.state c.args.shelf.now) (g.S.Shelf.state c.roster_of.new.shelf) (g.K.Sink.state c.args.out.now) (g.K.Sink.state c.push_standing_with.new.sink)
+    (cup_contents c.in_ok-roster.roster.worlds.items c.in_ok-roster.roster.players.items) c.after_push.result c.push_standing_with.result c.after_push.ensures c.in_ok-roster.ensures
     (standing_text c.args.entry.format.leads (texts c.args.entry.brains.now) c.in_ok-standing.standing)
     (record {
       value = record { worlds = c.in_ok-roster.roster.worlds.items; players = c.in_ok-roster.roster.players.items };
       read = refl;
       told = record { lines = c.in_ok-standing.standing; standing = c.in_ok-standing.ensures; is = refl };
     })
-    (subst (λ (names : List (List ℕ)). Pushed (g.K.Sink.state c.args.out.now) (g.K.Sink.state c.push_standing.new.sink) (standing_text c.args.entry.format.leads names c.in_ok-standing.standing) c.push_standing.result) c.in_ok-names.ensures c.push_standing.ensures))
+    (subst (λ (names : List (List ℕ)). Pushed (g.K.Sink.state c.args.out.now) (g.K.Sink.state c.push_standing_with.new.sink) (standing_text c.args.entry.format.leads names c.in_ok-standing.standing) c.push_standing_with.result) c.in_ok-names.ensures c.push_standing_with.ensures))
