@@ -175,12 +175,13 @@ const RENUMBER: Job<'static> = Job {
 };
 
 // Brains, and the new number of each of their states. In the first, states 3 and 7 are merged, and no state leads to 9;
-// in the last, no state leads to 1, and 2 and 3 are merged.
-const RENUMBERED: [(&str, &str); 2] = [
+// in the second, 1 and 2 are merged; in the last, no state leads to 1, and 2 and 3 are merged.
+const RENUMBERED: [(&str, &str); 3] = [
     (
         "Sense Ahead 1 5 Food\nPickUp 3 7\nMove 0 4\nTurn Left 2\nFlip 2 6 8\nMark 0 2\nTurn Right 2\nTurn Left 2\nDrop 0\nMove 0 0\n",
         "0 0\n1 1\n2 2\n3 3\n4 4\n5 5\n6 6\n7 3\n8 7\n9 dropped\n",
     ),
+    ("Flip 2 1 2\nMove 0 0\nMove 0 0\n", "0 0\n1 1\n2 1\n"),
     (
         "Move 2 3\nDrop 1\nDrop 0\nDrop 0\n",
         "0 0\n1 dropped\n2 1\n3 1\n",

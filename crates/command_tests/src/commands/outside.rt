@@ -3,8 +3,8 @@ use crate::commands::runs::{KILLED, KILLING_ROUND, UNPLAYED};
 use crate::commands::shown::SHOWN;
 use crate::commands::workloads::UNTOUCHED;
 use crate::commands::{
-    CLOSED, CutRun, Ending, Given, Job, NO_JOB, answer, check, check_cuts, cut, done, ending_of,
-    stopped,
+    CLOSED, CutRun, Ending, Given, Job, NO_JOB, Table, answer, check, check_cuts, check_tables,
+    cut, done, ending_of, stopped,
 };
 use ant_commands::Status;
 use std::alloc::Global;
@@ -123,6 +123,35 @@ fn each_file_is_fetched_once_in_the_order_of_its_word(rt: HostRuntime) -> Result
     check_fetchings(&rt, rt.alloc(), &FETCHED)
 }
 
+// Words that name a file that isn't there, and the line that names it.
+const MISSING: [(&str, &str); 2] = [
+    ("show none 1", "ants: none: not read\n"),
+    ("run none r b --seed 7 --rounds 0", "ants: none: not read\n"),
+];
+
+// Words that name such a file after one that is not a world, and the line that names the latter.
+const FAULTY: [(&str, &str); 1] = [("run k none b --seed 7 --rounds 0", "ants: k: bad width\n")];
+
+static STOPPED_RUNS: [Table<'static>; 2] = [
+    Table {
+        job: UNPLAYED_GAME,
+        given: Given::Line,
+        status: Status::Read,
+        rows: &MISSING,
+    },
+    Table {
+        job: UNPLAYED_GAME,
+        given: Given::Line,
+        status: Status::Input,
+        rows: &FAULTY,
+    },
+];
+
+#[test]
+fn the_first_file_that_is_missing_or_at_fault_is_named(rt: HostRuntime) -> Result<(), Fail> {
+    check_tables(&rt, rt.alloc(), &STOPPED_RUNS)
+}
+
 // Asserts the result of a command whose output has room for this many bytes.
 fn check_in<R: Threads + Wait + Sync + Abort>(
     rt: &R,
@@ -168,8 +197,17 @@ fn output_that_is_full_holds_a_prefix_of_the_text(rt: HostRuntime) -> Result<(),
     check_rooms(&rt, rt.alloc(), &UNPLAYED_ROUND, UNPLAYED)
 }
 
-// Output with room for five bytes, and errors with room for none or for eight.
-static FULL: [CutRun<'static>; 2] = [
+// Output with room for five bytes, and errors with room for a line, for none or for eight bytes.
+static FULL: [CutRun<'static>; 3] = [
+    CutRun {
+        job: Job {
+            line: "show w 7",
+            room: 5,
+            ..UNPLAYED_GAME
+        },
+        held: "rando",
+        line: "ants: output failed\n",
+    },
     CutRun {
         job: Job {
             room: 5,

@@ -318,6 +318,20 @@ static DYING: Job<'static> = Job {
     ..VIEW
 };
 
+// Its cells: the black ant has gone to (2, 3), and the red one on (3, 3) is dead.
+const DEATH: Told<'static> = Told {
+    start: "random seed: 12345\nstop: round 1, ant 1, break 1\ncell (0, 0): rock\n",
+    lines: "cell (1, 3): black hill; \n\
+            cell (2, 3): black ant of id 1, dir 0, food 0, state 0, resting 14\n\
+            cell (3, 3): 3 food; red hill; \n",
+    end: "cell (6, 5): rock\n",
+};
+
+#[test]
+fn a_view_shows_the_cells_at_its_stop(rt: HostRuntime) -> Result<(), Fail> {
+    check_text(&rt, rt.alloc(), &DYING, &DEATH)
+}
+
 #[test]
 fn a_view_from_a_later_round_stops_where_the_break_still_holds(
     rt: HostRuntime,

@@ -373,14 +373,92 @@ fn crews_of_two_and_three_look_at_the_same_time(rt: HostRuntime) -> Result<(), F
     check_windows(&rt, rt.alloc(), &WINDOWS)
 }
 
+// Who announced each turn of that round: the worker's number and 1, or 0 if no worker did.
+#[derive(Drop)]
+struct Announcers {
+    by: Vec<AtomicU32>,
+}
+
+impl Gate for Announcers {
+    fn before_look(&self, worker: u32, ticket: u32) {
+        if let Some(by) = self.by.get(ticket as usize) {
+            by.store(worker.saturating_add(1), Ordering::SeqCst);
+        }
+    }
+}
+
+// Windows in pieces: for how many workers, from which turn on, and who announces each turn. Of n turns, worker k of W
+// has those from k * n / W up to, and not including, (k + 1) * n / W.
+const PIECES: [(u32, u32, [u32; TURNS]); 3] = [
+    (2, 0, [1, 1, 1, 2, 2, 2, 2]),
+    (3, 0, [1, 1, 2, 2, 3, 3, 3]),
+    (3, 3, [0, 0, 0, 1, 2, 3, 3]),
+];
+
+// Asserts who announced each turn.
+fn check_announcers<R: Abort>(rt: &R, announced: &[AtomicU32], wanted: &[u32]) {
+    for (by, number) in announced.iter().zip(wanted) {
+        assert_eq!(rt; by.load(Ordering::SeqCst), *number);
+    }
+}
+
+// Asserts who announces each turn of a window of a field, in pieces for this number of workers.
+fn check_pieces_of<R: Threads + Sync + Abort>(
+    rt: &R,
+    alloc: Global,
+    field: &mut Field<'_>,
+    workers: u32,
+    from: u32,
+    wanted: &[u32],
+) -> Result<(), Fail>
+    requires whole { field.old.whole ≡ true }
+    requires first { field.old.place ≡ 0 }
+{
+    assert!(rt; 1 <= workers && workers <= 16);
+    let announcers = Announcers {
+        by: nothing(alloc, TURNS)?,
+    };
+    let window = window_in_pieces(rt, alloc, field, workers, from, &announcers)?;
+    assert_eq!(rt; window.workers, workers);
+    check_announcers(rt, &announcers.by, wanted);
+    Ok(())
+}
+
+// Asserts the same for a window of that round.
+fn check_announced_by<R: Threads + Sync + Abort>(
+    rt: &R,
+    alloc: Global,
+    players: &Players,
+    workers: u32,
+    from: u32,
+    wanted: &[u32],
+) -> Result<(), Fail> {
+    let mut field = killing_field(rt, alloc, players)?;
+    check_pieces_of(rt, alloc, &mut field, workers, from, wanted)
+}
+
+#[test]
+fn each_worker_has_its_piece_of_a_window(rt: HostRuntime) -> Result<(), Fail> {
+    let players = killing_players(&rt, rt.alloc())?;
+    for (workers, from, wanted) in &PIECES {
+        check_announced_by(&rt, rt.alloc(), &players, *workers, *from, wanted)?;
+    }
+    Ok(())
+}
+
 // Words of the same round, how many workers meet in it, and its counts if they are requested. No more meet than there
 // are turns. A worker that stays ready calls the gate even if it is alone, and all of them do so in each window;
 // otherwise the committer would do it for them.
-const MET: [(&str, usize, &str); 9] = [
+const MET: [(&str, usize, &str); 10] = [
     (
         "run w r b --seed 12345 --rounds 1 --dump 1 --workers 2",
         2,
         "",
+    ),
+    (
+        "run w r b --seed 12345 --rounds 1 --dump 1 --stats --workers 2",
+        2,
+        "turns 7 taken 5 redone 2\n",
     ),
     (
         "run w r b --seed 12345 --rounds 1 --dump 1 --workers 2 --far",
