@@ -1,4 +1,4 @@
-// The commands: each reads what it asks for, carries it out and writes its text.
+// The commands: each reads its files, carries out its work and writes its text.
 ghost use Rattle.std.specs.Prelude.{◌≡◌};
 ghost use Rattle.command_words.specs.Command.{AskedWithin, plain};
 ghost use Rattle.command_words.specs.Limits.{IsWithin};
@@ -60,8 +60,8 @@ use round_book::Crew;
 use std::alloc::Global;
 use tournament::{Pairing, Played};
 
-/// Hands a command line to its command's own function, with a crew, if it plays in windows, and with a function that
-/// plays games, if it is a cup.
+/// Passes a command line to its command's own function, with a crew if it plays in windows, and with a function that
+/// plays games if it is a cup.
 pub fn dispatch<
     'w,
     C: Crew,
@@ -179,7 +179,7 @@ pub fn dispatch<
     }
 }
 
-/// How many workers a command line names for its windows; one where it plays none.
+/// How many workers a command line names for its windows; one if it plays none.
 pub fn workers_in(asked: Asked<'_>) -> u32
     requires { AskedWithin (plain asked) }
     ensures named { result ≡ workers_named (job_of (plain asked.entry)) }

@@ -82,7 +82,7 @@ fn carry_out_alone<'w, S: Shelf, K: Sink>(
     dispatch(alloc, &mut SoloCrew::new(), &play, asked, shelf, out)
 }
 
-// Carries out the command that the words are, where `--far` is no option.
+// Carries out the command that the words are; `--far` is an unknown option.
 fn read_and_carry_out<'w, R: Threads + Sync, S: Shelf, K: Sink, G: Gate>(
     rt: &R,
     alloc: Global,
@@ -99,7 +99,7 @@ fn read_and_carry_out<'w, R: Threads + Sync, S: Shelf, K: Sink, G: Gate>(
     }
 }
 
-// Carries out the command that the words are on the caller's thread alone, where `--far` is no option.
+// Carries out the command that the words are on the caller's thread alone; `--far` is an unknown option.
 fn read_and_carry_out_alone<'w, S: Shelf, K: Sink>(
     alloc: Global,
     words: &'w [String],
@@ -114,7 +114,7 @@ fn read_and_carry_out_alone<'w, S: Shelf, K: Sink>(
     }
 }
 
-// Carries out a command by standing workers, where it is a run.
+// Carries out a command; a run is played by workers that stay ready for the whole game.
 fn carry_out_far<'w, R: Threads + Wait + Sync, S: Shelf, K: Sink, G: Gate>(
     rt: &R,
     alloc: Global,
@@ -132,7 +132,7 @@ fn carry_out_far<'w, R: Threads + Wait + Sync, S: Shelf, K: Sink, G: Gate>(
     }
 }
 
-// Carries out the command that the words are, by standing workers where it is a run.
+// Carries out the command that the words are; a run is played by workers that stay ready for the whole game.
 fn read_and_carry_out_far<'w, R: Threads + Wait + Sync, S: Shelf, K: Sink, G: Gate>(
     rt: &R,
     alloc: Global,
@@ -149,31 +149,31 @@ fn read_and_carry_out_far<'w, R: Threads + Wait + Sync, S: Shelf, K: Sink, G: Ga
     }
 }
 
-/// The whole program without standing workers, over a shelf of files, an output and a place for faults. It knows no
-/// option `--far`.
+/// The whole program without `--far`, which is an unknown option here, over a shelf of files, an output and a sink for
+/// errors.
 ///
 /// `words` doesn't have the program's name. The words are read first. Then each file is fetched and read before the
 /// next one, in the order of its word, and each once. Then the text is written. The result is
 /// - `Done`: all files of the command were fetched and accepted. The output got the text for what was read from them
 ///   and nothing else; the errors got nothing.
-/// - `Words`: exactly if the words are no command; nothing was fetched, and the output got nothing.
+/// - `Words`: exactly if the words are not a command; nothing was fetched, and the output got nothing.
 /// - `Read`: the last fetch failed, the shelf wasn't sure of its file, and each file before it was accepted; the output
 ///   got nothing.
 /// - `Write`: all files were fetched and accepted, and the output failed and got a prefix of the text.
-/// - `Input`: the last file that was fetched is too long, not in its grammar, or a save beyond the rounds, and each
-///   before it was accepted; or an element of the world to be generated has no room. The output got nothing.
+/// - `Input`: the last file that was fetched is too long, not in its grammar, or a save with too many rounds done, and
+///   each before it was accepted; or an element of the world to be generated has no room. The output got nothing.
 /// - `Memory`: memory ran out; no fetch failed or was too long. Either each file except perhaps the last was accepted,
 ///   and the output got nothing; or all files of a `run`, a `resume` or a `cup` with `--games`, which write while they
-///   play, were accepted, and the output got a proper prefix of the text: of a cup the lines of all games on its first
-///   worlds.
+///   play, were accepted, and the output got a proper prefix of the text. For a cup, these are the lines of all games
+///   on its first worlds.
 ///
-/// After each except `Done` the errors got one line, which names the word (from 1), or the file and the place in it; or
-/// a prefix of that line, if the errors failed. The shelf keeps its contents and all of which it is sure, its log grows
-/// by the fetches, and its count of faults rises only if it isn't sure of some name that was fetched. The runtime
-/// serves the workers of a game and of a cup; a game's workers call the gate before each look.
+/// After each of these except `Done` the errors got one line, which names the word (from 1), or the file and the place
+/// in it. If the errors failed, they got a prefix of that line. The shelf's contents and the names of which it is sure
+/// are unchanged, its log grows by the fetches, and its count of faults rises only if it isn't sure of a name that was
+/// fetched. The workers of a game or a cup are threads of the runtime; a game's workers call the gate before each look.
 ///
 /// The clause has a field for each of these promises. The first, `run`, implies all others, by `promised_run` of
-/// proofs/Verdicts.antt. They are there for callers, each in words of its own.
+/// proofs/Verdicts.antt. The others state its parts for callers.
 pub fn run_here<R: Threads + Sync, S: Shelf, K: Sink, E: Sink, G: Gate>(
     rt: &R,
     alloc: Global,
@@ -190,8 +190,8 @@ pub fn run_here<R: Threads + Sync, S: Shelf, K: Sink, E: Sink, G: Gate>(
     report(ended, err)
 }
 
-/// Does what `run_here` does on the caller's thread alone, without a runtime, and returns how the run ended: with its
-/// whole text, at a refused word, or as its command stopped. Windows and cups that name more workers are played on this
+/// Does what `run_here` does on the caller's thread alone, without a runtime. It returns how the run ended: with its
+/// whole text, at a refused word, or with its command's stop. A window or a cup for more workers is played on this
 /// thread too, with the same text.
 pub fn run_alone<'w, S: Shelf, K: Sink, E: Sink>(
     alloc: Global,
@@ -208,11 +208,11 @@ pub fn run_alone<'w, S: Shelf, K: Sink, E: Sink>(
     ended
 }
 
-/// Does all that the program does, over a shelf of files, an output and a place for faults. It calls `run_here`, unless
-/// the command is `run` and some word is `--far`. Such a run's workers stand by for the whole game, and the call may
-/// wait for one of them; what it promises holds if it returns.
+/// Does everything that the program does, over a shelf of files, an output and a sink for errors. It calls `run_here`,
+/// unless the command is `run` and some word is `--far`. Then the workers stay ready for the whole game, and the call
+/// may wait for one of them; its promise holds if it returns.
 ///
-/// The clause is that of `run_here`, of all words, whose doc says which status comes when.
+/// The clause is that of `run_here`, for all words; the doc of `run_here` says when each status is returned.
 pub fn run_ants<R: Threads + Wait + Sync, S: Shelf, K: Sink, E: Sink, G: Gate>(
     rt: &R,
     alloc: Global,
@@ -232,7 +232,7 @@ pub fn run_ants<R: Threads + Wait + Sync, S: Shelf, K: Sink, E: Sink, G: Gate>(
     report(ended, err)
 }
 
-// Says how a run ended, where it is not done.
+// Reports how a run ended, unless it is done.
 fn report<E: Sink>(ended: Ended<'_>, err: &mut E) -> Status
     ensures reports { Reports (E.state err.old) (E.state err.new) (plain_ending ended.entry) }
     ensures status { result ≡ ending_status (plain_ending ended.entry) }
@@ -244,7 +244,7 @@ fn report<E: Sink>(ended: Ended<'_>, err: &mut E) -> Status
     }
 }
 
-// Says which word is refused.
+// Reports the refused word.
 #[tactic(auto, unfolding(crate::specs::FaultLines::word_line))]
 fn report_word<E: Sink>(word: usize, err: &mut E) -> Status
     ensures reports { GotLine (E.state err.old) (E.state err.new) (word_line word) }
@@ -254,7 +254,7 @@ fn report_word<E: Sink>(word: usize, err: &mut E) -> Status
     Status::Words
 }
 
-// Says why a command stopped.
+// Reports why a command stopped.
 fn report_stop<E: Sink>(stop: &CommandStop<'_>, err: &mut E) -> Status
     ensures reports { GotLine (E.state err.old) (E.state err.new) (fault_line (reason_of stop.now)) }
     ensures status { result ≡ status_of (reason_of stop.now) }
@@ -263,8 +263,8 @@ fn report_stop<E: Sink>(stop: &CommandStop<'_>, err: &mut E) -> Status
     stop.status()
 }
 
-/// Does what `run_ants` does, and gives the number of its status as an exit code: all that `main` does once it has its
-/// words and its memory.
+/// Does what `run_ants` does, and returns the number of its status as an exit code: everything that `main` does after
+/// it has its words and its memory.
 pub fn run_to_exit<R: Threads + Wait + Sync, S: Shelf, K: Sink, E: Sink, G: Gate>(
     rt: &R,
     alloc: Global,
@@ -280,7 +280,8 @@ pub fn run_to_exit<R: Threads + Wait + Sync, S: Shelf, K: Sink, E: Sink, G: Gate
     exit_of(run_ants(rt, alloc, words, shelf, out, err, gate))
 }
 
-/// Says that memory can't be had, and gives that status as an exit code: what `main` does before it has a command.
+/// Reports that memory ran out, and returns that status as an exit code: what `main` does if it has no memory for the
+/// words or the buffer.
 pub fn exit_without_memory<E: Sink>(err: &mut E) -> ExitCode
     ensures reports { GotLine (E.state err.old) (E.state err.new) (fault_line AtMemory) }
     ensures status { exit_status result ≡ status_number Status.Memory }

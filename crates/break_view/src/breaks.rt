@@ -5,20 +5,20 @@ ghost use Rattle.break_view.specs.Grammar.{most_breaks};
 use cell_world::Colour;
 use std::marker::Model;
 
-/// A break: what is looked for after each turn of a game. Every number is from 0 to 4,294,967,295.
+/// A break: a condition that is checked after each turn of a game. Every number is from 0 to 4,294,967,295.
 #[derive(Clone, Copy, Debug, PartialEq, Eq)]
 pub enum Break {
-    /// Holds after each turn of the round of this number, counted from 1.
+    /// Holds after each turn of the round with this number, counted from 1.
     Round(u32),
-    /// Holds after the turn of an ant that is alive then, of this colour and in this state.
+    /// Holds after the turn of an ant of this colour, if it is then alive and in this state.
     State { colour: Colour, state: u32 },
     /// Holds if an ant of this colour is on the cell in column `x` of row `y`, both counted from 0.
     Stand { colour: Colour, x: u32, y: u32 },
     /// Holds if the cell in column `x` of row `y` is clear and has at least this number of food particles.
     Food { x: u32, y: u32, least: u32 },
-    /// Holds where the ant of this id, counted from 0, was made and is dead.
+    /// Holds if there was an ant with this id, counted from 0, and it is dead.
     Killed { id: u32 },
-    /// Holds where the food on the cells of this colour's hill is at least so much.
+    /// Holds if the cells of this colour's hill have at least this number of food particles in total.
     Score { colour: Colour, least: u32 },
 }
 
@@ -56,8 +56,7 @@ impl Breaks {
         self.list.len()
     }
 
-    /// The break at place `i`, counted from 0 and below the length; it is the break of number `i + 1`. It takes no
-    /// memory.
+    /// The break at place `i`, counted from 0 and below the length. Its number is `i + 1`. It takes no memory.
     pub fn item(&self, i: usize) -> Break
         requires { i < length self.now }
         ensures { slice_get self.now i ≡ Some result }

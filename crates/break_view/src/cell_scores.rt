@@ -1,10 +1,10 @@
-// The score of a world, counted on from turn to turn.
+// The score of a world, kept up to date from turn to turn.
 ghost use Rattle.std.specs.Prelude.{◌≡◌, ◌+◌, ◌-◌};
 ghost use Rattle.break_view.specs.Inner.CellScores as cell_scores;
 
 use cell_world::{Cell, Colour, Score};
 
-// The food that a cell gives to the hills: none where there is no cell.
+// The food that a cell adds to the hills: none if there is no cell.
 #[inline]
 pub(crate) fn score_in_any(cell: Option<Cell>) -> Score
     ensures { result ≡ cell_scores.score_in_any cell }
@@ -15,7 +15,7 @@ pub(crate) fn score_in_any(cell: Option<Cell>) -> Score
     }
 }
 
-// The food that a cell gives to the hills: all that lies on it, to the hill to which it belongs.
+// The food that a cell adds to the hills: all that lies on it, for the hill to which it belongs.
 #[inline]
 fn score_in(cell: Cell) -> Score
     ensures { result ≡ cell_scores.score_in cell }
@@ -33,7 +33,7 @@ fn score_in(cell: Cell) -> Score
     }
 }
 
-// The score where a cell gives this now, in place of what it gave before.
+// The score after a cell adds this, instead of what it added before.
 #[inline]
 pub(crate) fn count_again(score: Score, before: Score, now: Score) -> Score
     requires { cell_scores.CanCount score before now }

@@ -8,21 +8,21 @@ use std::alloc::{AllocError, AllocFailed};
 use std::error::Error;
 use std::fmt;
 
-/// The fault of a text that is no list of breaks: the first line at fault, with its first position at fault. Lines are
-/// counted from 1, lines without a token included.
+/// The fault of a text that is not a list of breaks: the first line at fault, with its first position at fault. Lines
+/// are counted from 1, including lines without a token.
 #[derive(Clone, Copy, Debug, PartialEq, Eq)]
 pub enum BreakFault {
-    /// A token that should be a word is none of its position.
+    /// The position needs a word, and its token is none that it accepts.
     UnknownWord { line: u32 },
-    /// A position that the form needs has no token.
+    /// The line's form needs one more token.
     MissingToken { line: u32 },
-    /// A token that should be a number is none from 0 to 4,294,967,295.
+    /// The position needs a number, and its token is not a number from 0 to 4,294,967,295.
     BadNumber { line: u32 },
-    /// A token stands beyond the end of the form.
+    /// A token follows the end of the line's form.
     ExtraToken { line: u32 },
-    /// The line has a token, and 256 breaks were read before it.
+    /// The line has a token, but 256 breaks were read before it.
     TooMany { line: u32 },
-    /// Memory could not be had; it says nothing of the text.
+    /// Memory ran out; this says nothing about the text.
     OutOfMemory,
 }
 
@@ -80,7 +80,7 @@ impl<T: Drop> From<AllocFailed<T>> for BreakFault {
     }
 }
 
-// The fault of the line of this number, from 1, whose first position at fault has this fault.
+// The fault of the line with this number, from 1, if its first position at fault has this fault.
 pub(crate) fn fault_at(line: u32, fault: LineFault) -> BreakFault
     ensures { result ≡ fault_at line fault }
 {

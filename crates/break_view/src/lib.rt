@@ -1,12 +1,13 @@
-//! Breakpoints: after which turn of a game something first holds, and how the world is then.
+//! Breakpoints: the first turn of a game after which a condition holds, and the world after that turn.
 //!
-//! All of it is this project's own; turns and rounds are the task's kinetics. A [`Break`] says what is looked for after
-//! each turn: that a round has come, that the ant whose turn it was is in a state, that an ant stands on a cell, that
-//! food lies there, that an ant was killed, or that a hill has its food. [`read_breaks`] answers exactly the list of a
-//! text of breaks or exactly its fault; [`find_stop`] plays a game to the first turn after which some break holds,
-//! which is the least by round and then by id, and leaves the world as it is then; [`find_stop_from`] does so for the
-//! turns from a given round on; [`push_view`] pushes the text of it. This crate stands on `match_run`, `ant_turn`,
-//! `dump_print`, the tokens of `line_tokens` and the tables of `word_table`.
+//! All of it is this project's own, except that turns and rounds are the task's kinetics. A [`Break`] is a condition
+//! that is checked after each turn: that a round has begun, that the ant whose turn it was is in a state, that an ant
+//! is on a cell, that food lies there, that an ant was killed, or that a hill has an amount of food. [`read_breaks`]
+//! returns exactly the list of a text of breaks, or exactly its fault. [`find_stop`] plays a game to the first turn
+//! after which a break holds, and leaves the world as it is then; the first turn is the one of the least round, and in
+//! that round of the least id. [`find_stop_from`] does so for the turns from a given round on. [`push_view`] pushes the
+//! text of a view. This crate depends on `match_run`, `ant_turn`, `dump_print`, the tokens of `line_tokens` and the
+//! tables of `word_table`.
 #![tactic(auto)]
 
 mod breaks;

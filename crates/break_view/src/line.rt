@@ -26,7 +26,7 @@ pub(crate) fn break_of(tokens: &mut Tokens) -> Result<Break, Refusal>
     }
 }
 
-// The next token, which should be the word of a colour.
+// The next token, which has to be the word of a colour.
 #[tactic(auto, unfolding(crate::specs::Inner::Steps::take_colour))]
 fn colour(tokens: &mut Tokens) -> Result<Colour, Refusal>
     ensures { steps.take_colour tokens.old ≡ with_rest tokens.new result }
@@ -35,7 +35,7 @@ fn colour(tokens: &mut Tokens) -> Result<Colour, Refusal>
     Ok(colour_at(place))
 }
 
-// The next token, which should be a number.
+// The next token, which has to be a number.
 #[tactic(auto, unfolding(crate::specs::Inner::Steps::take_any))]
 fn number(tokens: &mut Tokens) -> Result<u32, Refusal>
     ensures { steps.take_any tokens.old ≡ with_rest tokens.new result }

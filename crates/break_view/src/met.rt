@@ -38,8 +38,8 @@ pub(crate) fn first_met(
     None
 }
 
-// The same after a turn of which it is known whether breaks other than those of states can hold otherwise than before
-// it. In the first turn of a round each is asked, since then it is another round.
+// The same. `same` says that the turn can only have changed breaks of states; then the others aren't checked, except
+// after the first turn of a round, since the round is a new one.
 pub(crate) fn met_now(
     watch: Watch<'_>,
     world: &World,
@@ -64,7 +64,7 @@ pub(crate) fn met_now(
     first_met(watch.items, world, score, round, id)
 }
 
-// Whether no break has to be asked.
+// Whether no break has to be checked.
 #[inline]
 fn is_skipped(named: bool, id: u32, same: bool) -> bool
     ensures { IsTrue result → (named ≡ false) × (0 < id) × IsTrue same }
@@ -82,8 +82,8 @@ fn ant_of(world: &World, id: u32) -> Option<Ant>
     world.cell(place).ant
 }
 
-// Whether a break holds in a world of this score after the turn of an id in a round, where this ant has the id, or it
-// is dead.
+// Whether a break holds in a world with this score after the turn of an id in a round. The id's ant is this one, or
+// dead if there is none.
 fn meets(item: Break, world: &World, score: Score, ant: Option<Ant>, round: u32) -> bool
     requires { score ≡ score_of (world_of world.now) }
     ensures { (t : ℕ) → ant ≡ met.ant_at (world_of world.now) (place_in (world_of world.now) t)
@@ -110,7 +110,7 @@ fn food_of(score: Score, colour: Colour) -> u32
     }
 }
 
-// Whether there is an ant, of this colour and in this state.
+// Whether there is an ant, and it has this colour and this state.
 fn is_in_state(colour: Colour, state: u32, ant: Option<Ant>) -> bool
     ensures { result ≡ met.is_in_state colour state ant }
 {
@@ -120,7 +120,7 @@ fn is_in_state(colour: Colour, state: u32, ant: Option<Ant>) -> bool
     }
 }
 
-// Whether an ant of this colour stands on the cell in column `x` of row `y`.
+// Whether an ant of this colour is on the cell in column `x` of row `y`.
 fn is_manned(world: &World, colour: Colour, x: u32, y: u32) -> bool
     ensures { result ≡ met.has_ant_of colour (met.clear_cell (world_of world.now) x y) }
 {
@@ -130,7 +130,7 @@ fn is_manned(world: &World, colour: Colour, x: u32, y: u32) -> bool
     }
 }
 
-// Whether the cell in column `x` of row `y` is clear and has at least so many food particles.
+// Whether the cell in column `x` of row `y` is clear and has at least this number of food particles.
 fn is_fed(world: &World, x: u32, y: u32, least: u32) -> bool
     ensures { result ≡ met.is_fed least (met.clear_cell (world_of world.now) x y) }
 {
@@ -140,14 +140,14 @@ fn is_fed(world: &World, x: u32, y: u32, least: u32) -> bool
     }
 }
 
-// Whether an id was made and no cell holds its ant.
+// Whether an id was assigned and no cell holds its ant.
 fn is_dead(world: &World, id: u32) -> bool
     ensures { result ≡ (nat_lt id world.now.ids && not (is_some (place_in (world_of world.now) id))) }
 {
     id < world.ant_count() && world.ant_place(id).is_none()
 }
 
-// The cell in column `x` of row `y`, where it is inside and clear.
+// The cell in column `x` of row `y`, if it is inside and clear.
 fn clear_cell(world: &World, x: u32, y: u32) -> Option<Cell>
     ensures { result ≡ met.clear_cell (world_of world.now) x y }
 {

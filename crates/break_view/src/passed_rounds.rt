@@ -1,4 +1,4 @@
-// Rounds that are played before breaks are looked for.
+// Rounds that are played before breaks are checked.
 ghost use Rattle.std.specs.Prelude.{◌≡◌, ◌+◌, ◌*◌, ◌<◌, ◌≤◌, ◌^◌};
 ghost use Rattle.ant_turn.specs.Minds.{Fits, minds_of};
 ghost use Rattle.ant_turn.specs.Rounds.{after_rounds};
@@ -11,7 +11,7 @@ use ant_turn::Brains;
 use cell_world::World;
 use match_run::{Nobody, watch_rounds};
 
-// Plays so many rounds, and looks at none of their turns.
+// Plays this number of rounds, and checks no break after their turns.
 pub(crate) fn pass_rounds(world: &mut World, brains: Brains<'_>, stream: &mut Stream, rounds: u32)
     requires fit { Fits (world_of world.old) (minds_of brains) }
     requires place { stream.old.place + rounds * most_ants < 2 ^ 63 }

@@ -21,8 +21,8 @@ use std::alloc::Global;
 const MOST_BREAKS: usize = 256;
 
 /// The breaks of a text of at most 4,194,304 bytes, or the text's fault, with its line from 1. `OutOfMemory` may be
-/// answered at any text; every other answer follows from the text alone, since every text has one list of breaks or one
-/// fault.
+/// returned for any text. Every other result follows from the text alone, since every text has one list of breaks or
+/// one fault.
 pub fn read_breaks(alloc: Global, text: &[u8]) -> Result<Breaks, BreakFault>
     requires { length text.now ≤ longest }
     ensures breaks { IfOk result (λ list. IsBreakText text.now list) }
@@ -50,7 +50,7 @@ fn read_list(alloc: Global, text: &[u8]) -> Result<Vec<Break>, BreakFault>
     Ok(list)
 }
 
-// Reads the line of this number: adds its break, where it has a token.
+// Reads the line with this number, and adds its break, if it has a token.
 fn read_line(line: &[u8], number: u32, list: &mut Vec<Break>) -> Result<(), BreakFault>
     requires few { vec_len list.old ≤ most_breaks }
     ensures few { OnOk result (vec_len list.new ≤ most_breaks) }
@@ -68,7 +68,7 @@ fn read_line(line: &[u8], number: u32, list: &mut Vec<Break>) -> Result<(), Brea
     Ok(())
 }
 
-// The break of a line before which so many stand.
+// The break of a line that this number of breaks precede.
 #[tactic(auto, unfolding(line_tokens::specs::Inner::LineByLine::judged_line))]
 fn item_of(tokens: &mut Tokens, line: u32, before: usize) -> Result<Break, BreakFault>
     ensures read { judged_line break_reader before line tokens.old ≡ result }

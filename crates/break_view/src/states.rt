@@ -1,4 +1,4 @@
-// The states for which breaks ask, in a table for each colour.
+// The states that breaks name, in a table for each colour.
 ghost use Rattle.std.specs.Prelude.{◌≡◌, ℕ, true, slice_index_or};
 ghost use Rattle.std.specs.List.{All};
 ghost use Rattle.cell_world.specs.declared.ant.Colour.TheVariants.{Red, Black};
@@ -8,7 +8,7 @@ ghost use Rattle.break_view.specs.Inner.Changes as changes;
 use crate::breaks::Break;
 use cell_world::{Ant, Colour};
 
-// The breaks of a list, and the tables that name the states for which they ask.
+// The breaks of a list, and the tables of the states that they name.
 #[derive(Clone, Copy)]
 pub(crate) struct Watch<'a> {
     pub(crate) items: &'a [Break],
@@ -16,8 +16,8 @@ pub(crate) struct Watch<'a> {
     pub(crate) black: &'a [bool],
 }
 
-// Names the states for which these breaks ask, in the table of each colour. A table names every state beyond its
-// length.
+// Adds the states that these breaks name to the table of each colour. A table counts every state beyond its length as
+// named.
 pub(crate) fn name_states(items: &[Break], red: &mut [bool], black: &mut [bool])
     ensures { All (changes.IsNamed red.new black.new) items.now }
 {
@@ -38,7 +38,7 @@ fn name_state(item: Break, red: &mut [bool], black: &mut [bool])
     }
 }
 
-// Names a state in a table.
+// Adds a state to a table.
 fn name(table: &mut [bool], state: u32)
     ensures named { slice_index_or table.new state true ≡ true }
     ensures kept { (other : ℕ) → slice_index_or table.old other true ≡ true → slice_index_or table.new other true ≡ true }

@@ -34,7 +34,7 @@ pub struct Stop {
 }
 
 /// Plays a game until a break holds after a turn, and returns the first such stop; `None` exactly if no break holds
-/// after any turn. Breaks are looked for from the first turn of round 1 on; all else is as with [`find_stop_from`].
+/// after any turn. Breaks are checked from the first turn of round 1 on. Everything else is as with [`find_stop_from`].
 pub fn find_stop(
     world: &mut World,
     brains: Brains<'_>,
@@ -52,19 +52,19 @@ pub fn find_stop(
 /// Plays a game until a break holds after a turn of a round from `from` on, and returns the first such stop; `None`
 /// exactly if no break holds after any turn of these rounds.
 ///
-/// Each ant's state is below the length of its colour's brain, as in every opening world; the seed is any, and the
-/// rounds are at most 1,000,000. The first round, `from`, is any: with 0 and 1 breaks are looked for from the first
-/// turn on, and above the rounds never. The turns are those of the ids in rising order, from 0, round after round, with
-/// the random numbers of the seed from place 0 on; the turn of a dead id is a turn. The world is left as it is after
-/// the stop's turn, or after all rounds. A break that holds before the first turn of round `from` counts only if it
-/// holds after it.
+/// Each ant's state is below the length of its colour's brain, as in every opening world. The seed is any, and there
+/// are at most 1,000,000 rounds. The first round, `from`, is any: with 0 or 1 breaks are checked from the first turn
+/// on, and if it is above the rounds, never. In each round the ids take their turns in rising order, from 0, with the
+/// random numbers of the seed from place 0 on. The turn of a dead ant counts as a turn. The world is left as it is
+/// after the stop's turn, or after all rounds. A break that holds before the first turn of round `from` counts only if
+/// it also holds after that turn.
 ///
-/// It takes no memory. The rounds before `from` are played as a game is that nobody watches. In the others the breaks
-/// are asked one by one only after the first turn of a round, after a turn in which an ant went, was killed or changed
-/// the food of its cell, and where a break asks for the state that the ant has then, which a table of each colour
-/// names; no other turn can make a break hold. Each costs one look-up at most: of a cell, of the place of an ant, or of
-/// the food on the hills, which is kept from turn to turn. All cells are looked at only once, and once more after each
-/// turn that killed.
+/// It takes no memory. The rounds before `from` are played with nobody watching. In the others, all breaks are checked
+/// after the first turn of a round, and after a turn in which an ant moved, was killed or changed the food of its cell.
+/// After any other turn they are checked only if a break names the ant's new state, which a table for each colour says;
+/// otherwise no break can hold. Each break costs at most one look-up: of a cell, of an ant's position, or of the food
+/// on the hills, which is kept from turn to turn. All cells are read once at the start, and again after each turn that
+/// killed.
 pub fn find_stop_from(
     world: &mut World,
     brains: Brains<'_>,
@@ -98,7 +98,7 @@ pub fn find_stop_from(
     None
 }
 
-// Plays the round of this number, to its end or to the first stop.
+// Plays the round with this number, to its end or to the first stop.
 fn stop_in_round(
     world: &mut World,
     brains: Brains<'_>,

@@ -10,9 +10,9 @@ use ant_base::{Failed, Layout, Sink, layout};
 use cell_world::World;
 use dump_print::{push_cells, push_seed};
 
-/// Pushes the text of a view: the line of the seed; then, at a stop, its line, as `stop: round 1, ant 1, break 1`, and
-/// the lines of the cells of the world; where there is none, the line `no stop in 5 rounds`, with the number of rounds
-/// that were to be played. Where the sink failed, a prefix of the text was pushed, and its count of faults rose. It
+/// Pushes the text of a view. First is the line of the seed. If there is a stop, its line follows, such as `stop: round
+/// 1, ant 1, break 1`, and the lines of the world's cells; otherwise the line `no stop in 5 rounds`, with the number of
+/// rounds that had to be played. At `Failed` a prefix of the text was pushed, and the sink's count of faults rose. It
 /// takes no memory.
 pub fn push_view<K: Sink>(
     world: &World,
@@ -27,7 +27,7 @@ pub fn push_view<K: Sink>(
     push_end(world, rounds, stop, sink)
 }
 
-// Pushes what stands behind the line of the seed.
+// Pushes what follows the line of the seed.
 fn push_end<K: Sink>(
     world: &World,
     rounds: u32,

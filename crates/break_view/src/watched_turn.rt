@@ -1,4 +1,4 @@
-// Turns that are watched: after which of them a break has to be asked.
+// Turns that are watched: after which of them a break has to be checked.
 ghost use Rattle.std.specs.Prelude.{◌≡◌, ◌+◌, ◌<◌, ◌^◌, ◌==◌, ◌&&◌, IsTrue, Some};
 ghost use Rattle.ant_turn.specs.Minds.{Fits, minds_of};
 ghost use Rattle.ant_turn.specs.Turn.{has_ant};
@@ -16,8 +16,8 @@ use ant_turn::{Brains, take_turn};
 use cell_world::{Cell, Ground, Score, World};
 use hex_geometry::Pos;
 
-// Takes the turn of an id, and keeps the score. Gives whether no break can hold otherwise than before, but those of
-// states: the ant was dead or rested; or nobody was killed, and the ant is left where it stood, on as much food.
+// Takes the turn of an id, and keeps the score up to date. Returns true if the turn can only have changed breaks of
+// states: the ant was dead or resting, or no ant was killed and the ant is where it was, on the same amount of food.
 pub(crate) fn take_watched(
     world: &mut World,
     brains: Brains<'_>,
@@ -51,7 +51,7 @@ fn is_idle(world: &mut World, id: u32) -> bool
     }
 }
 
-// The same, by what the turn did: if nobody was killed, the food changed on the ant's own cell alone, if at all.
+// The same for any ant, by what its turn did: if no ant was killed, food changed at most on the ant's own cell.
 #[inline(always)]
 fn take_acting(
     world: &mut World,
@@ -79,7 +79,7 @@ fn take_acting(
     }
 }
 
-// The cell at a place, where there is a place.
+// The cell at a position, if there is one.
 #[inline]
 fn cell_at(world: &World, place: Option<Pos>) -> Option<Cell>
     requires { (p : Pos) → place ≡ Some p → IsInside world.now.width world.now.height p }
@@ -91,7 +91,7 @@ fn cell_at(world: &World, place: Option<Pos>) -> Option<Cell>
     }
 }
 
-// The food on a cell: none where there is no cell.
+// The food on a cell: none if there is no cell.
 #[inline]
 fn food_in(cell: Option<Cell>) -> u32
     ensures { result ≡ changes.food_in cell }
@@ -102,7 +102,7 @@ fn food_in(cell: Option<Cell>) -> u32
     }
 }
 
-// Whether an ant stands on a cell with so much food, or there is no cell.
+// Whether the cell has an ant and this amount of food, or there is no cell.
 #[inline]
 fn is_left(cell: Option<Cell>, food: u32) -> bool
     ensures { result ≡ changes.is_left cell food }
@@ -113,7 +113,7 @@ fn is_left(cell: Option<Cell>, food: u32) -> bool
     }
 }
 
-// Whether a cell has an ant and so much food.
+// Whether a cell has an ant and this amount of food.
 #[inline]
 fn has_ant_on(cell: Cell, food: u32) -> bool
     ensures { result ≡ (has_ant cell.ant && (cell.food == food)) }

@@ -1,4 +1,4 @@
-// The words of breaks, and what they stand for.
+// The words of breaks, and what they mean.
 ghost use Rattle.std.specs.Prelude.{◌≡◌};
 ghost use Rattle.break_view.specs.Inner.Places as places;
 

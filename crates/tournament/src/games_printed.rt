@@ -20,11 +20,11 @@ use ant_base::{Failed, Layout, PushFault, Sink, layout};
 use hex_geometry::OutOfMemory;
 use std::alloc::Global;
 
-/// Pushes the line of each of these games, in their order, the first with this number, as `game 17: red 3 black 0, w,
-/// a, b`: the score, and the names of the world, of the red player and of the black player; where the format shows
-/// seeds as `game 17: red 3 black 0, seed 5, w, a, b`. Each world and player has a name, and the numbers are below
-/// 2^32. A game's world is a world with a seed, as in [`Seeds`]. Where the sink failed, a prefix of the lines was
-/// pushed, and its count of faults rose. It takes no memory.
+/// Pushes the line of each of these games, in their order; the first game has this number. A line such as `game 17: red
+/// 3 black 0, w, a, b` has the score, and the names of the world, of the red player and of the black player. If the
+/// format shows seeds, it is `game 17: red 3 black 0, seed 5, w, a, b`. Each world and player has a name, and the
+/// numbers are below 2^32. A game's world is a world with a seed, as in [`Seeds`]. At `Failed` a prefix of the lines
+/// was pushed, and the sink's count of faults rose. It takes no memory.
 pub fn push_games<K: Sink>(
     games: &[Played],
     first: u32,
@@ -87,7 +87,7 @@ fn push_game<K: Sink>(
     .push_to(sink)
 }
 
-// The part of a game's line that says its seed, if it is shown.
+// The part of a game's line that has its seed, if seeds are shown.
 #[derive(Clone, Copy)]
 struct SeedPart {
     shown: bool,
@@ -109,17 +109,17 @@ impl Layout for SeedPart {
     }
 }
 
-/// Plays all games of a cup of the players of these names, 2 to 16, on the worlds of these names, 1 to 16, with each of
-/// 1 to 1000 seeds, and pushes its text: the line of each game in the order of the cup, numbered from 1, and then the
-/// standing. Of a gauntlet these are the games of the first player. `play` plays the games on a world, as in
-/// [`play_all_by`](crate::play_all_by): the text is the same. Their lines are pushed once all of them were played, and
-/// before the first game on the next world: the referee has to know a game only where there is a sink that has the
-/// lines of all games on the worlds before it, and nothing else. Only the games on one world are kept at a time. What
-/// the referee gets as a world is a world with a seed, as in [`Seeds`].
+/// Plays all games of a cup between the players with these names, 2 to 16, on the worlds with these names, 1 to 16,
+/// with each of 1 to 1000 seeds, and pushes its text: the line of each game in the order of the cup, numbered from 1,
+/// and then the standing. In a gauntlet only the games of the first player are played. `play` plays the games on a
+/// world, as in [`play_all_by`](crate::play_all_by): the text is the same. The lines of a world are pushed after all
+/// its games were played, and before the first game on the next world. So the referee has to score a game only if some
+/// sink has the lines of all games on the worlds before it, and nothing else. Only the games on one world are kept at a
+/// time. The referee gets a world with a seed as its world, as in [`Seeds`].
 ///
-/// It is refused where the sink failed, whose count of faults rose then: a prefix of the text was pushed. Or it is out
-/// of memory, its own or that of `play`: the lines of all games on the first worlds, on none or on all, were pushed,
-/// and nothing else.
+/// The call fails if the sink fails: then a prefix of the text was pushed, and the sink's count of faults rose. It also
+/// fails if memory runs out, its own or that of `play`: then the lines of all games on the first worlds, on none or on
+/// all, were pushed, and nothing else.
 pub fn play_and_print<
     F: Referee,
     K: Sink,
@@ -159,8 +159,7 @@ pub fn play_and_print<
     Ok(())
 }
 
-// A cup whose games are printed: who makes the scores, the names of its worlds and of its players, and how many workers
-// play.
+// A cup whose games are printed: its referee, the names of its worlds and players, and the number of workers.
 #[derive(Drop)]
 struct Cup<'c, F: Referee> {
     referee: &'c F,
@@ -170,8 +169,8 @@ struct Cup<'c, F: Referee> {
     workers: u32,
 }
 
-// Plays the games on a world with each seed, adds them to the tally of those on the worlds before, and pushes their
-// lines. All memory is taken before the first line is pushed.
+// Plays the games on a world with each seed, adds them to the tally of the earlier worlds, and pushes their lines. All
+// memory is taken before the first line is pushed.
 fn print_world<F: Referee, K: Sink, P: Fn(&F, &[Pairing], u32) -> Result<Vec<Played>, OutOfMemory>>(
     alloc: Global,
     cup: &Cup<'_, F>,

@@ -14,15 +14,15 @@ use hex_geometry::OutOfMemory;
 use std::alloc::Global;
 use std::thread::Threads;
 
-/// Plays all games of a cup of 2 to 16 players on 1 to 16,000 worlds by 1 to 16 workers, and gives the standing of the
-/// referee's scores. On each world each pair of players plays twice, with the colours swapped (the task's game play);
-/// the standing is the same for each number of workers, which play as in [`play_games`]. The referee knows each of
-/// these games: any two different players, as red and as black, on each world. It is refused only when out of memory,
-/// its own or the referee's.
+/// Plays all games of a cup of 2 to 16 players on 1 to 16,000 worlds by 1 to 16 workers, and returns the standing by
+/// the referee's scores. On each world each pair of players plays twice, with the colours swapped (the task's game
+/// play). The standing is the same for each number of workers, which play as in [`play_games`]. The referee can score
+/// each of these games: any two different players, as red and as black, on each world. The call fails only if memory
+/// runs out, its own or the referee's.
 ///
-/// Given 2 players, one world, and a referee by whom player 1 wins the game in which it is red and the other game is
-/// drawn, it answers two lines: player 1 with 3 points, 1 won, 1 drawn, 0 lost; and then player 0 with 1 point, 0 won,
-/// 1 drawn, 1 lost.
+/// Suppose that there are 2 players and one world, that player 1 wins the game in which it is red, and that the other
+/// game is drawn. Then the standing has two lines: player 1 with 3 points, 1 won, 1 drawn, 0 lost; and then player 0
+/// with 1 point, 0 won, 1 drawn, 1 lost.
 pub fn play_all<R: Threads + Sync, F: Referee>(
     rt: &R,
     alloc: Global,
@@ -44,10 +44,10 @@ pub fn play_all<R: Threads + Sync, F: Referee>(
     play_all_by(alloc, referee, false, players, worlds, workers, &play)
 }
 
-/// Does what [`play_all`] does, of a gauntlet only the games of player 0. `play` plays the games, by 1 to 16 workers or
-/// on the caller's thread, as [`play_games`] and [`play_games_alone`] do: the standing is the same. It gets fewer than
-/// 4096 games at a time, and the counts and sums of those alone are kept, so that memory doesn't grow with the number
-/// of worlds. It is refused only when out of memory, its own or that of `play`.
+/// Does what [`play_all`] does; in a gauntlet only the games of player 0 are played. `play` plays the games, by 1 to 16
+/// workers or on the caller's thread, as [`play_games`] and [`play_games_alone`] do: the standing is the same. It gets
+/// fewer than 4096 games at a time, and only their counts and sums are kept, so memory doesn't grow with the number of
+/// worlds. The call fails only if memory runs out, its own or that of `play`.
 pub fn play_all_by<F: Referee, P: Fn(&F, &[Pairing], u32) -> Result<Vec<Played>, OutOfMemory>>(
     alloc: Global,
     referee: &F,
@@ -78,7 +78,7 @@ pub fn play_all_by<F: Referee, P: Fn(&F, &[Pairing], u32) -> Result<Vec<Played>,
     Ok(tally.standing())
 }
 
-// On how many worlds games are played at once: so many that they have fewer than 4096 games.
+// The number of worlds whose games are passed to `play` at once, such that they have fewer than 4096 games.
 fn most_at_once(players: u32) -> u32
     requires { (2 ≤ players) × (players ≤ 16) }
     ensures { (1 ≤ result) × (result ≤ 1024) }
@@ -86,10 +86,10 @@ fn most_at_once(players: u32) -> u32
     4096 / (players * players)
 }
 
-/// Plays the games of a cup, or of a gauntlet, of 2 to 16 players on 1 to 1024 worlds that follow one another, from
-/// this number on, and gives them with the referee's scores, in the order in which the cup has them. `play` plays them,
-/// as in [`play_all_by`]. The referee knows each of these games: any two different players, as red and as black. It is
-/// refused only when out of memory, its own or that of `play`.
+/// Plays the games of a cup, or of a gauntlet, of 2 to 16 players on 1 to 1024 consecutive worlds, from this number on,
+/// and returns them with the referee's scores, in the order of the cup. `play` plays them, as in [`play_all_by`]. The
+/// referee can score each of these games: any two different players, as red and as black. The call fails only if
+/// memory runs out, its own or that of `play`.
 pub fn play_worlds<F: Referee, P: Fn(&F, &[Pairing], u32) -> Result<Vec<Played>, OutOfMemory>>(
     alloc: Global,
     referee: &F,
@@ -111,9 +111,9 @@ pub fn play_worlds<F: Referee, P: Fn(&F, &[Pairing], u32) -> Result<Vec<Played>,
     play(referee, &games, workers)
 }
 
-/// Plays fewer than 2^30 games that the referee knows, in contiguous pieces by 1 to 16 workers, each in a thread of its
-/// own, and gives them in their order with the referee's scores. A worker that has no game starts no thread. It is
-/// refused only when out of memory, its own or the referee's.
+/// Plays fewer than 2^30 games that the referee can score, and returns them in their order with the referee's scores.
+/// Each of 1 to 16 workers plays a contiguous piece of them in a thread of its own. A worker that has no game starts no
+/// thread. The call fails only if memory runs out, its own or the referee's.
 pub fn play_games<R: Threads + Sync, F: Referee>(
     rt: &R,
     alloc: Global,
@@ -128,8 +128,8 @@ pub fn play_games<R: Threads + Sync, F: Referee>(
     play_together(rt, alloc, referee, &mut pieces, workers as usize)
 }
 
-/// Plays games that the referee knows one after another on the caller's thread, and gives them with the referee's
-/// scores. It is refused only when out of memory, its own or the referee's.
+/// Plays games that the referee can score, one after another on the caller's thread, and returns them with the
+/// referee's scores. The call fails only if memory runs out, its own or the referee's.
 pub fn play_games_alone<F: Referee>(
     alloc: Global,
     referee: &F,

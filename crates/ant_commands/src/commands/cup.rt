@@ -27,7 +27,7 @@ use tournament::{
     play_and_print, push_standing_with,
 };
 
-// What the files of a cup were read as.
+// The content of a cup's files.
 #[derive(Drop)]
 struct Roster {
     worlds: Vec<World>,
@@ -162,8 +162,8 @@ fn names_of(alloc: Global, words: &[String]) -> Result<Names, OutOfMemory>
     Ok(names)
 }
 
-/// Plays all games of a cup by the contest's rules, and writes its standing; where the games are wanted, their lines
-/// before it. All files are read before the first game.
+/// Plays all games of a cup by the contest's rules, and writes its standing. If the games are requested, their lines
+/// precede it. All files are read before the first game.
 pub fn cup<
     'w,
     S: Shelf,
