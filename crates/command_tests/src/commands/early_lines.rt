@@ -1,6 +1,7 @@
-// Lines that are written while a game is played: once the output fails at one, nothing more is played. Each game has a
-// million rounds of 16,361 turns, which take longer than a test may.
-use crate::commands::{CLOSED, check, cut, game_with};
+// Lines that are written while a game is played: once the output fails at one, nothing more is played. If no round
+// has a line, nothing is played at all. Each game has about a million rounds of 16,361 turns, which take longer than a
+// test may.
+use crate::commands::{CLOSED, check, cut, done, game_with};
 use std::alloc::Global;
 use std::process::Abort;
 use std::sync::Wait;
@@ -91,6 +92,32 @@ fn no_more_is_played_once_the_output_fails(rt: HostRuntime) -> Result<(), Fail> 
     let world = crowd(rt.alloc())?;
     for (line, held) in EARLY {
         check_early(&rt, rt.alloc(), &world, line, CLOSED, held)?;
+    }
+    Ok(())
+}
+
+// Words, and their whole text, which has no line of a round: no ant has the id, or no round is left.
+const UNPLAYED: [(&str, &str); 3] = [
+    (
+        "acts w r b --ant 16361 --seed 12345 --rounds 1000000",
+        "random seed: 12345\nno ant of id 16361\n",
+    ),
+    (
+        "trace w r b 16361 --seed 12345 --rounds 1000000",
+        "random seed: 12345\nno ant of id 16361\n",
+    ),
+    (
+        "trace w r b 0 --seed 12345 --rounds 999999 --from 1000000",
+        "random seed: 12345\n",
+    ),
+];
+
+#[test]
+fn nothing_is_played_where_no_round_has_a_line(rt: HostRuntime) -> Result<(), Fail> {
+    let world = crowd(rt.alloc())?;
+    for (line, text) in UNPLAYED {
+        let job = game_with(line, &world, "Flip 2 0 0", "Move 0 0", CLOSED);
+        check(&rt, rt.alloc(), &job, done(text))?;
     }
     Ok(())
 }

@@ -287,6 +287,34 @@ fn a_gauntlet_has_the_games_of_the_first_player(rt: HostRuntime) -> Result<(), F
     )
 }
 
+// How many lines the standing of a cup of 16 players on 40 worlds has: 9600 games, of which fewer than 4096 are to be
+// played at a time.
+fn lines_of_long_cup<R: Threads + Sync, F: Referee>(
+    rt: &R,
+    alloc: Global,
+    referee: &F,
+) -> Result<usize, OutOfMemory>
+    requires { (world red black : ℕ) → F.knows referee.now world red black }
+{
+    let play = |referee: &F, games: &[Pairing], workers: u32| -> Result<Vec<Played>, OutOfMemory>
+        requires { CanBePlayedBy workers (F.knows referee.now) games.now }
+        ensures { ArePlayed (F.score referee.entry.now) games.entry.now result }
+    {
+        if games.len() >= 4096 {
+            return Err(OutOfMemory);
+        }
+        played(rt, alloc, referee, games, workers)
+    };
+    let standing = play_all_by(alloc, referee, false, 16, 40, 1, &play)?;
+    Ok(standing.len())
+}
+
+#[test]
+fn a_long_cup_is_played_some_games_at_a_time(rt: HostRuntime) -> Result<(), Fail> {
+    assert_eq!(rt; lines_of_long_cup(&rt, rt.alloc(), &OneWin)?, 16);
+    Ok(())
+}
+
 // A game on world 7, without a cup: its winner is first, and a player without games last.
 #[test]
 fn a_standing_of_one_game_counts_it_alone(rt: HostRuntime) -> Result<(), Fail> {
