@@ -26,7 +26,7 @@ static void add_line(uint8_t *lines, size_t *length, const char *word) {
     *length += (size_t)sprintf((char *)lines + *length, "%s\n", word);
 }
 
-// Adds the file of this name behind the others, if there is one.
+// Adds the file with this name after the others, if it can be opened.
 static void add_file(const char *name) {
     FILE *file = file_count < FILES ? fopen(name, "rb") : NULL;
     if (!file) return;
