@@ -80,19 +80,21 @@ def planted_table():
 COSTS_SAY = """Processor seconds of `rt ci` for each crate. [gate_costs.txt](gate_costs.txt) says how they were
 measured. `.ci/gate-costs [CRATE..]` measures them again, and prints lines for that file.
 
-A crate with tests is proved twice. A crate with planted bugs is proved once more for them. One
-planted bug costs this proof; two or more share it, and each costs 10 to 40 seconds in addition.
+A crate with tests is proved twice. A crate with planted bugs is proved once more for them. If it has
+one planted bug, that bug costs this proof. If it has two or more, they share this proof, and each of
+them costs 10 to 40 seconds in addition.
 
 If the checker searches for the answer of a goal for seconds, write the answer down. Split a function
 that owns many values, since its cost grows faster than their number. A test that passes a table to a
 helper costs 1 to 5 seconds, and a test with assertions of its own 10 to 30. An example in `examples/`
-costs nothing here. Write a table of structs as a `static`. What texts cost grows with their number
+costs nothing here. Write a table of structs as a `static`. The cost of texts grows with their number
 times their length.
 """
 
 TRIED_SAYS = """`rt plant` makes bodies with bugs by itself, and tries them against the clauses of a function. The
 table says in how many functions it did so, how many bodies were refused, and how many were not tried
-because time ran out. Bugs *by hand* were put into the real code, one at a time.
+because time ran out. Bugs *by hand* were put into the real code, one at a time. A bug that *means the
+same* is none: the changed code does what the code did before.
 
 A body that returns out of memory instead of doing its work passes every clause, since out of memory
 may be returned at any time. So tests call each such function once with memory.
@@ -101,8 +103,9 @@ may be returned at any time. So tests call each such function once with memory.
 
 def gate_page():
     return (
-        "# The gate\n\nWhat the full check `rt ci` costs, which planted bugs it tries, and which other bugs were tried. Made\n"
-        "by `.ci/make-documents` from `docs/gate_costs.txt`, `docs/planted.txt`, `docs/mutants.txt` and the\nplanted bugs on disk.\n\n"
+        "# The gate\n\nThe gate is `.ci/run`: `rt ci`, and the repository's own checks around it. This page says what `rt ci`\n"
+        "costs, which planted bugs it tries, and which other bugs were tried. `.ci/make-documents` makes it from\n"
+        "`docs/gate_costs.txt`, `docs/planted.txt`, `docs/mutants.txt` and the planted bugs on disk.\n\n"
         "## What it costs\n\n" + COSTS_SAY + "\n" + cost_table()
         + "\n## Planted bugs and changed definitions\n\n" + mutants_text()
         + "\n## Bugs that were tried\n\n" + TRIED_SAYS + "\n" + planted_table()
