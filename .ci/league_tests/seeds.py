@@ -181,3 +181,20 @@ class Seeds(Folder):
         with open(result, "w") as file:
             file.write(text)  # a whole one of a form that no call writes
         self.assertEqual(self.bad("season"), told)
+
+    def test_mean_lead_of_a_season(self):
+        """The mean lead of a brain is that of its pairs of games, by examples/lead.awk over the games of a season or a cup."""
+        self.brains, self.count = ["step.brain", "sample.brain"], 3
+        self.play()
+        scores = {tuple(its): score for its, score in self.games([self.seed + it for it in range(self.count)])}
+        leads = []
+        for (seed, world, red, black), (its, others) in scores.items():
+            if red == "step.brain":
+                back = scores[seed, world, black, red]
+                leads.append(its - others + back[1] - back[0])
+        mean = sum(leads) / len(leads)
+        error = (sum((it - mean) ** 2 for it in leads) / len(leads) / (len(leads) - 1)) ** 0.5
+        told = "%d pairs of games: mean lead %.1f, standard error %.1f\n" % (len(leads), mean, error)
+        for printed in (self.good("season", "--games"), self.cup("--seeds", "3", "--games")):
+            ran = subprocess.run(["awk", "-v", "brain=step.brain", "-f", os.path.join(TOP, "examples", "lead.awk")], input=os.fsencode(printed), stdout=subprocess.PIPE, check=True)
+            self.assertEqual(os.fsdecode(ran.stdout), told)
