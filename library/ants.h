@@ -322,7 +322,7 @@ uint32_t ants_score(
     uint32_t seed, uint32_t rounds, struct ants_score_data *score, struct ants_fault_data *fault, uint8_t *words,
     size_t words_len);
 
-// Plays a game as `ants_score` does for each of these seeds, and reads the texts once (the task's
+// Plays a game as `ants_score` does for each of the seeds, and reads the texts once (the task's
 // game play). The status is that of `ants_score`, or
 // - 4: there is room for fewer scores than there are seeds.
 //
@@ -334,9 +334,9 @@ uint32_t ants_scores(
     const uint32_t *seeds, size_t seeds_len, uint32_t rounds, struct ants_score_data *scores, size_t scores_len,
     struct ants_fault_data *fault, uint8_t *words, size_t words_len);
 
-// Plays a game as `ants_score` does, and looks at it after each of these rounds (the task's game
-// play and biology). A look is the score, and an ant for each id of the game, in order. The ants of
-// a later round follow those of the round before it. The status is that of `ants_score`, or
+// Plays a game as `ants_score` does, and looks at it after each of the rounds (the task's game
+// play and biology). A look is the score, and an ant for each id of the game, in order. The ants
+// of a later round follow those of the round before it. The status is that of `ants_score`, or
 // - 2: a round isn't above the one before it, or is above 1,000,000;
 // - 4: there is room for fewer scores than there are rounds, or for fewer ants than all rounds have
 //   together.
@@ -368,8 +368,8 @@ uint32_t ants_look(
 // Or the call itself fails:
 // - 1: the words or the names aren't UTF-8, the number of sizes isn't the number of names, or the
 //   sizes don't add up to the length of `bytes`;
-// - 4: the output is longer than `out`, or the line is longer than `said`; both hold as much as
-//   they have room for.
+// - 4: the output is longer than `out`, or the line is longer than `said`; both hold the part
+//   that has room.
 //
 // `used` is the length of the output and `told` the length of the line, at 4 too. The rest of
 // `out` and `said` is unchanged. The fault is written at 2, 3 and 5 only. At 5 its words are the

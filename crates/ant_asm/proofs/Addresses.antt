@@ -71,7 +71,7 @@ module _ (P : Address → Type 0) where
     HoldsIn-all others path (suc k) (λ address among. each address (IsAmong-right (places_of block (path ++ k ∷ []) 0) (places_of others path (suc k)) address among)),
   )
 
-  -- and so of those from a place on
+  -- so it holds of those from a place on
   HoldsIn-from : (n : ℕ) (items : Items) (path : Address) (k : ℕ) → HoldsIn items path k → HoldsIn (from_place n items) path (k + n)
   HoldsIn-from zero items path k all = subst (HoldsIn items path) (let e : k ≡ k + 0 = omega arith in e) all
   HoldsIn-from (suc n) End path k all = tt
@@ -102,7 +102,7 @@ module _ (P : Address → Type 0) where
   first_of-holds (Use handed block others) path k after all follows =
       first_of-holds block (path ++ k ∷ []) 0 (first_of others path (suc k) after) all.0 (first_of-holds others path (suc k) after all.1 follows)
 
-  -- the fact holds of what a body's frame leads to
+  -- the fact holds of every address to which a body's frame leads
   record HoldsOf (body : Items) (frame : Frame) : Type 0 where
     items : HoldsIn body frame.path 0
     after : P frame.after
@@ -111,13 +111,13 @@ module _ (P : Address → Type 0) where
   first_at-holds : (body : Items) (frame : Frame) (k : ℕ) → HoldsOf body frame → P (first_at body frame k)
   first_at-holds body frame k holds = first_of-holds (from_place k body) frame.path k frame.after (HoldsIn-body k body frame.path holds.items) holds.after
 
-  -- of the targets of labels
+  -- it holds of the targets of labels
   target-holds : (body : Items) (frame : Frame) (k : ℕ) (label : Label) → HoldsOf body frame → P (target body frame k label)
   target-holds body frame k Next holds = first_at-holds body frame (suc k) holds
   target-holds body frame k (Place j) holds = first_at-holds body frame j holds
   target-holds body frame k (Parameter i) holds = holds.given i frame.after holds.after
 
-  -- of one of the targets of some labels
+  -- it holds of each target of some labels
   map-holds : (f : Label → Address) (labels : List Label) → ((label : Label) → P (f label)) → (i : ℕ) (other : Address) → P other → P (slice_index_or (map f labels) i other)
   map-holds f [] each i other holds = holds
   map-holds f (label ∷ labels) each zero other holds = each label
@@ -131,7 +131,7 @@ module _ (P : Address → Type 0) where
     given = map-holds (target body frame k) handed (λ label. target-holds body frame k label holds);
   }
 
-  -- of all targets of an instruction that was found
+  -- it holds of all targets of an instruction that was found
   abbrev Leads : Option Placed → Type 0
   Leads None = Unit {0}
   Leads (Some at) = (label : Label) → P (at.target label)
@@ -155,7 +155,7 @@ module _ (P : Address → Type 0) where
     or_first-leads None leads label = first
     or_first-leads (Some at) leads label = leads label
 
-    -- of the targets of every instruction
+    -- it holds of the targets of every instruction
     pub placed-leads : (address : Address) (label : Label) → P ((placed main address).target label)
     unfolding placed
     placed-leads address = or_first-leads (placed_at main address) (placed_at-leads address)

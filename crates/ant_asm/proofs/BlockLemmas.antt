@@ -93,7 +93,7 @@ module _ (p : Program) (number : ℕ) where
 
     module _ (new : Program) (current : new.current ≡ outer.main) (none : new.outer ≡ None) (bodies : new.bodies.items ≡ p.bodies.items ++ body ∷ [])
         (blocks : known_as new.blocks.entries ≡ with_name outer.name.now (length p.bodies.items) (known_as p.blocks.entries)) (unknown : new.unknown ≡ earlier p.unknown (unknown_of (open_seen (trees_of p.bodies.items) p.current))) where
-      -- what stands below, by its parts
+      -- the state below the line, by its parts
       parts : (main : Draft) (count : ℕ) (named : List ℕ → Option Block) → main ≡ open_seen (trees_of p.bodies.items) (main_of p.outer p.current) → count ≡ suc (length p.bodies.items) →
           named ≡ with_name outer.name.now (block_of (open_seen (trees_of p.bodies.items) p.current)) (blocks_seen p.bodies.items p.blocks.entries) →
           (let s : Standing = record { main = main; count = count; blocks = named; begun = None; unknown = new.unknown } in s) ≡ ended (Some (record { name = outer.name.now; line = outer.line; draft = open_seen (trees_of p.bodies.items) p.current })) (program_seen p)
@@ -119,7 +119,7 @@ module _ (p : Program) (number : ℕ) where
             ∙ seen-with;
       }
 
-      -- the names of blocks are of bodies that there are
+      -- the names of blocks are those of existing bodies
       inside-with : (name : List ℕ) (n : ℕ) → known_as new.blocks.entries name ≡ Some n → n < length (p.bodies.items ++ body ∷ [])
       inside-with name n known = go (bytes_eq outer.name.now name) (ap (λ (k : List ℕ → Option ℕ). k name) (sym blocks) ∙ known)
         where

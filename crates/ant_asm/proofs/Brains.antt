@@ -45,7 +45,7 @@ placed-ranged : (main : Items) (address : Address) → AreRanged main → IsInRa
 unfolding placed
 placed-ranged main address ranged = or_first-ranged main (placed_at main address) (placed_at-ranged main address ranged)
 
--- an instruction whose numbers are in their ranges is sound where its states are below the length
+-- an instruction whose numbers are in their ranges is sound if its states are below the length
 sound-below : (n : ℕ) (state : Label → ℕ) (action : Action Label) → ((label : Label) → state label < n) → IsInRange (bare_instruction action) → IsSound n (instruction_by state action)
 sound-below n state (Sense sight met unmet condition) below range = (below met, below unmet, range)
 sound-below n state (Mark i on) below range = (range, below on)

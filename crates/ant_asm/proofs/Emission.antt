@@ -114,7 +114,7 @@ module _ (main : Items) where
   abbrev pub assembled : Address → Instr
   assembled address = instruction_by (λ label. number ((placed main address).target label)) (placed main address).action
 
-  -- besides: all the body's addresses are main's, and the numbers are those of the frame
+  -- All addresses of the body are main's too, and the numbers are those of the frame.
   pub record IsNumbered (body : Items) (frame : Frame) (numbers : Numbers) : Type 0 where
     stands : Stands body frame numbers
     among : HoldsIn (IsAmong (places main)) body frame.path 0

@@ -1,4 +1,4 @@
--- First by its four cases, and Target by its three, as the rules tell them.
+-- The four cases of First, and the three of Target, as the rules have them.
 use Rattle.std.proofs.Common.{◌≡◌, ℕ, suc, List, [], ◌∷◌, ◌++◌, refl, sym, ap, ◌∙◌}
 use Rattle.ant_asm.specs.declared.action.Action.{Action}
 use Rattle.ant_asm.specs.declared.action.Label.{Label}
@@ -11,7 +11,8 @@ use Rattle.ant_asm.specs.Places.{Frame, beginning, first_at, first_of, inner, ma
 first_instruction : (items : Items) (frame : Frame) (k : ℕ) (action : Action Label) (others : Items) → from_place k items ≡ Do action others → first_at items frame k ≡ frame.path ++ k ∷ []
 first_instruction items frame k action others is = ap (λ (i : Items). first_of i frame.path k frame.after) is
 
--- item k is a use of a block that has an item: First of item 0 of its block, at the use path with k added last
+-- item k is a use of a block that has an item: First of item 0 of its block, and the path is that of the use, followed
+-- by k
 first_use : (items : Items) (frame : Frame) (k : ℕ) (handed : List Label) (block others : Items) → from_place k items ≡ Use handed block others → from_place (suc k) items ≡ others →
     first_at items frame k ≡ first_at block (inner items frame k handed) 0
 first_use items frame k handed block others is rest =
@@ -26,7 +27,7 @@ first_end block items frame j k handed is = ap (λ (i : Items). first_of i (fram
 first_main_end : (main : Items) (k : ℕ) → from_place k main ≡ End → first_at main (main_frame main) k ≡ beginning main
 first_main_end main k is = ap (λ (i : Items). first_of i [] k (beginning main)) is
 
--- next, a place of the body, and a parameter: where the label leads, at the use, that was handed for it
+-- `next`, a place of the body, and a parameter, which leads to where the label leads that the use gives for it
 target_next : (items : Items) (frame : Frame) (k : ℕ) → target items frame k Next ≡ first_at items frame (suc k)
 target_next items frame k = refl
 

@@ -16,7 +16,7 @@ use Rattle.ant_asm.specs.declared.action.Label.{Label}
 use Rattle.ant_asm.specs.Inner.Emission.{Numbers, number_first, offset}
 use Rattle.ant_asm.specs.Inner.Flat.{AreGood, HasGiven, IsGood, IsGoodItem, IsLabelOf, IsPlace, most, tree_at, tree_of, trees_from, trees_of}
 
--- what precedes a place, and what stands from it on, is all
+-- what precedes a place, and what is there from the place on, are all
 pub offset-rest : (k : ℕ) (items : Items) → offset k items + size_of (from_place k items) ≡ size_of items
 offset-rest (suc k) (Do action others) = let e : offset k others + size_of (from_place k others) ≡ size_of others = offset-rest k others in omega arith
 offset-rest (suc k) (Use handed block others) = let e : offset k others + size_of (from_place k others) ≡ size_of others = offset-rest k others in omega arith
@@ -154,7 +154,7 @@ parameter_given bodies number frame i known label given =
     let all : length frame.given.now ≡ body.0.parameters = given body.0 body.1 in
     omega arith
 
--- an element that there is, whatever stands for one that there isn't
+-- if an element exists, the default for a missing one doesn't matter
 pub get_or-any : {A : Type 0} (list : List A) (i : ℕ) (one other : A) → i < length list → slice_index_or list i one ≡ slice_index_or list i other
 get_or-any [] i one other inside = absurd (omega arith)
 get_or-any (x ∷ list) zero one other inside = refl
@@ -207,7 +207,7 @@ module _ {bodies : List Body} {number : ℕ} {body : Body} {k : ℕ} {item : Ite
   pub item_good : IsGoodItem bodies number body.parameters (length body.items.items) item
   item_good = all_at (IsGoodItem bodies number body.parameters (length body.items.items)) body.items.items k item (good_body bodies number body a.good a.known a.is).items (read_at body.items.items k item a.inside a.at)
 
-  -- where it is in the tree
+  -- the place of the item in the tree
   pub item_tree : from_place k (tree_at bodies number) ≡ with_item (trees_of bodies) item (from_place (suc k) (tree_at bodies number))
   item_tree =
       let tree : tree_at bodies number ≡ tree_of (trees_of bodies) body.items.items = tree_is bodies number body a.good a.known a.is in

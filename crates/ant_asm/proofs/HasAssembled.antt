@@ -25,7 +25,7 @@ use Rattle.ant_asm.proofs.Emission.{emitted-assembled, places_of-size}
 use Rattle.ant_asm.proofs.LineLemmas.{lines_decide}
 use Rattle.ant_asm.proofs.TextLemmas.{one_program, some}
 
--- each item expands to an instruction at least
+-- each item expands to at least one instruction
 abbrev AreSized : List ItemLine → Type 0
 AreSized [] = Unit {0}
 AreSized (read ∷ others) = (1 ≤ item_size read.item) × AreSized others
@@ -34,7 +34,7 @@ abbrev IsSizedBegun : Option Begun → Type 0
 IsSizedBegun None = Unit {0}
 IsSizedBegun (Some begun) = AreSized begun.draft.items
 
--- so do those of main, of the block that has begun, and each block that has ended
+-- so do the items of main, of the block that has begun, and of each block that has ended
 record IsSized (standing : Standing) : Type 0 where
   main : AreSized standing.main.items
   begun : IsSizedBegun standing.begun

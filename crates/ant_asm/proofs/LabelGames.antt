@@ -104,11 +104,11 @@ module _ (main : Items) (brain : List Instr) (list : List Address) (assembled : 
         agrees_side minds brain (bare_instruction at.action) side ant.colour ant.state
         (λ mine. ap (redirected (λ n. 0)) (own_instruction p ant found is mine) ∙ redirected-bare (state_of (addresses t)) at.action))
 
-    -- an ant that isn't of id t stays in its state, wherever t goes
+    -- an ant with another id than t stays in its state, whatever the address of t becomes
     others_stay : (address : Address) (ant : Ant) → t ≢ ant.id → InState addresses ant → InState (with_address addresses t address) ant
     others_stay address ant other state mine = state mine ∙ ap number (sym (with_address-other addresses t address ant.id other))
 
-    -- where t stays
+    -- all ants stay in their states, if the address of t is unchanged
     all_stay : (ant : Ant) → InState addresses ant → InState (with_address addresses t (addresses t)) ant
     all_stay ant state mine = state mine ∙ ap number (sym (with_address-same addresses t ant.id))
 
@@ -117,7 +117,7 @@ module _ (main : Items) (brain : List Instr) (list : List Address) (assembled : 
     own_goes address ant id state mine =
         state mine ∙ ap number (sym (ap (with_address addresses t address) id ∙ with_address-own addresses t address))
 
-    -- the others, where t is at p
+    -- the other ants stay in their states, if t is at p
     others_there : (address : Address) (p : Pos) → place_in w t ≡ Some p → OfOthers (InState (with_address addresses t address)) w.cells p
     others_there address p found q apart ant is =
         others_stay address ant (λ id. apart (valid.once t p q (place_in-holds w t p found) (subst (λ u. holds_id u (w.cells q) ≡ true) (sym id) (holds_id-own (w.cells q) ant is)))) (states q ant is)
@@ -205,7 +205,7 @@ module _ (main : Items) (brain : List Instr) (list : List Address) (assembled : 
   Matches-rounds sound m l zero matches = matches
   Matches-rounds sound m l (suc r) matches = Matches-round sound (after_rounds real seed m r) (label_rounds main side minds seed l r) (Matches-rounds sound m l r matches)
 
-  -- a world of which all ants are in state 0 stays when their states are wiped out
+  -- if all ants of a world are in state 0, wiping out their states doesn't change the world
   wiped-zero : (own : Colour) (state : ℕ) → state ≡ 0 → wiped side own state ≡ state
   wiped-zero own state zero_state = cond_both (same_colour side own) 0 state (λ n. n ≡ state) (λ _. sym zero_state) (λ _. refl)
 

@@ -15,7 +15,7 @@ use Rattle.ant_asm.proofs.LabelTexts.{labels_text-append}
 use Rattle.ant_asm.proofs.LabelWalk.{AreTold, state-is, told-none}
 use Rattle.ant_asm.proofs.OutlineLemmas.{IsNamedAt, line_before-size, named-at, use_below-more}
 
--- the labels of the block that a line uses, if it does
+-- the labels of the block that a line uses, if the line is a use
 abbrev pub used_states : List Outline → NamedLine → ℕ → ℕ → List WayStep → List LabelState
 used_states blocks (NamedLine.Use line name block) at follows way = all_states (slice_index_or blocks block Closed) at follows (further way name.items line)
 used_states blocks it at follows way = []
@@ -52,13 +52,13 @@ lines-split blocks (NamedLine.Use line name block) rest at way size is =
     ap (λ (n : ℕ). told_lines (slice_index_or blocks block Closed) at (further way name.items line) ++ told_lines rest n way)
     (let e : at + outline_size (slice_index_or blocks block Closed) ≡ at + size = omega (arith, is) in e)
 
--- there is a body of a number that is known
+-- a known number has a body
 pub the_named : (bodies : List NamedBody) (number : ℕ) → number < length bodies → (body : NamedBody) × (slice_get bodies number ≡ Some body)
 the_named [] number known = absurd (omega arith)
 the_named (body ∷ bodies) zero known = (body, refl)
 the_named (body ∷ bodies) (suc number) known = the_named bodies number (omega arith)
 
--- a line tells its size, if that is at most this much
+-- a line has its size, if that is at most this much
 pub line-size : (bodies : List NamedBody) (line : NamedLine) → AreGoodNamed [] bodies → IsUseBelow (length bodies) line → outline_size (line_before (outlines_of bodies) line Closed) ≤ most_size →
     line_size bodies line ≡ outline_size (line_before (outlines_of bodies) line Closed)
 line-size bodies (NamedLine.Use line name block) good below few =

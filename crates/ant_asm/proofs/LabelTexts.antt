@@ -12,7 +12,7 @@ use Rattle.ant_asm.specs.Inner.Ways.{steps_of}
 abbrev pub use_text : List ℕ → ℕ → List ℕ
 use_text name line = name +++ codes "@" +++ decimal line +++ codes "/"
 
--- those of bodies that were left, from the first on
+-- the text of the uses at which bodies were left, from the first on
 pub way_text-next : (levels : List Level) (i : ℕ) (other : Level) → i < length levels →
     way_text (steps_of (drop i levels)) ≡ use_text (get_or levels i other).step.name.now (get_or levels i other).step.line ++ way_text (steps_of (drop (i + 1) levels))
 way_text-next levels i other inside = ap (λ (l : List Level). way_text (steps_of l)) (drop_more levels i other inside)

@@ -62,7 +62,7 @@ with_address-own addresses t address = cond-true (t == t) address (addresses t) 
 pub with_address-other : (addresses : ℕ → Address) (t : ℕ) (address : Address) (u : ℕ) → t ≢ u → with_address addresses t address u ≡ addresses u
 with_address-other addresses t address u apart = cond-false (t == u) address (addresses u) (false_from_ne_true (t == u) (λ one. apart (eqb-true t u one)))
 
--- no choice of a label hangs on the states
+-- no choice of a label depends on the states
 module _ (f : Colour → ℕ → ℕ) where
   label_taken-states : (seed : ℕ) (cells : Cells) (place : ℕ) (p : Pos) (ant : Ant) (instruction : Action Label) →
       label_taken seed (renumbered_cells f cells) place p (renumbered_ant f ant) instruction ≡ label_taken seed cells place p ant instruction
@@ -89,7 +89,7 @@ module _ (f : Colour → ℕ → ℕ) where
   address_from-states side seed cells place None at address = refl
   address_from-states side seed cells place (Some p) at address = address_at-states side seed cells place p (cells p).ant at address
 
--- where an ant is after a turn is where it stood, or where a label leads
+-- after a turn an ant's address is unchanged, or it is one to which a label leads
 module _ (P : Address → Type 0) (side : Colour) (seed : ℕ) (cells : Cells) (place : ℕ) (at : Placed) (address : Address) (stood : P address) (leads : (label : Label) → P (at.target label)) where
   address_acted-has : (n : ℕ) (p : Pos) (ant : Ant) → P (address_acted n seed cells place p ant at address)
   address_acted-has zero p ant = leads (label_taken seed cells place p ant at.action)
@@ -103,7 +103,7 @@ module _ (P : Address → Type 0) (side : Colour) (seed : ℕ) (cells : Cells) (
   address_from-has None = stood
   address_from-has (Some p) = address_at-has p (cells p).ant
 
--- the addresses with one that has a fact, if all had it
+-- the addresses after one was changed have a fact, if all had it and the new one has it
 pub with_address-has : (P : Address → Type 0) (addresses : ℕ → Address) (t : ℕ) (address : Address) → ((u : ℕ) → P (addresses u)) → P address → (u : ℕ) → P (with_address addresses t address u)
 with_address-has P addresses t address all new u = cond_both (t == u) address (addresses u) P (λ _. new) (λ _. all u)
 
@@ -133,7 +133,7 @@ same_colour-side Red Black same = absurd (cc)
 same_colour-side Black Red same = absurd (cc)
 same_colour-side it that same = refl
 
--- both of a choice are one
+-- a choice between two equal values is that value
 pub cond-one : {A : Type 0} (b : Bool) (x : A) → (if b then x else x) ≡ x
 cond-one true x = refl
 cond-one false x = refl

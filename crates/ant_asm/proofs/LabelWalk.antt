@@ -7,8 +7,8 @@ use Rattle.ant_base.proofs.Pushes.{all_of_nothing, all_then, front_more, front_t
 use Rattle.ant_asm.specs.Labels.{Outline}
 use Rattle.ant_asm.specs.Inner.Outlines.{outline_size, state_at}
 
--- a text was reported; that of the lines that are left, the first of whose instructions has this number, is the rest of
--- it
+-- A text was reported. The rest of it is the text of the lines that are left, and the first instruction of these lines
+-- has this number.
 pub record AreTold (tell : Outline → ℕ → List ℕ) (all : List ℕ) (end : ℕ) (rest : Outline) (at : ℕ) (old new : SinkState) : Type 0 where
   pub told : List ℕ
   pub pushed : PushedAll old new told
@@ -36,7 +36,7 @@ module _ (tell : Outline → ℕ → List ℕ) where
       subst (PushedFront old new) (ap (λ (t : List ℕ). before.told ++ t) (sym split) ∙ before.left)
       (front_then old mid new before.told (more ++ others) before.pushed (front_more mid new more others pushed))
 
--- the state of what is numbered so
+-- the state of a label at this number
 pub state-is : (at end after left : ℕ) → at + left ≡ end → (if at == end then after else at) ≡ state_at left at after
 state-is at end after left sum = ap (λ (b : Bool). if b then after else at) (same (at == end) (left == 0) refl refl)
   where

@@ -41,7 +41,7 @@ use Rattle.ant_asm.proofs.OutlineFits.{text-said}
 use Rattle.ant_asm.proofs.ReadingLemmas.{reading-leads}
 use Rattle.ant_asm.proofs.Worked.{below_all, worked_lines}
 
--- block c is main's, block b is the first item of block c, and block b puts block a in place twice
+-- main uses block c, the first item of block c uses block b, and block b uses block a twice
 abbrev text : List ℕ
 text = codes "block a\nDrop next\nend\nblock b\nuse a\nuse a\nend\nblock c\nuse b\nDrop next\nend\nuse c\n"
 
@@ -80,7 +80,7 @@ is_assembled = emitted-assembled program (omega arith)
 is_assembled_text : IsAssembledText text brain addresses
 is_assembled_text = record { main = program; is = is_text; assembled = is_assembled }
 
--- it is the text's one program, and no fault; a use of a block that there isn't has one fault, and no program
+-- The text has this one program and no fault. A use of a block that doesn't exist has one fault and no program.
 pub one_program_or_one_fault_used : OneProgramOrOneFault →
     (((main : Items) × IsAsmText text main) ⊎ ((fault : AsmFault) × IsAsmFault text fault))
     × ((main : Items) → IsAsmText text main → main ≡ program)
@@ -93,7 +93,7 @@ one_program_or_one_fault_used law = (
   (λ fault wrong. law.one_fault (codes "use a\nfoo\n") fault (NoBlock 1) wrong (OfLine worked_lines)),
 )
 
--- it is assembled to some brain, and to these three instructions alone
+-- the text is assembled to some brain, and only to these three instructions
 pub one_brain_used : OneBrain →
     ((made : List Instr) × (list : List Address) × IsAssembled program made list)
     × ((made : List Instr) (list : List Address) → IsAssembled program made list →

@@ -1,4 +1,4 @@
--- What is left where bodies lie in one another, by the innermost.
+-- What is left of bodies that are inside one another, the innermost first.
 use Rattle.std.proofs.Common.{◌≡◌, List, [], ◌∷◌, ◌++◌, map, sym, ap, ◌∙◌, append_assoc, append-nil}
 use Rattle.ant_asm.specs.Inner.Left.{left_by}
 

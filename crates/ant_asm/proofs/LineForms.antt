@@ -1,4 +1,4 @@
--- What a line says is read of it, and a line that says nothing has the fault of its first position at fault.
+-- What a line says is what is read from it. A line that says nothing has the fault of its first position at fault.
 use Rattle.std.proofs.Common.{◌≡◌, ℕ, List, [], ◌∷◌, ◌++◌, map, replicate, Ok, Err, refl, ap, ◌∙◌}
 use Rattle.hex_geometry.specs.declared.direction.Side.{Side}
 use Rattle.hex_geometry.specs.declared.neighbourhood.Sight.{Sight}
@@ -31,7 +31,7 @@ use Rattle.ant_asm.specs.Inner.Reading.{Read, Step, ◌>>=◌, all_read, ending,
 use Rattle.ant_asm.proofs.LineSteps.{Decides, Decides-same, SpelledAllBy, SpelledBy, SpelledEnd, TakesToken, all_decides, bind_assoc, end_decides, then_taken}
 use Rattle.ant_asm.proofs.LineTokens.{then_brain, label_token, lifted-number, lifted-word, may_label_token, may_name_token, name_token, number_token, word_token}
 
--- what is read of the word of a table, and what it stands for
+-- the meaning of a word that was read, by its place in its table
 abbrev standing_for : {A : Type 0} → (ℕ → A) → ℕ × List (List ℕ) → Step A
 standing_for at word = Ok (at word.0, word.1)
 
@@ -114,7 +114,7 @@ then_name : (positions : List Position) (k : List ℕ × List (List ℕ) → Rea
 unfolding read_name
 then_name positions k S decides = then_taken name_token (λ number. refl) positions k S decides
 
--- what follows the word of a condition, at the end of a line that this condition makes
+-- what follows the word of a condition at the end of a line, if the condition makes this line
 abbrev pub SpelledRest : (Cond → Line) → ConditionWord → List (List ℕ) → Line → Type 0
 SpelledRest make ConditionWord.Friend = SpelledEnd (make Friend)
 SpelledRest make ConditionWord.Foe = SpelledEnd (make Foe)

@@ -43,7 +43,7 @@ mapped-by way state (Sense sight met unmet condition) = refl
 mapped-by way state action = refl
 
 module _ (text : List ℕ) where
-  -- the line of this number says this, if its names stand for something
+  -- the line of this number says this instruction, if the line's names have these meanings
   record SaidBy (number : ℕ) (action : Action Label) : Type 0 where
     place : ℕ
     line : TokenLine
@@ -57,7 +57,7 @@ module _ (text : List ℕ) where
   abbrev UsedBy : ℕ → List ℕ → Type 0
   UsedBy number name = SaysUse text (record { name = name; line = number })
 
-  -- so does each line of the text that says an instruction, and so is each use
+  -- this holds of each line of the text that says an instruction, and of each use
   said-told : (lines : List TokenLine) (said : List NumberedLine) → AreSaid lines said → ((i : ℕ) (line : TokenLine) → slice_get lines i ≡ Some line → (place : ℕ) × (slice_get (lines_with_tokens text) place ≡ Some line)) →
       AllByRecursion (IsTold SaidBy UsedBy) said
   said-told [] [] are keep = tt

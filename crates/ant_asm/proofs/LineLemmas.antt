@@ -184,7 +184,7 @@ mark_said token [] line e = go (name_if (before_colon token)) refl e
         subst (Says (token ∷ [])) (ok_same (Marks name) line q) (record { spelled = ((before_colon-is token name named.0, named.1), tt); in_range = tt })
 mark_said token (other ∷ rest) line e = (let never : ◌≡◌ {A = Read Line} (Err UnknownWord) (Ok line) = e in absurd (cc))
 
--- what is read of a line is said by it
+-- what is read from a line is what the line says
 by_said : (form keyword : Option ℕ) (token : List ℕ) (rest : List (List ℕ)) (line : Line) → word_place form_words token ≡ form → word_place keyword_words token ≡ keyword → read_by form keyword token rest ≡ Ok line → Says (token ∷ rest) line
 by_said (Some i) keyword token rest line found other e = form_said (form_at i) token rest line (word-found form_names token i found) ((form_decides (form_at i)).said rest line e)
 by_said None (Some i) token rest line none found e = keyword_said (keyword_at i) token rest line (word-found keyword_names token i found) ((keyword_decides (keyword_at i)).said rest line e)

@@ -27,7 +27,7 @@ lines_at-append main state (address ∷ front) back =
     (lines_at-append main (suc state) front back ∙ ap (λ (n : ℕ). lines_at main (suc state) front ++ lines_at main n back) (let e : suc state + length front ≡ state + suc (length front) = omega arith in e))
 
 module _ (main : Outline) where
-  -- a path leads to a body of these lines, by these uses
+  -- a path leads to a body with these lines, by these uses
   abbrev LeadsTo : Address → Outline → List WayStep → Type 0
   LeadsTo path body way = (state k : ℕ) (address : Address) → line_at main state (path ++ k ∷ address) ≡ line_from state address (from_item k body) way
 
@@ -56,7 +56,7 @@ module _ (main : Outline) where
   pub lines-are : (items : Items) → Fits main items → lines_at main 0 (places items) ≡ told_lines main 0 []
   lines-are items fits = lines-from main items main [] [] 0 0 fits refl (λ state k address. refl)
 
--- as many as addresses
+-- there is one line for each address
 pub lines_at-length : (main : Outline) (state : ℕ) (addresses : List Address) → length (lines_at main state addresses) ≡ length addresses
 lines_at-length main state [] = refl
 lines_at-length main state (address ∷ addresses) = ap suc (lines_at-length main (suc state) addresses)

@@ -15,7 +15,7 @@ abbrev pub fault_of_read : {A : Type 0} → ℕ → Read A → Option AsmFault
 fault_of_read number (Ok x) = None
 fault_of_read number (Err fault) = Some (fault_at number fault)
 
--- a reader of the tokens at these positions reads what is spelled so, and stops at the first position at fault
+-- a reader at these positions reads what is spelled there, and stops at the first position at fault
 pub record Decides (positions : List Position) (read : List (List ℕ) → Read Line) (Spelled : List (List ℕ) → Line → Type 0) : Type 0 where
   pub said : (tokens : List (List ℕ)) (line : Line) → read tokens ≡ Ok line → Spelled tokens line
   pub again : (tokens : List (List ℕ)) (line : Line) → Spelled tokens line → read tokens ≡ Ok line
@@ -29,17 +29,17 @@ Decides-same same decides = record {
   faulted = λ number tokens. decides.faulted number tokens ∙ ap (fault_of_read number) (sym (same tokens));
 }
 
--- what a token is read as, if it is one of these
+-- what a token is read as, if it has a meaning
 abbrev pub read_token : {A : Type 0} → (List ℕ → Option A) → SpellingFault → List ℕ → Read A
 read_token of fault token = good_token token (or_fault (of token) fault)
 
--- a position takes these tokens
+-- a position takes exactly the tokens with a meaning
 pub record TakesToken {A : Type 0} (position : Position) (of : List ℕ → Option A) (fault : SpellingFault) (brings : A → List Position) : Type 0 where
   pub good : (token : List ℕ) (x : A) → of token ≡ Some x → has_bad_byte token ≡ false
   pub accepts : (token : List ℕ) → accepted position token ≡ option_map brings (of token)
   pub faults : (number : ℕ) → fault_of position number ≡ fault_at number fault
 
--- the first token is one of these, and this holds of the others
+-- the first token has a meaning, and `S` holds of the tokens after it
 abbrev pub SpelledBy : {A : Type 0} → (List ℕ → Option A) → (A → List (List ℕ) → Line → Type 0) → List (List ℕ) → Line → Type 0
 SpelledBy of S [] line = ⊥
 SpelledBy {A} of S (token ∷ rest) line = (x : A) × (of token ≡ Some x) × S x rest line
@@ -135,13 +135,13 @@ end_decides is = record { said = said; again = again; faulted = faulted }
         go true = refl
         go false = refl
 
--- the tokens are these, one by one
+-- the tokens have these meanings, one by one
 abbrev pub AreTokensOf : {A : Type 0} → (List ℕ → Option A) → List (List ℕ) → List A → Type 0
 AreTokensOf of [] [] = Unit {0}
 AreTokensOf of (token ∷ tokens) (x ∷ xs) = (of token ≡ Some x) × AreTokensOf of tokens xs
 AreTokensOf of it that = ⊥
 
--- the tokens are at most n of these, and the line is built from them
+-- there are at most n tokens, each has a meaning, and the line is built from these meanings
 pub record SpelledAllBy {A : Type 0} (of : List ℕ → Option A) (n : ℕ) (make : List A → Line) (tokens : List (List ℕ)) (line : Line) : Type 0 where
   pub items : List A
   pub are : AreTokensOf of tokens items
@@ -156,7 +156,7 @@ put_before-then : {A : Type 0} (x : A) (made : Step (List A)) (make : List A →
 put_before-then x (Ok taken) make = refl
 put_before-then x (Err fault) make = refl
 
--- steps in a row may be put together in either order
+-- a sequence of steps may be grouped in either way
 pub bind_assoc : {A B C : Type 0} (m : Read A) (f : A → Read B) (g : B → Read C) → ((m >>= f) >>= g) ≡ (m >>= (λ x. f x >>= g))
 bind_assoc (Ok x) f g = refl
 bind_assoc (Err fault) f g = refl
@@ -165,7 +165,7 @@ bind_same : {A B : Type 0} (m : Read A) (f g : A → Read B) → ((x : A) → f 
 bind_same (Ok x) f g same = same x
 bind_same (Err fault) f g same = refl
 
--- positions where a token may stand
+-- positions that may have a token
 module _ {A : Type 0} (position : Position) (of : List ℕ → Option A) (fault : SpellingFault) (takes : TakesToken position of fault nothing_more) (free : (number : ℕ) → missing_at position number ≡ None) where
   all_next : (n : ℕ) (make : List A → Line) (token : List ℕ) (rest : List (List ℕ)) → (take_all (read_token of fault) (suc n) (token ∷ rest) >>= all_then make)
       ≡ (read_token of fault token >>= (λ x. take_all (read_token of fault) n rest >>= all_then (λ xs. make (x ∷ xs))))

@@ -53,7 +53,7 @@ pub lifted-number : (least most : ℕ) (tokens : List (List ℕ)) → lifted (ta
 lifted-number least most [] = refl
 lifted-number least most (token ∷ rest) = lifted-refused (number_within least most token) rest token LineFault.BadNumber (λ n found. number-good least most token n found)
 
--- positions that are brought, as positions of this language
+-- the positions that a token adds, as positions of this language
 brought : {A : Type 0} (f : A → List judging.Position) (o : Option A) → option_map (map Of) (option_map f o) ≡ option_map (λ x. map Of (f x)) o
 brought f None = refl
 brought f (Some x) = refl
@@ -240,7 +240,7 @@ colon-good (byte ∷ name) good = go (is_bad_byte byte) refl (λ g. colon-good n
     go true e later k = (let never : true ≡ false = k in absurd (cc))
     go false e later k = rw e (later k)
 
--- words that are the same have the same place
+-- equal words have the same place
 pub word_place-same : (words : List (List ℕ)) (a b : List ℕ) → IsSameWord a b → word_place words b ≡ word_place words a
 word_place-same [] a b same = refl
 word_place-same (word ∷ words) a b same =

@@ -1,4 +1,4 @@
--- In which state an instruction leaves its ant, and that it leaves all others as they were.
+-- The state in which an instruction leaves its ant, and that it leaves all other ants unchanged.
 use Rattle.std.proofs.Common.{◌≡◌, ◌≢◌, inl, inr, ℕ, ◌+◌, Bool, true, false, List, [], ◌∷◌, Some, refl, sym, ◌∙◌, subst}
 use Rattle.std.specs.Prelude.{◌||◌, ◌==◌, ◌-◌, if◌then◌else◌}
 use Rattle.std.proofs.lemmas.Bool.{cond_both, cond-true, cond-false}

@@ -43,13 +43,13 @@ pub length-open : (trees : List Items) (items : List OpenItem) → length (open_
 length-open trees [] = refl
 length-open trees (item ∷ items) = ap suc (length-open trees items)
 
--- a good label stays good where items are added
+-- a good label stays good if items are added
 pub label-more : (parameters n m : ℕ) (label : Label) → n ≤ m → IsGoodLabel parameters n label → IsGoodLabel parameters m label
 label-more parameters n m Next more good = tt
 label-more parameters n m (Place j) more good = omega (arith, good, more)
 label-more parameters n m (Parameter i) more good = good
 
--- each item is an instruction at least
+-- each item expands to at least one instruction
 kind-some : (bodies : List Body) (size : ℕ) (kind : OpenKind) → IsGoodKind bodies size kind → 1 ≤ size
 kind-some bodies size (OpenKind.Do action) good = let one : size ≡ 1 = good.1 in omega arith
 kind-some bodies size (OpenKind.Use block handed) good = good.3
@@ -272,7 +272,7 @@ module _ (bodies : List Body) (body : Body) where
   open_seen-push draft good =
       ap (λ (l : List ItemLine). record (open_seen (trees_of bodies) draft) { items = l }) (open_items-seen 0 draft.items.items draft.size good.items)
 
--- what a label of a body stands for is good
+-- the meaning of a label of a body is good
 way-good : (draft : OpenBody) → ((name : List ℕ) (label : Label) → known_as draft.names.entries name ≡ Some label → IsGoodLabel draft.parameters (length draft.items.items) label) → (label : Named) →
     IsGoodLabel draft.parameters (length draft.items.items) (way_or_next (known_as draft.names.entries) label)
 way-good draft names NextWord = tt
@@ -330,7 +330,7 @@ module _ (bodies : List Body) (draft : OpenBody) (body : Body) (good : IsGoodOpe
 pub open-short : (bodies : List Body) (draft : OpenBody) → IsGoodOpen bodies draft → length draft.items.items ≤ most
 open-short bodies draft good = let low = items-size bodies 0 draft.items.items draft.size good.items in let few = good.few in omega (arith, low, few)
 
--- a name more leaves a good body
+-- a body stays good if it gets one more name
 pub names-mark : (draft : OpenBody) (known : List ℕ → Option Label) (name : List ℕ) (place : ℕ) → known ≡ with_name name (Place place) (known_as draft.names.entries) → place ≡ length draft.items.items →
     ((other : List ℕ) (label : Label) → known_as draft.names.entries other ≡ Some label → IsGoodLabel draft.parameters (length draft.items.items) label) →
     (other : List ℕ) (label : Label) → known other ≡ Some label → IsGoodLabel draft.parameters (length draft.items.items) label
@@ -340,12 +340,12 @@ names-mark draft known name place same here names other label is = go (bytes_eq 
     go true q = let e : Place place ≡ label = (let s : Some (Place place) ≡ Some label = q in cc) in subst (IsGoodLabel draft.parameters (length draft.items.items)) e (let i : place ≤ length draft.items.items = omega (arith, here) in i)
     go false q = names other label q
 
--- whether one of some labels stands for nothing
+-- whether one of some labels has no meaning
 pub any_seen : (f : Named → Bool) (labels : List Source) → list_any f (labels_seen labels) ≡ list_any (λ (label : Source). f (seen label)) labels
 any_seen f [] = refl
 any_seen f (label ∷ labels) = ap (λ (b : Bool). f (seen label) || b) (any_seen f labels)
 
--- what parameters stand for is good
+-- the meanings of parameters are good
 parameters-good : (i : ℕ) (parameters : List (List ℕ)) (all count : ℕ) (name : List ℕ) (label : Label) → i + length parameters ≡ all → parameter_names i parameters name ≡ Some label → IsGoodLabel all count label
 parameters-good i [] all count name label same is = (let never : None ≡ Some label = is in absurd (cc))
 parameters-good i (parameter ∷ parameters) all count name label same is =

@@ -21,8 +21,8 @@ use Rattle.ant_asm.specs.Inner.Outlines.{lines_said, outline_size, said_before, 
 use Rattle.ant_asm.specs.Inner.Reading.{Read}
 use Rattle.ant_asm.proofs.LineLemmas.{line_again, lines_decide}
 
--- an outline is that of items; a fact holds of each instruction and its line, and another of each use's line and name;
--- and each block that is used has an instruction
+-- An outline is that of these items. `P` holds of each instruction and its line, and `Q` of the line and the name of
+-- each use. Each block that is used has an instruction.
 abbrev pub Tells : (ℕ → Action Label → Type 0) → (ℕ → List ℕ → Type 0) → Outline → Items → Type 0
 Tells P Q Closed End = Unit {0}
 Tells P Q (Labelled name outline) items = Tells P Q outline items
@@ -30,7 +30,7 @@ Tells P Q (Instructed line outline) (Do action others) = P line action × Tells 
 Tells P Q (Used line name inside outline) (Use handed block others) = Tells P Q inside block × Tells P Q outline others × (1 ≤ size_of block) × Q line name
 Tells P Q it items = ⊥
 
--- an outline is that of items
+-- an outline is that of these items
 abbrev pub Fits : Outline → Items → Type 0
 Fits = Tells (λ line action. Unit {0}) (λ line name. Unit {0})
 
@@ -41,7 +41,7 @@ fits-size (Instructed line outline) (Do action others) fits = ap suc (fits-size 
 fits-size (Used line name inside outline) (Use handed block others) fits = ap₂ ◌+◌ (fits-size inside block fits.0) (fits-size outline others fits.1)
 fits-size it items fits = absurd fits
 
--- what lines say, none of which is at fault, leads from one standing to another
+-- what these lines say leads from one state to another, and none of the lines is at fault
 abbrev LeadsSaid : Standing → List NumberedLine → Standing → Type 0
 LeadsSaid standing [] last = standing ≡ last
 LeadsSaid standing (At number said ∷ lines) last = (place_fault standing number said ≡ None) × LeadsSaid (below standing number said) lines last
@@ -87,24 +87,24 @@ use-known : (size : ℕ) (found : Option Block) (handed : List Named) (number : 
 use-known size None handed number free = let never : Some (NoBlock number) ≡ None = free in absurd (cc)
 use-known size (Some block) handed number free = (block, refl)
 
--- a fact holds of what a line says, if it is an instruction, whatever its names stand for, or another, if it is a use
+-- If a line says an instruction, `P` holds of it, whatever its names mean. If it is a use, `Q` holds of it.
 abbrev pub IsTold : (ℕ → Action Label → Type 0) → (ℕ → List ℕ → Type 0) → NumberedLine → Type 0
 IsTold P Q (At number (Instructs action)) = (meaning : List ℕ → Option Label) → P number (mapped (way_or_next meaning) action)
 IsTold P Q (At number (Uses name handed)) = Q number name
 IsTold P Q (At number says) = Unit {0}
 
 module _ (P : ℕ → Action Label → Type 0) (Q : ℕ → List ℕ → Type 0) where
-  -- that of a block's items, if there is the block
+  -- an outline is that of a block's items, if there is such a block
   abbrev FitsBlock : Option Outline → Option Block → Type 0
   FitsBlock outline None = Unit {0}
   FitsBlock None (Some block) = ⊥
   FitsBlock (Some outline) (Some block) = Tells P Q outline block.items × (1 ≤ size_of block.items)
 
-  -- that of items by names, whatever these stand for
+  -- an outline is that of items with names, whatever the names mean
   abbrev FitsLines : Outline → List ItemLine → Type 0
   FitsLines outline lines = (meaning : List ℕ → Option Label) → Tells P Q outline (items_by (way_or_next meaning) lines)
 
-  -- what main's items become
+  -- main's items at the end: those so far, and more that fit the outline
   record HasMore (draft last : Draft) (outline : Outline) : Type 0 where
     more : List ItemLine
     are : last.items ≡ draft.items ++ more
@@ -215,7 +215,7 @@ last-closed : (standing : Standing) (begun : Option Begun) → last_fault begun 
 last-closed standing None free = refl
 last-closed standing (Some begun) free = (let never : Some (Misplaced begun.line) ≡ None = free in absurd (cc))
 
--- so of a program
+-- so the outline of a program is that of its items
 pub text-said : (text : List ℕ) (main : Items) → IsAsmText text main → AreSaid (lines_with_tokens text) (lines_said text)
 text-said text main is = are-said (lines_with_tokens text) nothing_yet is.standing is.leads
 

@@ -1,4 +1,5 @@
--- The reading of names, line by line: what the lines that are left will add stays what the whole text says.
+-- The reading of names, line by line: what was read, with what the lines that are left will add, is always what the
+-- whole text says.
 use Rattle.std.proofs.Common.{◌≡◌, ℕ, ◌+◌, ◌<◌, ◌≤◌, Bool, true, false, cond, List, [], ◌∷◌, ◌++◌, length, Option, Some, None, Ok, refl, sym, ap, ap₂, ◌∙◌, subst, arith}
 use Rattle.std.specs.Prelude.{bytes_eq, slice_index_or}
 use Rattle.std.proofs.Math.Path.{fun_ext}
@@ -153,7 +154,7 @@ pub rest_from_end : (o : Outlines) (number : ℕ) → rest_from o number [] ≡ 
 unfolding rest_from
 rest_from_end o number = refl
 
--- how far the names of a text have been read: these lines are left, the first of which has this number
+-- How far the names of a text have been read: these lines are left, and the first of them has this number.
 pub record AreUnderway (first o : Outlines) (number : ℕ) (lines : List (List ℕ)) (text : List ℕ) : Type 0 where
   pub on : rest_from o number lines ≡ rest_from first 1 (lines_of text)
   pub good : IsGoodOutlines o

@@ -97,7 +97,7 @@ reading_from-more above under number line lines said has read free is =
     ∙ ap (λ (r : Read Line). then_lines (stepped above number r) (λ s. reading_from s (number + 1) lines)) read
     ∙ ap (λ (o : Option AsmFault). then_lines (placed_or o (below above number said)) (λ s. reading_from s (number + 1) lines)) free)
 
--- a line that is spelled badly, or stands badly
+-- a line with a fault in its spelling, or in its place
 pub reading_from-spelled : (above : Standing) (number : ℕ) (line : List ℕ) (lines : List (List ℕ)) (fault : SpellingFault) → has_token (tokens_of line) ≡ true → read_line (tokens_of line) ≡ Err fault →
     reading_from above number (line ∷ lines) ≡ Err (fault_at number fault)
 reading_from-spelled above number line lines fault has read =
@@ -119,7 +119,7 @@ pub reading_from-end : (above : Standing) (number : ℕ) → reading_from above 
 unfolding reading_from
 reading_from-end above number = refl
 
--- a line that was refused, or that adds to what stands above it
+-- a line that was refused, or that leads from the state above it to the state below it
 pub read-spelled : (above : Standing) (number : ℕ) (line : List ℕ) (lines : List (List ℕ)) (fault : SpellingFault) → has_token (tokens_of line) ≡ true → StopsAs (read_line (tokens_of line)) fault →
     FailsAs (fault_at number fault) (reading_from above number (line ∷ lines))
 read-spelled above number line lines fault has (inl is) = inl (reading_from-spelled above number line lines fault has is)
@@ -130,7 +130,7 @@ pub read-placed : (above : Standing) (number : ℕ) (line : List ℕ) (lines : L
 read-placed above number line lines said fault has read (inl wrong) = inl (reading_from-placed above number line lines said fault has read wrong)
 read-placed above number line lines said fault has read (inr want) = inr want
 
--- how far a text has been read: these lines are left, the first of which has this number
+-- How far a text has been read: these lines are left, and the first of them has this number.
 pub record IsUnderway (program : Program) (number : ℕ) (lines : List (List ℕ)) (text : List ℕ) : Type 0 where
   pub on : reading_from (program_seen program) number lines ≡ reading_from nothing_yet 1 (lines_of text)
   pub good : IsGoodProgram program

@@ -1,4 +1,4 @@
--- What was read of a program is where its labels and states stand.
+-- What was read of a program is its labels and its states.
 use Rattle.std.proofs.Common.{◌≡◌, ℕ, List, [], sym, ap, ap₂, ◌∙◌, refl, arith}
 use Rattle.line_tokens.specs.TokenLines.{lines_with_tokens}
 use Rattle.ant_asm.specs.declared.body.Body.{Body}
@@ -52,7 +52,7 @@ module _ (text : List ℕ) (bodies : List Body) (named : List NamedBody) (are : 
     },
   )
 
--- a program's labels and states stand somewhere
+-- a program has its labels, and a line for each state
 pub has-source : (text : List ℕ) (main : Items) → IsAsmText text main → (source : ReadSource) × IsSourceOf text source
 has-source text main is = (
   record { labels = labels_of main (lines_said text); lines = state_lines_of main (lines_said text) },
@@ -62,7 +62,7 @@ has-source text main is = (
   ),
 )
 
--- and nowhere else
+-- and no others
 pub one-lines : (text : List ℕ) (a b : List StateLine) → AreStateLinesOf text a → AreStateLinesOf text b → a ≡ b
 one-lines text a b first second =
     first.are ∙ ap₂ state_lines_of (one_program lines_decide text first.main second.main first.is second.is) (one-said (lines_with_tokens text) first.lines second.lines first.said second.said) ∙ sym second.are

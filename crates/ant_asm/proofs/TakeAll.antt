@@ -26,7 +26,7 @@ stops-same made other fault same stops = subst (λ (m : Step (List _)). StopsAs 
 pub left-one : (k : ℕ) → k < 8 → suc (8 - (k + 1)) ≡ 8 - k
 left-one k inside = omega (arith, inside)
 
--- no token is taken any more, and the line ends or doesn't
+-- no more tokens are taken; the line ends here, or it doesn't
 module _ {A : Type 0} (read : List ℕ → Read A) (front : List A) (k : ℕ) (left tokens : List (List ℕ)) (done : 8 ≤ k) (before : all_before front (take_all read (8 - k) left) ≡ take_all read 8 tokens) where
   all-taken : take_all read 8 tokens ≡ Ok (front, left)
   all-taken =

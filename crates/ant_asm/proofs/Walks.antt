@@ -74,7 +74,7 @@ counted-inside place (NamedLine.Instruction line ∷ lines) =
 counted-inside place (NamedLine.Use line name block ∷ lines) =
     (omega arith, AllByRecursion-weaker (λ (p : ℕ). p < suc place + length lines) (λ (p : ℕ). p < place + suc (length lines)) (counted_from (suc place) lines) (counted-inside (suc place) lines) (λ p inside. omega (arith, inside)))
 
--- without labels the same number of instructions is reported, and no more steps are left
+-- without the labels the same number of instructions is reported, and no more steps are left
 module _ (blocks : List Outline) where
   abbrev bare : List NamedLine → Outline
   bare lines = lines_before blocks (items_in lines) Closed
@@ -109,7 +109,7 @@ module _ (blocks : List Outline) where
   bare-steps (NamedLine.Instruction line ∷ lines) = let later = bare-steps lines in omega (arith, later)
   bare-steps (NamedLine.Use line name block ∷ lines) = let later = bare-steps lines in omega (arith, later)
 
--- a body that begins tells all of itself
+-- a body that begins reports all of itself
 module _ (bodies : List NamedBody) (spot : Spot) (body : NamedBody) (good : AreGoodNamed [] bodies) (there : slice_get bodies spot.number ≡ Some body) where
   named : IsNamedAt bodies spot.number body
   named = named-at bodies spot.number body there good

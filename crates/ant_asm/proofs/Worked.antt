@@ -22,7 +22,7 @@ use Rattle.std.specs.Fmt.{digits}
 use Rattle.ant_asm.specs.FaultText.{asm_fault_text}
 use Rattle.ant_asm.specs.declared.fault.AsmFault.TheVariants as fault
 
--- what stands below some lines, the first of which has this number
+-- the state below some lines; the first line has this number
 abbrev pub below_all : Standing → ℕ → List Line → Standing
 below_all standing number [] = standing
 below_all standing number (line ∷ lines) = below_all (below standing number line) (suc number) lines
@@ -84,7 +84,7 @@ worked_empty = refl
 worked_kinds : place_fault (below nothing_yet 1 (Marks (codes "a"))) 2 (Begins (codes "a") []) ≡ None
 worked_kinds = refl
 
--- block b / Drop next / Drop next / end, below that this many instructions / use b
+-- block b / Drop next / Drop next / end; after it, main with this many instructions; then use b
 abbrev after_so_many : ℕ → Standing
 after_so_many size =
     let two : Standing = below_all nothing_yet 1 (Begins (codes "b") [] ∷ Instructs (Drop NextWord) ∷ Instructs (Drop NextWord) ∷ Ends ∷ []) in
@@ -94,12 +94,13 @@ worked_room : (place_fault (after_so_many 9998) 5 (Uses (codes "b") []) ≡ None
     × (place_fault (after_so_many 9999) 5 (Instructs (Drop NextWord)) ≡ None) × (place_fault (after_so_many 10000) 5 (Instructs (Drop NextWord)) ≡ Some (TooMany 5))
 worked_room = (refl, refl, refl, refl)
 
--- block z, below this many blocks
+-- block z, after this many blocks
 worked_blocks : (place_fault (record nothing_yet { count = 255 }) 1 (Begins (codes "z") []) ≡ None) × (place_fault (record nothing_yet { count = 256 }) 1 (Begins (codes "z") []) ≡ Some (TooMany 1))
 worked_blocks = (refl, refl)
 
--- which fault of a line counts: below 256 blocks, block z p p, and block b where there is one; in a block, block z; and
--- where no instruction has room, use b next of a block that has no parameters
+-- Which fault of a line counts. After 256 blocks, for block z p p and for block b, if b exists: the name is there
+-- already. Inside a block, for block z: it is misplaced. If no instruction has room, for use b next, where b has no
+-- parameters: the number of labels.
 worked_order : (place_fault (record nothing_yet { count = 256 }) 1 (Begins (codes "z") (codes "p" ∷ codes "p" ∷ [])) ≡ Some (Twice 1))
     × (place_fault (record (after_so_many 0) { count = 256 }) 5 (Begins (codes "b") []) ≡ Some (Twice 5))
     × (place_fault (record (below nothing_yet 1 (Begins (codes "a") [])) { count = 256 }) 2 (Begins (codes "z") []) ≡ Some (Misplaced 2))

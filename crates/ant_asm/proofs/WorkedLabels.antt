@@ -13,12 +13,12 @@ use Rattle.ant_asm.specs.Labels.{NumberedLine, labels_of, labels_text}
 use Rattle.ant_asm.specs.Labels.NumberedLine.{At}
 use Rattle.ant_asm.specs.StateLines.{state_lines_of, state_lines_text}
 
--- what stands below the lines
+-- the state below the lines
 abbrev below_lines : Standing → List NumberedLine → Standing
 below_lines standing [] = standing
 below_lines standing (At number line ∷ lines) = below_lines (below standing number line) lines
 
--- the lines of these that have a token are numbered from this on
+-- lines that have a token, numbered from this number on
 abbrev numbered_from : ℕ → List Line → List NumberedLine
 numbered_from number [] = []
 numbered_from number (line ∷ lines) = At number line ∷ numbered_from (suc number) lines

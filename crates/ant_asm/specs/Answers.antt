@@ -29,9 +29,9 @@ abbrev pub AnswersProgram : Result code.Assembled AsmFault → Items → Type 0
 AnswersProgram (Ok made) main = IsAssembled main made.brain made.places
 AnswersProgram (Err fault) main = fault ≡ OutOfMemory
 
--- for any opening world, other brain, numbers of the rules, seed, side and number of rounds: the game with the returned
--- brain on that side is the labelled game of the text's program with each address replaced by its number, at the same
--- place of the stream
+-- The game with the returned brain on one side is the labelled game of the text's program, with each address replaced
+-- by its number. It is at the same place of the stream. This holds for any opening world, other brain, numbers of the
+-- rules, seed, side and number of rounds.
 abbrev pub PlaysText : List ℕ → Result code.Assembled AsmFault → Type 0
 PlaysText text (Ok made) =
     (main : Items) → IsAsmText text main
@@ -41,7 +41,7 @@ PlaysText text (Ok made) =
     ≡ numbered_moment made.places side (label_game main side minds seed width height kinds r)
 PlaysText text (Err fault) = Unit {0}
 
--- the program of a text is assembled to one brain, with one list of places
+-- the program of a text is assembled to exactly one brain, with exactly one list of places
 pub record OneBrain : Type 0 where
   pub some : (text : List ℕ) (main : Items) → IsAsmText text main
       → (brain : List Instr) × (list : List Address) × IsAssembled main brain list

@@ -32,7 +32,7 @@ instruction_by state (Turn side on) = instr.Turn side (state on)
 instruction_by state (Move met unmet) = instr.Move (state met) (state unmet)
 instruction_by state (Flip bound met unmet) = instr.Flip bound (state met) (state unmet)
 
--- the bare instruction, whose labels are all one state
+-- the bare instruction: each label is replaced by the state 0
 abbrev pub bare_instruction : Action Label → Instr
 bare_instruction action = instruction_by (λ label. 0) action
 
@@ -56,19 +56,19 @@ pub record LabelMoment : Type 0 where
   pub address : ℕ → Address
   pub place : ℕ
 
--- the address of the ant at p in the program after its turn: unchanged if it rests, and otherwise the one to which the
--- label leads that its instruction takes
+-- The address, after its turn, of the ant at p. If the ant rests, the address is unchanged. Otherwise the ant's
+-- instruction takes a label, and the address is the one to which that label leads.
 abbrev pub address_acted : ℕ → ℕ → Cells → ℕ → Pos → Ant → Placed → Address → Address
 address_acted zero seed cells place p ant at address = at.target (label_taken seed cells place p ant at.action)
 address_acted (suc left) seed cells place p ant at address = address
 
--- the same at a position that may hold an ant, which may be of this side
+-- the same at a position that may have no ant, or an ant of the other side; then the address is unchanged
 abbrev pub address_at : Colour → ℕ → Cells → ℕ → Pos → Option Ant → Placed → Address → Address
 address_at side seed cells place p None at address = address
 address_at side seed cells place p (Some ant) at address =
     if same_colour side ant.colour then address_acted ant.resting seed cells place p ant at address else address
 
--- the same for an ant that has a place, or is dead
+-- the same for an ant that may be dead; then the address is unchanged
 abbrev pub address_from : Colour → ℕ → Cells → ℕ → Option Pos → Placed → Address → Address
 address_from side seed cells place None at address = address
 address_from side seed cells place (Some p) at address = address_at side seed cells place p (cells p).ant at address
@@ -77,12 +77,12 @@ address_from side seed cells place (Some p) at address = address_at side seed ce
 abbrev pub with_address : (ℕ → Address) → ℕ → Address → ℕ → Address
 with_address addresses t address u = if t == u then address else addresses u
 
--- the turn of an id: the turn of an ant whose brain is the one instruction at its address
+-- the turn of an id: its ant acts as if its brain were only the instruction at its address
 unfoldable pub label_outcome : Items → Colour → Minds → ℕ → LabelMoment → ℕ → Outcome
 label_outcome main side minds seed m t =
     turn (with_mind minds side (bare_instruction (placed main (m.address t)).action ∷ [])) seed m.world m.place t
 
--- the moment after it
+-- the moment after the turn of an id
 unfoldable pub label_turn : Items → Colour → Minds → ℕ → LabelMoment → ℕ → LabelMoment
 label_turn main side minds seed m t = record {
   world = with_cells m.world (label_outcome main side minds seed m t).cells;

@@ -16,28 +16,29 @@ use Rattle.ant_asm.specs.Text.{IsAsmText}
 pub data NumberedLine : Type 0 where
   At : (number : ℕ) → (says : Line) → NumberedLine
 
--- the lines that have a token say this, one by one
+-- these lines, which all have tokens, say this one by one, and have these numbers
 abbrev pub AreSaid : List TokenLine → List NumberedLine → Type 0
 AreSaid [] [] = Unit {0}
 AreSaid [] (said ∷ others) = ⊥
 AreSaid (line ∷ lines) [] = ⊥
 AreSaid (line ∷ lines) (At number said ∷ others) = (number ≡ line.number) × Says line.tokens said × AreSaid lines others
 
--- The lines of a body with their names, in order: a label; an instruction, with its line; or a use, with its line, the
--- name of its block, and the block's own lines.
+-- The lines of a body, in order. Each is a label with its name, an instruction with its line's number, or a use. A use
+-- has its line's number, the name of its block, and the lines of that block.
 pub data Outline : Type 0 where
   Closed : Outline
   Labelled : (name : List ℕ) → (others : Outline) → Outline
   Instructed : (line : ℕ) → (others : Outline) → Outline
   Used : (line : ℕ) → (name : List ℕ) → (block : Outline) → (others : Outline) → Outline
 
--- a use of a block before other lines; it never lacks its block, since a program only uses blocks that have ended above
+-- A use of a block, before other lines. In a program the block always exists, since a program only uses blocks that
+-- have ended above.
 abbrev pub with_use : ℕ → List ℕ → Option Outline → Outline → Outline
 with_use line name None others = others
 with_use line name (Some block) others = Used line name block others
 
--- the lines of a block up to its end, if these follow the one that begins it, and blocks with these names have ended
--- above
+-- The lines of a block up to its end. The list has the lines of the text that follow the one that begins the block.
+-- `blocks` has the blocks that have ended above, by name.
 abbrev pub block_outline : List NumberedLine → (List ℕ → Option Outline) → Outline
 block_outline [] blocks = Closed
 block_outline (At number (Marks name) ∷ lines) blocks = Labelled name (block_outline lines blocks)
@@ -47,7 +48,7 @@ block_outline (At number (Uses name handed) ∷ lines) blocks =
     with_use number name (blocks name) (block_outline lines blocks)
 block_outline (At number (Instructs action) ∷ lines) blocks = Instructed number (block_outline lines blocks)
 
--- the lines of main, which are those outside blocks; the argument says whether the first of these is inside one
+-- The lines of main, which are those outside blocks. `inside` says whether the list begins inside a block.
 abbrev pub main_outline : List NumberedLine → Bool → (List ℕ → Option Outline) → Outline
 main_outline [] inside blocks = Closed
 main_outline (At number (Begins name parameters) ∷ lines) false blocks =
@@ -67,7 +68,7 @@ main_outline (At number (Instructs action) ∷ lines) true blocks = main_outline
 abbrev pub outline_of : List NumberedLine → Outline
 outline_of lines = main_outline lines false (λ name. None)
 
--- the block that the first of some items uses, and the labels given to it
+-- the block that the first of these items uses, and the labels that the item gives to it
 abbrev pub block_at : Items → Items
 block_at End = End
 block_at (Do action others) = End
@@ -89,14 +90,14 @@ pub record LabelState : Type 0 where
   pub name : List ℕ
   pub state : ℕ
 
--- a body in use, by the states of addresses: its items, its frame, and the uses on the way
+-- a body in use: the state of each address, the body's items, its frame, and the uses on the way to it
 pub record PutBody : Type 0 where
   pub state : Address → ℕ
   pub items : Items
   pub frame : Frame
   pub way : List WayStep
 
--- the block that its k-th item uses, if the use has this name and line
+-- the block that the body's k-th item uses, if that item is a use with this name on this line
 abbrev pub put_inside : PutBody → ℕ → List ℕ → ℕ → PutBody
 put_inside body k name line = record {
   state = body.state;
@@ -105,7 +106,8 @@ put_inside body k name line = record {
   way = body.way ++ (record { name = name; line = line }) ∷ [];
 }
 
--- the own labels of a body, in the order of its lines, of which these are left; the next item is its k-th
+-- The labels of a body's own lines, in order. The outline has the lines that are left. The next item is the k-th of the
+-- body.
 abbrev pub own_labels : Outline → PutBody → ℕ → List LabelState
 own_labels Closed body k = []
 own_labels (Labelled name others) body k =
@@ -114,7 +116,8 @@ own_labels (Labelled name others) body k =
 own_labels (Instructed line others) body k = own_labels others body (suc k)
 own_labels (Used line name block others) body k = own_labels others body (suc k)
 
--- the labels of the blocks that it uses, use by use: first the block's own, and then those of the blocks that it uses
+-- The labels of the blocks that the body uses, use by use. For each block, the labels of its own lines come first, and
+-- then those of the blocks that it uses.
 abbrev pub inner_labels : Outline → PutBody → ℕ → List LabelState
 inner_labels Closed body k = []
 inner_labels (Labelled name others) body k = inner_labels others body k
@@ -123,7 +126,7 @@ inner_labels (Used line name block others) body k =
     (own_labels block (put_inside body k name line) 0 ++ inner_labels block (put_inside body k name line) 0)
     ++ inner_labels others body (suc k)
 
--- main
+-- main as a body in use
 abbrev pub put_main : Items → PutBody
 put_main main = record { state = number_in (places main); items = main; frame = main_frame main; way = [] }
 

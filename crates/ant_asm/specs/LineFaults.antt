@@ -13,8 +13,8 @@ use Rattle.ant_asm.specs.Lines.{Keyword, keywords, most_parameters, word_of_keyw
 use Rattle.ant_asm.specs.Lines.Keyword.{BlockWord, EndWord, UseWord}
 use Rattle.ant_asm.specs.Names.{before_colon, label_of, name_if, name_of}
 
--- what a position of a line needs: what an instruction has there, a label, a name, or one of the last two if a token is
--- left
+-- What a position of a line needs: what an instruction of a brain has there, a label, or a name. `MayLabel` and
+-- `MayName` need it only if a token is left.
 pub data Position : Type 0 where
   Of : brain.Position → Position
   LabelToken NameToken MayLabel MayName : Position
@@ -35,7 +35,7 @@ abbrev pub or_else : {A : Type 0} → Option A → Option A → Option A
 or_else (Some x) other = Some x
 or_else None other = other
 
--- no positions follow a name before `:` that is the only token of its line
+-- if a name before `:` is the only token of a line, no positions follow it
 abbrev pub positions_of_mark : List ℕ → List (List ℕ) → Option (List Position)
 positions_of_mark token [] = option_map (λ name. []) (name_if (before_colon token))
 positions_of_mark token (other ∷ tokens) = None
@@ -54,7 +54,7 @@ accepted NameToken token = option_map nothing_more (name_of token)
 accepted MayLabel token = option_map nothing_more (label_of token)
 accepted MayName token = option_map nothing_more (name_of token)
 
--- the fault of a token without a bad byte that its position of an instruction doesn't accept
+-- the fault of a token that has no bad byte, if a position of an instruction doesn't accept it
 abbrev pub fault_of_brain : brain.Position → ℕ → AsmFault
 fault_of_brain FormToken line = UnknownWord line
 fault_of_brain SightToken line = UnknownWord line
@@ -64,7 +64,7 @@ fault_of_brain MarkerToken line = BadNumber line
 fault_of_brain StateToken line = BadNumber line
 fault_of_brain BoundToken line = BadNumber line
 
--- the fault of a token without a bad byte that its position doesn't accept
+-- the fault of a token that has no bad byte, if its position doesn't accept it
 abbrev pub fault_of : Position → ℕ → AsmFault
 fault_of (Of position) line = fault_of_brain position line
 fault_of LabelToken line = BadName line
@@ -90,7 +90,7 @@ first_fault line (token ∷ tokens) (position ∷ positions) =
     else judged (accepted position token) (fault_of position line)
     (λ brings. first_fault line tokens (brings ++ positions))
 
--- the fault of a line's first position at fault: the first token decides which positions follow it
+-- the fault of the first position of a line that is at fault; the first token decides which positions follow it
 unfoldable pub spelling_fault : ℕ → List (List ℕ) → Option AsmFault
 spelling_fault line [] = Some (MissingToken line)
 spelling_fault line (token ∷ tokens) =

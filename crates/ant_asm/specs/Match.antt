@@ -19,7 +19,7 @@ use Rattle.ant_asm.specs.Places.{Address}
 use Rattle.ant_asm.specs.Assembled.{IsAssembled, number_in}
 use Rattle.ant_asm.specs.LabelGame.{LabelMoment, label_rounds, label_start}
 
--- the ant; if it is of this side, its state is the number of its address
+-- the ant; if it is of this side, its state is replaced by the number of its address
 abbrev pub numbered_ant : List Address → Colour → (ℕ → Address) → Ant → Ant
 numbered_ant places side addresses ant =
     record ant { state = if same_colour side ant.colour then number_in places (addresses ant.id) else ant.state }
@@ -40,9 +40,9 @@ abbrev pub label_game : Items → Colour → Minds → ℕ → ℕ → ℕ → L
 label_game main side minds seed width height kinds r =
     label_rounds main side minds seed (label_start main (world_of (opening width height kinds))) r
 
--- for any opening world, other brain, numbers of the rules, seed, side and number of rounds: the game with the
--- assembled brain on that side is the labelled game with each address replaced by its number, at the same place of the
--- stream
+-- The game with the assembled brain on one side is the labelled game, with each address replaced by its number. It is
+-- at the same place of the stream. This holds for any opening world, other brain, numbers of the rules, seed, side and
+-- number of rounds.
 abbrev pub PlaysLabelled : Type 0
 PlaysLabelled = (main : Items) (brain : List Instr) (list : List Address) → IsAssembled main brain list →
     (side : Colour) (minds : Minds) (seed width height : ℕ) (kinds : List Kind) (r : ℕ)

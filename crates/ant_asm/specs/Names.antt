@@ -1,9 +1,9 @@
--- Names and labels as they are spelled (this project's own).
+-- How names and labels are spelled (this project's own).
 use Rattle.std.specs.Prelude.{ℕ, Bool, false, not, ◌||◌, ◌&&◌, ◌==◌, nat_le, List, [], ◌∷◌, length, codes, Option, Some, None, if◌then◌else◌}
 use Rattle.std.specs.List.{list_all}
 use Rattle.std.specs.Str.{str_eq_ignore_ascii_case}
 
--- a label as it is spelled: the word `next`, or a name
+-- how a label is spelled: as the word `next`, or as a name
 pub data Named : Type 0 where
   NextWord : Named
   Name : List ℕ → Named
@@ -29,7 +29,7 @@ begins_with_letter (byte ∷ bytes) = is_letter byte
 unfoldable pub is_next : List ℕ → Bool
 is_next token = str_eq_ignore_ascii_case (codes "next") token
 
--- whether a token is a name: 1 to 32 letters, digits and `_`, the first of which is a letter, and not the word `next`
+-- Whether a token is a name: 1 to 32 letters, digits and `_`. It begins with a letter, and isn't the word `next`.
 unfoldable pub is_name : List ℕ → Bool
 is_name token = (begins_with_letter token && nat_le (length token) 32) && (are_name_bytes token && not (is_next token))
 
@@ -52,7 +52,7 @@ before_colon [] = None
 before_colon (byte ∷ []) = if byte == 58 then Some [] else None
 before_colon (byte ∷ other ∷ bytes) = with_first byte (before_colon (other ∷ bytes))
 
--- the name before a `:` at the end of a token, if it is one
+-- what precedes the `:` at the end of a token, if that is a name
 abbrev pub name_if : Option (List ℕ) → Option (List ℕ)
 name_if None = None
 name_if (Some front) = name_of front

@@ -1,4 +1,5 @@
--- The addresses of a labelled program's instructions, and those to which their labels lead (this project's own).
+-- The addresses of a labelled program's instructions, and the addresses to which their labels lead (this project's
+-- own).
 use Rattle.std.specs.Prelude.{ℕ, suc, List, [], ◌∷◌, ◌++◌, map, Option, Some, None, slice_index_or}
 use Rattle.ant_asm.specs.declared.action.Action.{Action}
 use Rattle.ant_asm.specs.declared.action.Action.TheVariants.{Drop}
@@ -7,38 +8,38 @@ use Rattle.ant_asm.specs.declared.action.Label.TheVariants.{Next, Place, Paramet
 use Rattle.ant_asm.specs.Program.{Items, from_place}
 use Rattle.ant_asm.specs.Program.Items.{End, Do, Use}
 
--- an address: a place in main, then a place in the block of the use there, and so on, down to an instruction
+-- an address: a place in main, then a place in the block that is used there, and so on, down to an instruction
 abbrev pub Address : Type 0
 Address = List ℕ
 
--- the addresses of the instructions of some items, in order, if the first item is the k-th of the body to which this
--- path leads
+-- The addresses of the instructions of these items, in order. The first item is the k-th of its body, and `path` leads
+-- to that body.
 abbrev pub places_of : Items → Address → ℕ → List Address
 places_of End path k = []
 places_of (Do action others) path k = (path ++ k ∷ []) ∷ places_of others path (suc k)
 places_of (Use handed block others) path k = places_of block (path ++ k ∷ []) 0 ++ places_of others path (suc k)
 
--- the address of the first instruction of some items, the first of which is the k-th of its body; if they have none,
--- the address `after` of what follows the body
+-- The address of the first instruction of these items. If they have no instruction, it is `after`, the address of what
+-- follows their body. The first item is the k-th of its body, and `path` leads to that body.
 abbrev pub first_of : Items → Address → ℕ → Address → Address
 first_of End path k after = after
 first_of (Do action others) path k after = path ++ k ∷ []
 first_of (Use handed block others) path k after = first_of block (path ++ k ∷ []) 0 (first_of others path (suc k) after)
 
--- where a body is used: the path of its use, what follows the use, and where the labels lead that are given for its
--- parameters
+-- A use of a body: the path of the use, the address of what follows it, and the addresses to which the labels lead that
+-- are given for the body's parameters.
 pub record Frame : Type 0 where
   pub path : Address
   pub after : Address
   pub given : List Address
 
--- the first instruction from the k-th item of a body on: the item's own, or that of the block which it uses; at the
--- body's end, what follows the body's use
+-- The address of the first instruction from the k-th item of a body on. It is in the item itself, or in the block that
+-- the item uses. At the body's end it is the address of what follows the body's use.
 abbrev pub first_at : Items → Frame → ℕ → Address
 first_at items frame k = first_of (from_place k items) frame.path k frame.after
 
--- where a label of the k-th item of a body leads: to the next item, to a place of the body, or, for a parameter, to
--- where the label given for it leads
+-- Where a label of the k-th item of a body leads: to the next item, or to a place of the body. A parameter leads to
+-- where the label leads that is given for it.
 abbrev pub target : Items → Frame → ℕ → Label → Address
 target items frame k Next = first_at items frame (suc k)
 target items frame k (Place j) = first_at items frame j
@@ -57,8 +58,8 @@ pub record Placed : Type 0 where
   pub action : Action Label
   pub target : Label → Address
 
--- the instruction to which the rest of an address leads from the k-th item of a body on; the items from there on are
--- these
+-- The instruction to which an address leads. The address has led to the k-th item of a body so far, and only the rest
+-- of it is given. `items` has all items of the body, and the last argument has those from the k-th on.
 abbrev pub placed_from : Address → Items → Frame → ℕ → Items → Option Placed
 placed_from [] items frame k End = None
 placed_from [] items frame k (Do action others) = Some (record { action = action; target = target items frame k })

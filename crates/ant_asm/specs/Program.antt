@@ -17,7 +17,7 @@ from_place (suc k) End = End
 from_place (suc k) (Do action others) = from_place k others
 from_place (suc k) (Use handed block others) = from_place k others
 
--- how many instructions they expand to
+-- how many instructions the items expand to
 abbrev pub size_of : Items → ℕ
 size_of End = 0
 size_of (Do action others) = suc (size_of others)

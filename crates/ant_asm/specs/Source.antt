@@ -3,7 +3,8 @@ use Rattle.std.specs.Prelude.{ℕ, List}
 use Rattle.ant_asm.specs.Labels.{AreLabelsOf, LabelState}
 use Rattle.ant_asm.specs.StateLines.{AreStateLinesOf, StateLine}
 
--- its labels, each with the state to which it leads, and the line of the instruction of each state
+-- what is read of a labelled program: each label with the state to which it leads, and for each state the line of its
+-- instruction
 pub record ReadSource : Type 0 where
   pub labels : List LabelState
   pub lines : List StateLine

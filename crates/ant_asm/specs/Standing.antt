@@ -49,8 +49,9 @@ pub record Begun : Type 0 where
   pub line : ℕ
   pub draft : Draft
 
--- The state above a line: main so far, how many blocks have ended, the block of each name, the block that has begun and
--- not ended, and the first line of an ended block that names a label which its body doesn't have.
+-- The state above a line: main so far; how many blocks have ended; the block of each name; and the block that has begun
+-- and not ended, if there is one. `unknown` is the first line of an ended block that names a label which its body
+-- doesn't have.
 pub record Standing : Type 0 where
   pub main : Draft
   pub count : ℕ
@@ -76,7 +77,7 @@ new_draft parameters = record {
   size = 0;
 }
 
--- nothing
+-- the state above the first line, before anything was read
 abbrev pub nothing_yet : Standing
 nothing_yet = record { main = new_draft []; count = 0; blocks = λ name. None; begun = None; unknown = None }
 
@@ -142,7 +143,7 @@ unknown_in meaning (read ∷ others) =
 abbrev pub unknown_of : Draft → Option ℕ
 unknown_of draft = unknown_in draft.meaning draft.items
 
--- the earlier of two lines, each of which may be missing
+-- the earlier of two lines; either may be missing
 abbrev pub earlier : Option ℕ → Option ℕ → Option ℕ
 earlier None other = other
 earlier (Some line) None = Some line
@@ -166,7 +167,7 @@ current_of (Some begun) main = begun.draft
 abbrev pub current : Standing → Draft
 current standing = current_of standing.begun standing.main
 
--- the state with this body instead
+-- the state, with this body as the one to which lines are added
 abbrev pub with_current_of : Option Begun → Standing → Draft → Standing
 with_current_of None standing draft = record standing { main = draft }
 with_current_of (Some begun) standing draft = record standing { begun = Some (record begun { draft = draft }) }
@@ -174,16 +175,16 @@ with_current_of (Some begun) standing draft = record standing { begun = Some (re
 abbrev pub with_current : Standing → Draft → Standing
 with_current standing draft = with_current_of standing.begun standing draft
 
--- the fault if one more item is too many
+-- the fault of a line whose item expands to too many instructions, after the `size` instructions that its body has
 abbrev pub size_fault : ℕ → ℕ → ℕ → Option AsmFault
 size_fault size more line = if nat_lt most_states (size + more) then Some (TooMany line) else None
 
--- the fault of a name that has a meaning already, or none
+-- the fault of a line that names the next item, if the name already has a meaning
 abbrev pub mark_fault : Option Label → ℕ → Option AsmFault
 mark_fault None line = None
 mark_fault (Some label) line = Some (Twice line)
 
--- the fault of a use of a block that has ended or hasn't
+-- the fault of a line that uses a block; the block is given if it has ended
 abbrev pub use_fault : ℕ → Option Block → List Named → ℕ → Option AsmFault
 use_fault size None handed line = Some (NoBlock line)
 use_fault size (Some block) handed line =
@@ -191,7 +192,7 @@ use_fault size (Some block) handed line =
     then Some (WrongCount line)
     else size_fault size (size_of block.items) line
 
--- the fault of a line that begins a block whose name is free or taken
+-- the fault of a line that begins a block; `taken` is the ended block that already has its name, if there is one
 abbrev pub begin_fault : Option Begun → Option Block → ℕ → List (List ℕ) → ℕ → Option AsmFault
 begin_fault (Some begun) taken count parameters line = Some (Misplaced line)
 begin_fault None taken count parameters line =
@@ -228,7 +229,7 @@ with_line draft line item = record draft {
 abbrev pub block_of : Draft → Block
 block_of draft = record { parameters = draft.parameters; items = items_of draft }
 
--- a block has ended
+-- the state after the end of a block
 abbrev pub ended : Option Begun → Standing → Standing
 ended None standing = standing
 ended (Some begun) standing = record standing {
@@ -238,7 +239,7 @@ ended (Some begun) standing = record standing {
   unknown = earlier standing.unknown (unknown_of begun.draft);
 }
 
--- a block is used
+-- the state after the use of a block
 abbrev pub used : Option Block → Standing → ℕ → List Named → Standing
 used None standing line handed = standing
 used (Some block) standing line handed =

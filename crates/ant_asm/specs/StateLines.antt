@@ -1,4 +1,4 @@
--- The line of the text that has the instruction of each state (this project's own).
+-- For each state, the line of the text that has its instruction (this project's own).
 use Rattle.std.specs.Prelude.{◌≡◌, ℕ, zero, suc, List, [], ◌∷◌, ◌++◌, length, slice_get, Option, Some, codes, decimal}
 use Rattle.std.specs.List.{AllByRecursion}
 use Rattle.ant_base.specs.Layout.{◌+++◌}
@@ -34,9 +34,10 @@ from_item zero (Used line name block others) = Used line name block others
 from_item (suc k) (Instructed line others) = from_item k others
 from_item (suc k) (Used line name block others) = from_item k others
 
--- The line of the instruction to which the rest of an address leads, and the uses on the way, given the lines of a body
--- from the item on to which the address has led. An item's next place is one in the block that it uses. No instruction
--- is on line 0, since lines are counted from 1.
+-- The line of the instruction to which an address leads, and the uses on the way. The address has led to an item of a
+-- body so far. Only the rest of the address is given, with the lines of the body from that item on. The next number of
+-- the address is a place in the block that the item uses. If the address leads to no instruction, the line is 0. No
+-- instruction is on line 0, since lines are counted from 1.
 abbrev pub line_from : ℕ → Address → Outline → List WayStep → StateLine
 line_from state [] (Instructed line others) way = record { state = state; line = line; way = way }
 line_from state (k ∷ address) (Used line name block others) way =
@@ -48,17 +49,18 @@ abbrev pub line_at : Outline → ℕ → Address → StateLine
 line_at main state [] = record { state = state; line = 0; way = [] }
 line_at main state (k ∷ address) = line_from state address (from_item k main) []
 
--- the lines of the instructions at these addresses, the first of which is that of this state
+-- the lines of the instructions at these addresses; the first address is that of this state, the next is that of the
+-- next state, and so on
 abbrev pub lines_at : Outline → ℕ → List Address → List StateLine
 lines_at main state [] = []
 lines_at main state (address ∷ addresses) = line_at main state address ∷ lines_at main (suc state) addresses
 
--- the lines of the instructions of a program whose lines say this: a brain's state is the number of its instruction's
--- address among all, in order
+-- For each state of a program the line of its instruction, if the program's lines say this. The number of a state is
+-- the number of its instruction's address among all addresses of the program, in order.
 abbrev pub state_lines_of : Items → List NumberedLine → List StateLine
 state_lines_of main lines = lines_at (outline_of lines) 0 (places main)
 
--- these are the lines of the text's program
+-- these are the lines of the states of the text's program
 pub record AreStateLinesOf (text : List ℕ) (list : List StateLine) : Type 0 where
   pub main : Items
   pub is : IsAsmText text main
@@ -66,7 +68,7 @@ pub record AreStateLinesOf (text : List ℕ) (list : List StateLine) : Type 0 wh
   pub said : AreSaid (lines_with_tokens text) lines
   pub are : list ≡ state_lines_of main lines
 
--- the uses on the way: this precedes the first, and `/` every other
+-- the text of the uses on the way: `before` precedes the first use, and `/` precedes each of the others
 abbrev pub uses_text : List ℕ → List WayStep → List ℕ
 uses_text before [] = []
 uses_text before (step ∷ steps) =
@@ -81,8 +83,9 @@ abbrev pub state_lines_text : List StateLine → List ℕ
 state_lines_text [] = []
 state_lines_text (it ∷ others) = state_line_text it ++ state_lines_text others
 
--- The line with this number in the text has the instruction of the i-th of these addresses. Each label of the line
--- means a label of its body, and the instruction has the number of the place to which that one leads.
+-- The line with this number in the text has the instruction of the i-th of these addresses. Each label in that line
+-- means a label of the line's body. The instruction has, instead of each label, the number of the place to which it
+-- leads.
 pub record SaysInstruction (text : List ℕ) (list : List Address) (i number : ℕ) (instruction : Instr) : Type 0 where
   pub place : ℕ
   pub line : TokenLine
@@ -107,8 +110,9 @@ pub record SaysUse (text : List ℕ) (step : WayStep) : Type 0 where
   pub handed : List Named
   pub says : Says line.tokens (Uses step.name handed)
 
--- There is a line for each state of the brain to which the text is assembled, in order from 0. It has the state's
--- instruction, and a use for each place of the state's address except the last.
+-- For each state of the brain to which the text is assembled there is one line, in order from state 0. It is the line
+-- that has the state's instruction. It has the uses on the way there: one use for each place of the state's address
+-- except the last.
 pub record LineForEachState : Type 0 where
   pub as_many : (text : List ℕ) (brain : List Instr) (list : List Address) (lines : List StateLine)
       → IsAssembledText text brain list → AreStateLinesOf text lines → length lines ≡ length brain

@@ -50,7 +50,7 @@ pub enum Action<L> {
     },
 }
 
-// By hand, since a copy can't fail: a derived clone copies part by part, and might run out of memory at each.
+// By hand, since this copy can't fail. A derived clone copies part by part, and each part might run out of memory.
 impl<L: Copy> Clone for Action<L> {
     fn clone(&self) -> Result<Self, AllocError> {
         Ok(*self)

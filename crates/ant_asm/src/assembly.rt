@@ -1,4 +1,4 @@
-// A text assembled: its brain, and the places of the brain's instructions.
+// A text that is assembled: its brain, and the places of the brain's instructions.
 ghost use Rattle.std.specs.Prelude.{◌≡◌, ◌≤◌, ℕ, List, length, IfOk, IfErr, ◌<◌};
 ghost use Rattle.brain_read.specs.Soundness.{IsBrain};
 ghost use Rattle.ant_base.specs.Answers.{AnswersFault, IsFaultOr};

@@ -1,4 +1,4 @@
-// A program expanded.
+// A program that is being expanded to instructions.
 ghost use Rattle.std.specs.Prelude.{◌≡◌, ℕ, List, ◌+◌, ◌<◌, ◌≤◌, ◌++◌, length, OnOk, IfOk, map, [], ◌∷◌, Some, slice_get};
 ghost use Rattle.ant_asm.specs.declared.body.Body.{Body};
 ghost use Rattle.ant_asm.specs.Program.{size_of};
@@ -32,8 +32,8 @@ pub struct Frame<'f> {
     pub given: &'f [u16],
 }
 
-/// A body in use: its number and its frame, and the place of the next item or of the use at which another body is
-/// expanded.
+/// A body in use: its number, its frame, and a place in it. That is the place of the next item, or, while another body
+/// is expanded, that of its use.
 #[derive(Drop)]
 pub struct Put {
     pub number: usize,
@@ -90,7 +90,7 @@ fn number_target(spot: Spot, label: Label) -> u16
     }
 }
 
-// The numbers to which the labels lead that an item gives to a block.
+// For each label that an item gives to a block, the number to which it leads.
 fn handed_numbers(alloc: Global, spot: Spot, handed: &[Label]) -> Result<Vec<u16>, OutOfMemory>
     requires spot { IsSpot spot }
     requires labels { AreLabelsOf spot.bodies.now spot.number handed.now }

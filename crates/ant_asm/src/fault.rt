@@ -7,18 +7,18 @@ use std::alloc::{AllocError, AllocFailed};
 use std::error::Error;
 use std::fmt;
 
-/// The fault of a text that is not a labelled program: that of the first line at fault. If no line is at fault, it is a
-/// block without an end, no item, or a label that its body doesn't have. Lines are counted from 1, including those
-/// without a token.
+/// The fault of a text that is not a labelled program: that of its first line at fault. If no line is at fault, the
+/// text has a block without an end, no item in main, or a label that its body doesn't have. Lines are counted from 1,
+/// including those without a token.
 #[derive(Clone, Copy, Debug, PartialEq, Eq)]
 pub enum AsmFault {
     /// A token has a bad byte: any byte except tab, LF, CR and 32 to 126.
     BadByte { line: u32 },
-    /// The position needs a word, and its token is none of its words.
+    /// The position needs one of certain words, and its token is none of them.
     UnknownWord { line: u32 },
-    /// The line needs this position, and it has no token.
+    /// The line needs a token at this position, and has none.
     MissingToken { line: u32 },
-    /// The position needs a number, and its token is none that it accepts.
+    /// The position needs a number, and doesn't accept its token as one.
     BadNumber { line: u32 },
     /// There is a token after the end of the line's form.
     ExtraToken { line: u32 },
@@ -38,7 +38,7 @@ pub enum AsmFault {
     EmptyBlock { line: u32 },
     /// Main has no item.
     Empty,
-    /// A line names a label that its body doesn't have: the first such line.
+    /// A line names a label that its body doesn't have. This is the first such line.
     NoLabel { line: u32 },
     /// Memory ran out. This says nothing of the text.
     OutOfMemory,

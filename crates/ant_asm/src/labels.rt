@@ -1,4 +1,4 @@
-// The labels of a program, and the states that they became.
+// The labels of a program, and the states to which they lead.
 ghost use Rattle.std.specs.Prelude.{◌+◌, ◌≤◌, ◌<◌, [], length};
 ghost use Rattle.ant_base.specs.Sink.{Pushed};
 ghost use Rattle.ant_asm.specs.Labels.{labels_text};
@@ -32,7 +32,7 @@ impl Layout for Labels<'_> {
     }
 }
 
-// The labels of main, which is the last of these bodies, and of all bodies that it uses.
+// Pushes the labels of main, which is the last of the bodies, and those of all bodies that it uses.
 fn push_labels<K: Sink>(bodies: &[NamedBody], sink: &mut K) -> Result<(), Failed>
     requires { AreListed bodies.now }
     ensures { Pushed (K.state sink.old) (K.state sink.new) (labels_text (all_states (outline_at bodies.now (main_of bodies.now)) 0 0 [])) result }
@@ -45,7 +45,8 @@ fn push_labels<K: Sink>(bodies: &[NamedBody], sink: &mut K) -> Result<(), Failed
     Ok(())
 }
 
-// The own labels of the body with this number, given the number of its first instruction and that of what follows it.
+// Pushes the labels of the own lines of the body with this number. It needs the number of the body's first instruction,
+// and that of what follows the body.
 fn push_own<K: Sink>(
     bodies: &[NamedBody],
     number: usize,

@@ -15,9 +15,9 @@ pub fn one_brain()
     ensures { OneBrain }
 {}
 
-/// A law: for any opening world, other brain, numbers of the rules, seed, side and number of rounds, the game with an
-/// assembled brain is the labelled game of its program, with each address replaced by the number of its place; and it
-/// is at the same place of the stream (the task's kinetics and number generation).
+/// A law: the game with an assembled brain is the labelled game of its program, with each address replaced by the
+/// number of its place. It is at the same place of the stream. This holds for any opening world, other brain, numbers
+/// of the rules, seed, side and number of rounds (the task's kinetics and number generation).
 #[tactic(auto, using(crate::proofs::LabelGames::game_labelled))]
 pub fn plays_labelled()
     ensures { PlaysLabelled }
@@ -29,10 +29,10 @@ pub fn scores_labelled()
     ensures { ScoresLabelled }
 {}
 
-/// A law: there is a line for each state of the brain to which a text is assembled, in order from 0. The text's line
-/// with that number has the state's instruction, and the instruction's states are those to which the line's labels lead
-/// in its body. Each use that is listed is a line of the text, and there is one use for each place of the state's
-/// address except the last.
+/// A law: for each state of the brain to which a text is assembled there is one line, in order from state 0. The text's
+/// line with that number has the state's instruction. The states in the instruction are those to which the line's
+/// labels lead in its body. Each use that is listed is a line of the text. There is one use for each place of the
+/// state's address except the last.
 #[tactic(auto, using(crate::proofs::LineInstructions::line_for_each))]
 pub fn line_for_each_state()
     ensures { LineForEachState }

@@ -2,10 +2,10 @@
 //!
 //! A labelled program has labels instead of state numbers, and blocks that are used with labels for their parameters.
 //! The crate promises that [`assemble`] returns exactly the brain of a text's program, with the address of each of its
-//! instructions, or exactly the text's fault. It also promises that a game with that brain is the labelled game, in
-//! which there are no state numbers, with a number for each address. It depends on the tokens of `line_tokens`, the
-//! positions and brains of `brain_read`, the rules of `ant_turn`, the worlds of `cell_world`, the tables of
-//! `word_table` and the lines of `ant_base`.
+//! instructions, or exactly the text's fault. It also promises that a game with that brain is the labelled game, with a
+//! number for each address. The labelled game has no state numbers: its ants are at addresses of the program. The crate
+//! depends on the tokens of `line_tokens`, the positions and brains of `brain_read`, the rules of `ant_turn`, the
+//! worlds of `cell_world`, the tables of `word_table` and the lines of `ant_base`.
 //!
 //! The language is this project's own.
 #![tactic(auto)]

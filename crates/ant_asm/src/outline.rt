@@ -51,8 +51,7 @@ impl<'t> Outlines<'t> {
         }
     }
 
-    // Reads one more line, with this number. A program's lines have no fault, so a line can't be read only if memory
-    // ran out.
+    // Reads one more line, with this number. A program's lines have no fault, so this fails only if memory runs out.
     pub(crate) fn read(
         &mut self,
         alloc: Global,

@@ -4,7 +4,7 @@ ghost use Rattle.std.specs.Prelude.{◌≡◌, ◌<◌, length, slice_get, Some}
 use std::marker::Model;
 
 /// The address of an instruction in a program: a place in main, then a place in the block that is used there, and so
-/// on; all counted from 0. Contracts see the list of these numbers.
+/// on. All places are counted from 0. Contracts see the address as its list of numbers.
 #[derive(Drop)]
 pub struct Address {
     steps: Vec<u32>,
@@ -19,7 +19,7 @@ impl Model for Address {
 }
 
 impl Address {
-    // The address of these numbers.
+    // The address with these numbers.
     pub(crate) fn of(steps: Vec<u32>) -> Address
         ensures { result ≡ steps.items }
     {
@@ -33,7 +33,7 @@ impl Address {
         self.steps.len()
     }
 
-    /// Its number at `i`, which is from 0 and below the length. It takes no memory.
+    /// Its number at `i`. `i` is counted from 0, and below the length. It takes no memory.
     pub fn item(&self, i: usize) -> u32
         requires { i < length self.now }
         ensures { slice_get self.now i ≡ Some result }
@@ -65,14 +65,14 @@ impl Places {
         Places { list }
     }
 
-    /// How many there are: as many as the brain has states. It takes no memory.
+    /// How many addresses there are: one for each state of the brain. It takes no memory.
     pub fn len(&self) -> usize
         ensures { result ≡ length self.now }
     {
         self.list.len()
     }
 
-    /// The address of state `i`, which is from 0 and below the length. It takes no memory.
+    /// The address of state `i`. `i` is counted from 0, and below the length. It takes no memory.
     pub fn item(&self, i: usize) -> &Address
         requires { i < length self.now }
         ensures { slice_get self.now i ≡ Some result.now }

@@ -211,7 +211,7 @@ impl<'t> Program<'t> {
         Ok(())
     }
 
-    // Lines are added to main again, after they were added to a block.
+    // Ends the block: lines are added to main again.
     fn leave_block(&mut self)
         ensures { (outer : Outer) → self.old.outer ≡ Some outer → self.new ≡ record self.old { current = outer.main; outer = None } }
     {
@@ -265,7 +265,7 @@ fn is_same(name: &[u8], other: &[u8]) -> bool
     name == other
 }
 
-// The earlier of two lines, each of which may be missing.
+// The earlier of two lines; either may be missing.
 fn earlier(line: Option<u32>, other: Option<u32>) -> Option<u32>
     ensures { result ≡ earlier line other }
 {

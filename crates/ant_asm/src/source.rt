@@ -13,9 +13,9 @@ use crate::program::read_bodies;
 use std::alloc::Global;
 use std::marker::Model;
 
-/// The labels and the states of a labelled program, each with the uses on the way to its body: the state to which each
-/// label leads, and the line of each state's instruction (this project's own). Contracts see the two lists in order.
-/// Only the names in the text's lines are kept, however many labels, states and uses there are.
+/// The labels and the states of a labelled program (this project's own). Each label has the state to which it leads,
+/// and each state has the line of its instruction. Both have the uses on the way to their body. Contracts see the two
+/// lists in order. Only the names in the text's lines are kept, however many labels, states and uses there are.
 #[derive(Drop)]
 pub struct Source {
     pub(crate) bodies: Vec<NamedBody>,
@@ -32,8 +32,9 @@ impl Model for Source {
     ghost invariant = { λ source. AreListed source.bodies.items };
 }
 
-/// The labels and the states of a labelled program of at most 4,194,304 bytes, or the text's fault, which is the one
-/// that `assemble` returns. `OutOfMemory` may be returned for any text; every other result follows from the text alone.
+/// The labels and the states of a labelled program of at most 4,194,304 bytes, or the text's fault. The fault is the
+/// one that `assemble` returns. `OutOfMemory` may be returned for any text; every other result follows from the text
+/// alone.
 pub fn read_source(alloc: Global, text: &[u8]) -> Result<Source, AsmFault>
     requires { length text.now ≤ longest }
     ensures source { IfOk result (IsSourceOf text.now) }

@@ -1,9 +1,9 @@
-// Faults in the spelling of a line, and labels as they are spelled.
+// Faults in the spelling of a line, and how labels are spelled.
 use crate::fault::AsmFault;
 use line_tokens::{LineFault, Refusal};
 use std::alloc::AllocFailed;
 
-/// A label as it is spelled: the word `next`, or a name.
+/// How a label is spelled: as the word `next`, or as a name.
 #[derive(Clone, Copy)]
 pub enum Source<'t> {
     Next,

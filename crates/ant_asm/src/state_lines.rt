@@ -17,10 +17,10 @@ use ant_base::{Failed, Layout, Sink, layout};
 #[derive(Clone, Copy)]
 pub struct StateLines<'s>(pub &'s Source);
 
-/// A line for each state, in order: the state, from 0, and the line of its instruction, from 1, such as `3 12`. In a
-/// block that is used, a space and the uses on the way follow, from main on, with `/` between them: each is the name of
-/// its block, `@` and its line, such as `10 5 out_to_1@77/step@23`. Lines are pushed one by one, and it takes no
-/// memory.
+/// A line for each state, in order: the state, counted from 0, and the line of its instruction, counted from 1, such as
+/// `3 12`. If the instruction is in a block that is used, a space and the uses on the way follow, from main on, with
+/// `/` between them. Each use is the name of its block, `@` and its line, such as `10 5 out_to_1@77/step@23`. Lines are
+/// pushed one by one, and it takes no memory.
 impl Layout for StateLines<'_> {
     ghost use Rattle.ant_asm.specs.StateLines.{state_lines_text};
 
@@ -32,7 +32,7 @@ impl Layout for StateLines<'_> {
     }
 }
 
-// The lines of the states of main, which is the last of these bodies, and of all bodies that it uses.
+// Pushes the lines of the states of main, which is the last of the bodies, and those of all bodies that it uses.
 fn push_lines<K: Sink>(bodies: &[NamedBody], sink: &mut K) -> Result<(), Failed>
     requires { AreListed bodies.now }
     ensures { Pushed (K.state sink.old) (K.state sink.new) (state_lines_text (told_lines (outline_at bodies.now (main_of bodies.now)) 0 [])) result }

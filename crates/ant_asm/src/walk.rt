@@ -1,4 +1,4 @@
-// A walk over the bodies of a program, each as often as it is used.
+// A walk over the bodies of a program. It passes through a body each time that the body is used.
 ghost use Rattle.std.specs.Prelude.{◌≡◌, ◌==◌, ◌++◌, [], if◌then◌else◌};
 ghost use Rattle.ant_asm.specs.declared.walk.Met.TheVariants.{Body};
 ghost use Rattle.ant_asm.specs.Labels.Outline.{Closed};
@@ -123,7 +123,8 @@ impl<'s> Walk<'s> {
     }
 }
 
-// The number to which a label at this number leads, in a body that ends at `end`.
+// The state to which a label leads. `at` is the number of the instruction after it, and `end` that of the body's end.
+// If the two are equal, no instruction of the body follows the label, and it leads to `after`.
 pub(crate) fn state_from(at: u16, end: u16, after: u16) -> u16
     ensures { result ≡ (if at == end then after else at) }
 {

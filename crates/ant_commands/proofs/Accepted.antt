@@ -1,4 +1,4 @@
--- What was accepted of the files of a game can be played.
+-- A game can be played with what was accepted of its files.
 use Rattle.std.proofs.Common.{List, [], ◌∷◌, ℕ, sym, subst}
 use Rattle.ant_base.specs.Fetched.{Fetched}
 use Rattle.ant_turn.specs.Minds.{Fits}

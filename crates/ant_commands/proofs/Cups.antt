@@ -1,4 +1,4 @@
--- What was read of the files of a cup can be played, and its players' names are different.
+-- A cup can be played with what was read of its files, and the names of its players are different.
 use Rattle.std.proofs.Common.{◌≡◌, ◌≢◌, ℕ, zero, suc, ◌+◌, ◌*◌, ◌<◌, ◌≤◌, Bool, true, false, cond, List, [], ◌∷◌, ◌++◌, length, map, take, get_or, refl, sym, ◌∙◌, ap, subst, arith}
 use Rattle.std.proofs.lemmas.List.{get_or_default, length-map, map-append, take_more}
 use Rattle.std.proofs.Math.ListN.{get_or-map}
@@ -31,8 +31,8 @@ use Rattle.ant_commands.specs.Files.{AreAccepted}
 use Rattle.ant_commands.specs.Inner.Cups.{AreReady, CanBePlayed, Opens}
 use Rattle.ant_commands.specs.Outputs.{brain_file, cup_contents, cup_files, nowhere, score_between, score_in_cup}
 
--- what was read of the files of a cup: this many worlds at the start of a game, and this many brains with a state at
--- least
+-- What was read of the files of a cup: this many worlds at the start of a game, and this many brains with at least one
+-- state.
 pub record IsRoster (world_count player_count : ℕ) (worlds : List Grid) (players : List (List Instr)) : Type 0 where
   pub worlds_counted : length worlds ≡ world_count
   pub players_counted : length players ≡ player_count
@@ -151,7 +151,7 @@ other_name name other differ = go (bytes_eq name other) refl
     go true e = absurd (differ (sym ((bytes_eq-Decides name other).0 e)))
     go false e = e
 
--- of different names none is among those before it
+-- of different names, none is equal to one before it
 not_before : (names : List (List ℕ)) (i : ℕ) (none : List ℕ) → AllDiffer names → i < length names → has_name (take i names) (get_or names i none) ≡ false
 not_before [] i none differ below = absurd (omega arith)
 not_before (name ∷ names) zero none differ below = refl

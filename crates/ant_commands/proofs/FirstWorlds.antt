@@ -1,4 +1,4 @@
--- What follows of the promise where a command was broken off, and where a game was printed.
+-- What the promise implies if a command was broken off, and if a game was printed.
 use Rattle.std.proofs.Common.{◌≡◌, ℕ, ◌≤◌, true, false, List, length}
 use Rattle.ant_turn.specs.Rounds.{start_of}
 use Rattle.cell_world.specs.Grid.{world_of}
@@ -15,20 +15,20 @@ use Rattle.ant_commands.specs.Outputs.{ReadCup, Tells, TellsFirstWorlds, minds_n
 use Rattle.ant_commands.specs.Outside.{Outside}
 use Rattle.ant_commands.specs.Setups.{setup_of}
 
--- a command that has all its memory before it writes has written nothing in play, nor has a cup that tells its standing
--- alone
+-- A command that has all its memory before it writes has written nothing in play. Neither has a cup that prints only
+-- its standing.
 plain_writes_none : (files : List File) (IsText : List FileContent → List ℕ → Type 0) (contents : List FileContent) (front : List ℕ) → WritesInPlay (plain_job files IsText) contents front → ⊥
 plain_writes_none files IsText contents front is = is
 
 untold_cup : (worlds brains : List (List ℕ)) (format : Format) (rounds workers : ℕ) (contents : List FileContent) (front : List ℕ) → WritesInPlay (cup_job worlds brains format rounds workers false) contents front → ⊥
 untold_cup worlds brains format rounds workers contents front is = is
 
--- a cup that tells its games has written the lines of its first worlds' games
+-- a cup that prints its games has written the lines of the games on its first worlds
 cup_in_play : (worlds brains : List (List ℕ)) (format : Format) (rounds workers : ℕ) (contents : List FileContent) (front : List ℕ) → WritesInPlay (cup_job worlds brains format rounds workers true) contents front
     → Tells roster_contents (TellsFirstWorlds worlds brains format rounds) contents front
 cup_in_play worlds brains format rounds workers contents front is = is
 
--- which are no more than it has
+-- the first worlds are no more than the cup has
 first_worlds_tell : (worlds names : List (List ℕ)) (format : Format) (rounds : ℕ) (cup : ReadCup) (text : List ℕ) → TellsFirstWorlds worlds names format rounds cup text
     → (told : ℕ) × (told ≤ length worlds) × (text ≡ games_text format worlds names (first_played format names told (score_in_cup cup.worlds cup.players format.seeds rounds)) 1)
 first_worlds_tell worlds names format rounds cup text is = (is.told, is.some, is.is)

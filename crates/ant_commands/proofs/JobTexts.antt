@@ -1,4 +1,4 @@
--- What is kept of each command's job: its text ends in LF, is one, and is there.
+-- Each command's job: its text ends in LF, there is at most one, and there is one.
 use Rattle.std.proofs.Common.{◌*◌, Bool, List, [], ap, ap₂, append-nil, arith, false, inl, inr, length, refl, subst, sym, true, ℕ, ◌++◌, ◌∙◌, ◌∷◌, ◌≡◌, ◌≤◌, ◌⊎◌, ◌||◌}
 use Rattle.ant_asm.proofs.HasAssembled.{assembled-some, has_assembled}
 use Rattle.ant_asm.proofs.LineInstructions.{line_for_each}
@@ -215,7 +215,7 @@ has-asm true lines file fetches contents are = has_text_of (read_source file) (s
 
 -- what holds of a command's job, whatever its line says
 pub record JobLaws (a : PlainAsked) (job : Job) : Type 0 where
-  -- each output ends in LF, or tells no label
+  -- each output ends in LF, or has no label to print
   pub ends : AskedWithin a → (fetches : List Fetched) (contents : List FileContent) (text : List ℕ) → AreAccepted job.files fetches contents → job.IsText contents text
       → (ends_in_lf text ≡ true) ⊎ TellsNoLabel a text
   -- there is at most one
@@ -356,7 +356,7 @@ one_text a contents text other x y = (laws_of a).one contents text other x y
 pub has_output : HasOutput
 has_output a fetches contents within are room = (laws_of a).has within fetches contents are room
 
--- a game's text is that of another setup where each game's is
+-- the text of a game is the same with another setup, if the texts of all games are
 other_game : (setup other : RunSetup) (contents : List FileContent) (text : List ℕ) → ((game : ReadGame) → match_output setup game ≡ match_output other game)
     → Tells game_contents (is_text_of (match_output setup)) contents text → Tells game_contents (is_text_of (match_output other)) contents text
 other_game setup other contents text same is = record { value = is.value; read = is.read; told = is.told ∙ same is.value }

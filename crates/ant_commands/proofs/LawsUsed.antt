@@ -1,4 +1,4 @@
--- Each law of the commands, used on closed command lines: a law that says less, or that asks for more, doesn't give
+-- Each law of the commands, used on closed command lines. A law that says less, or that requires more, doesn't give
 -- these.
 use Rattle.std.proofs.Common.{◌≡◌, ◌≢◌, inl, inr, ℕ, zero, suc, ◌+◌, ◌<◌, ◌≤◌, Bool, true, false, List, [], ◌∷◌, ◌++◌, Option, Some, None, Ok, Err, codes, cond, nat_le, slice_get, unwrap_or, refl, sym, ap, ◌∙◌, subst, arith}
 use Rattle.std.proofs.lemmas.Bool.{lt-leb}
@@ -67,7 +67,7 @@ use Rattle.ant_commands.specs.Verdict.FilesVerdict.{AllAccepted}
 use Rattle.ant_commands.proofs.RunWorked.{reordered, two_rounds}
 use Rattle.ant_commands.proofs.WorkedJobs.{advance_told, later_save}
 
--- two command lines of one game, played by one worker, and by sixteen that stand by
+-- two command lines of one game: it is played by one worker, or by sixteen that stay ready
 abbrev one_worker : PlainAsked
 one_worker = asked_in Run (words_of (codes "run w r b --seed 1 --rounds 2 --workers 1"))
 
@@ -151,7 +151,7 @@ one_text_used : OneText → (text : List ℕ) → IsJobText (advance_job (codes 
 unfolding rest_after decimal_value
 one_text_used law text is = law advance_asked_later (save_contents saved) text (advance_output 3 saved) is (record { value = saved; read = refl; told = refl }) ∙ advance_told
 
--- what the words of a line ask for is within the limits, if they are a command
+-- the words of a line are within the limits, if they are a command
 within : (kind : CommandKind) (line : List ℕ) → read_of (words_of line) ≡ Ok (asked_in kind (words_of line)) → AskedWithin (asked_in kind (words_of line))
 within kind line read = within_limits (words_of line) (asked_in kind (words_of line)) (read-accepts (words_of line) (asked_in kind (words_of line)) read)
 
@@ -170,7 +170,7 @@ asm_within : AskedWithin (asm_line (codes "asm p")) × AskedWithin (asm_line (co
 unfolding command_kind_of choice_of is_among rest_after is_file_name is_dumps dumps_of decimal_value
 asm_within = (within Asm (codes "asm p") refl, within Asm (codes "asm p --labels") refl, within Asm (codes "asm p --lines --labels") refl)
 
--- of these jobs each output ends in LF
+-- each output of the job ends in LF
 abbrev EachEndsInLf : Job → Type 0
 EachEndsInLf job = (fetches : List Fetched) (contents : List FileContent) (text : List ℕ) → AreAccepted (files_of job) fetches contents → IsJobText job contents text → ends_in_lf text ≡ true
 
@@ -195,7 +195,7 @@ texts_end_in_lf_used law = (
   λ fetches contents text are is some. elim (law (asm_line (codes "asm p --labels")) fetches contents text asm_within.1 are is) [ inl ends ↦ ends | inr none ↦ absurd (some none.empty) ],
 )
 
--- a shelf on which each name is that of a brain of one instruction
+-- a shelf on which each name has a brain of one instruction
 abbrev drop_brain : List ℕ → Option (List ℕ)
 drop_brain name = Some (codes "Drop 0")
 
@@ -218,7 +218,7 @@ drop_judged = record {
   judged = (record { bytes = codes "Drop 0"; got = refl; reads = drop_text }, (refl, refl));
 }
 
--- one file is judged, and as nothing else
+-- one file is judged in this way, and in no other
 contents_judge_once_used : JudgesOnce → ((verdict : FilesVerdict) × IsJudged drop_brain brain_file verdict)
     × ((verdict : FilesVerdict) → IsJudged drop_brain brain_file verdict → verdict ≡ AllAccepted (BrainContent (Drop 0 ∷ []) ∷ []))
 contents_judge_once_used law =
@@ -262,8 +262,8 @@ played_text red black start =
 abbrev played_counts : List Instr → List Instr → Grid → List ℕ
 played_counts red black start = counts_text true (totals_of (minds_named counted red black) 7 3 (start_of (world_of start)) 5)
 
--- three files were fetched, which are a world and two brains, and the output got the whole text of their game; the
--- errors got nothing
+-- Three files were fetched, which are a world and two brains. The output got the whole text of their game. The errors
+-- got nothing.
 record Played (before after : Outside) : Type 0 where
   first : List ℕ
   second : List ℕ
@@ -299,9 +299,9 @@ headline_played law before after run =
       silent = game.silent;
     }
 
--- a run of a whole game prints it; where it says that a file wasn't read, that is so, and nothing was written, nor is
--- anything where a file is refused; where the output failed, a prefix was written; out of memory it says so; and it has
--- no other status. Words without a number of rounds are refused at word 7
+-- A run of a whole game prints it. If it says that a file wasn't read, that is so, and nothing was written. If a file
+-- is refused, nothing was written either. If the output failed, a prefix was written. If memory ran out, the run says
+-- so. It has no other status. Words without a number of rounds are refused at word 7.
 headline_used : Headline → (before after : Outside)
     → (IsRunTo all_words before after 0 → Played before after)
     × (IsRunTo all_words before after 3 → (name : List ℕ) × (after.out ≡ before.out) × Rose before.shelf.faults after.shelf.faults × GotLine before.err after.err (fault_line (AtFile name)))
@@ -327,7 +327,7 @@ headline_used law before after = (
   λ run. at_word_7 before after ((law no_rounds_words before after 2 run).no_command refl),
 )
 
--- the words of a run without counts, in another order than that of the table, and what they ask for
+-- the words of a run without counts, in a different order from the table's, and what they request
 abbrev plain_words : List (List ℕ)
 plain_words = words_of (codes "run w r b --rest 1 --far --dump 0,10 --rounds 5 --seed 7")
 
@@ -376,8 +376,8 @@ plain_played law before after run = elim (law.kept plain_words plain_asked reord
 none_among : ¬ Contains [] (codes "--stats")
 none_among it = (let no = it.1 in omega (arith, no))
 
--- at 0 the game was printed; the words ask for one run; and words that begin with `run`, without `--stats`, of which
--- the program printed a text, ask for one
+-- At 0 the game was printed. The words request one run. Words that begin with `run`, without `--stats`, request a run
+-- if the program printed a text.
 run_promise_used : RunPromise →
     ((before after : Outside) → IsRunTo plain_words before after 0 → PlainPlayed before after)
     × ((asked : RunAsked) → IsRunOf plain_words asked → asked ≡ plain_asked)
@@ -388,8 +388,8 @@ run_promise_used law = (
   λ before after run. law.every [] before after 0 run (λ e. omega (arith, e)) none_among,
 )
 
--- if it says that a file wasn't read, the shelf wasn't sure of it and failed; and each fetch agrees with what the shelf
--- tells
+-- If it says that a file wasn't read, the shelf wasn't sure of the file and failed. Each fetch agrees with what the
+-- shelf reports.
 run_shelf_used : RunShelf → (before after : Outside) → IsRunTo plain_words before after 3
     → ((name : List ℕ) × (before.shelf.sure name ≡ false) × Rose before.shelf.faults after.shelf.faults) × (fetches : List Fetched) × FetchesEach before.shelf after.shelf fetches
 run_shelf_used law before after run =
@@ -401,11 +401,11 @@ plain_read : read_of plain_words ≡ Ok (asked_in Run plain_words)
 unfolding command_kind_of choice_of is_among rest_after is_file_name is_dumps dumps_of decimal_value
 plain_read = refl
 
--- words that ask for a run
+-- words that request a run
 abbrev SomeRun : List (List ℕ) → Type 0
 SomeRun words = (asked : RunAsked) × IsRunOf words asked
 
--- words that are refused end with status 2, and what the table has as a run is one
+-- words that are refused end with status 2, and what is a run by the table is a run by the definition
 refused_words_used : RefusedWords →
     ((before after : Outside) (number : ℕ) → IsRunTo no_rounds_words before after number → (number ≡ 2) × (after.shelf ≡ before.shelf) × (after.out ≡ before.out) × GotLine before.err after.err (word_line 7))
     × SomeRun plain_words
@@ -418,7 +418,7 @@ refused_words_used law = (
   law.accepted plain_words (asked_in Run plain_words) (read-accepts plain_words (asked_in Run plain_words) plain_read) refl refl,
 )
 
--- by a program and the minimised one of its brain, red plays the same game
+-- red plays the same game by a labelled program and by its minimised brain
 assembled_and_minimised_used : AssembledAndMinimised → (main : Items) (brain new : List Instr) (list : List Address) (numbers : List (Option ℕ)) → IsAssembled main brain list → IsMinimised brain new numbers
     → (minds : Minds) (kinds : List Kind) → AreSound (with_mind minds Red brain) → Valid (world_of (opening 3 3 kinds))
     → (game (with_mind minds Red new) 7 3 3 kinds 5 ≡ renumbered_moment (new_number numbers) Red (numbered_moment list Red (label_game main Red minds 7 3 3 kinds 5)))
@@ -427,7 +427,7 @@ assembled_and_minimised_used law main brain new list numbers assembled minimised
     let it = law main brain new list numbers assembled minimised in
     (it.plays Red minds 7 3 3 kinds 5 sound valid, it.scores Red minds 7 3 3 kinds 5 sound valid)
 
--- a game of these words, saved after round 2 by one worker; and what `resume` says of it by sixteen
+-- a game with these words was saved after round 2 by one worker; and what `resume` prints of it by sixteen
 abbrev IsSave : ReadGame → List ℕ → Type 0
 IsSave game text = IsJobText (save_job (codes "w") (codes "r") (codes "b") (saved_setup counted 2 1)) (game_contents game) text
 
@@ -437,8 +437,8 @@ IsAfter game round saved = IsSavedAs (codes "w") (codes "r") (codes "b") counted
 abbrev resumed : Job
 resumed = resume_job (codes "s") (record { rounds = 5; dumps = EveryDump; workers = 16; stats = true })
 
--- the save is accepted, from a shelf too; what `resume` prints continues where the save was made, and after round 4
--- too, to which `advance` continues
+-- The save is accepted, from a shelf too. What `resume` prints continues where the save was made. The same holds for a
+-- save after round 4, which `advance` makes.
 saves_are_resumed_used : SavesAreResumed → (game : ReadGame) → IsGameOf (codes "w") (codes "r") (codes "b") counted game →
     ((text : List ℕ) → IsSave game text → (saved : SavedValue) × Reads (SaveFile 5) text (SaveContent saved))
     × ((text : List ℕ) (at : List ℕ → Option (List ℕ)) → IsSave game text → at (codes "s") ≡ Some text → (saved : SavedValue) × IsJudged at (files_of resumed) (AllAccepted (SaveContent saved ∷ [])))

@@ -23,7 +23,7 @@ files-append : (kind : FileKind) (a b : List (String Global)) → files_named ki
 files-append kind a b =
     ap (files_named kind) (map-append string_bytes a b) ∙ map-append (λ (name : List ℕ). record { name = name; kind = kind }) (texts a) (texts b)
 
--- the files of the first words are one more than those of one word less
+-- the files of the first words, with one word more, have one file more
 files-more : (kind : FileKind) (words : List (String Global)) (i : ℕ) (word : String Global) → i < length words → word ≡ get_or words i word
     → files_named kind (texts (take (i + 1) words)) ≡ files_named kind (texts (take i words)) ++ file_of kind word ∷ []
 files-more kind words i word below is =

@@ -1,4 +1,4 @@
--- The text and the save of a game by its plan are those by its words; and what a game that was played comes to.
+-- The text and the save of a game by its plan are those by its words. And the outcome of a game that was played.
 use Rattle.std.proofs.Common.{◌≡◌, ℕ, Bool, List, refl, ◌∙◌, ap, subst, Result, None}
 use Rattle.std.specs.Prelude.{IsErrAnd}
 use Rattle.ant_base.specs.Shelf.{ShelfState}
@@ -23,7 +23,7 @@ use Rattle.ant_commands.specs.Inner.Reading.ReadOutcome.{Contents}
 use Rattle.ant_commands.specs.Outputs.{ReadGame, Tells, chosen_rounds, game_contents, game_files, is_text_of, match_output, minds_named, save_output}
 use Rattle.ant_commands.proofs.Readings.{carries_done, carries_fault}
 
--- what is told of a game's files is told of what they were read as
+-- the text of a game's files is the text of what they were read as
 pub tells : (setting : Setting) (text_of : ReadGame → List ℕ) → Tells game_contents (is_text_of text_of) (setting_contents setting) (text_of (game_read setting))
 tells setting text_of = record { value = game_read setting; read = refl; told = refl }
 

@@ -1,4 +1,4 @@
--- What a cup whose games are printed comes to.
+-- The outcome of a cup whose games are printed.
 use Rattle.std.proofs.Common.{◌≡◌, ℕ, ◌*◌, ◌≤◌, List, ◌++◌, length, true, refl, sym, subst, Result, Ok, Err}
 use Rattle.ant_base.specs.Shelf.{ShelfState}
 use Rattle.ant_base.specs.Sink.{SinkState}
@@ -24,7 +24,7 @@ module _ (worlds brains : List (List ℕ)) (format : Format) (rounds workers : �
   abbrev command : Job
   command = cup_job worlds brains format rounds workers true
 
-  -- a text of the cup, of which the lines of the games on its first worlds are a proper prefix
+  -- a text of the cup; the lines of the games on its first worlds are a proper prefix of it
   record Front (printed : ℕ) : Type 0 where
     text : List ℕ
     is_text : IsPrintedCupText format worlds brains (score_in_cup cup.worlds cup.players format.seeds rounds) text
@@ -47,8 +47,8 @@ module _ (worlds brains : List (List ℕ)) (format : Format) (rounds workers : �
         left = lf_some _ (lf_last rest.0 (standing_text format.leads brains standing.0) (lf_standing format.leads format.gauntlet brains (length brains) (length worlds * format.seeds.count) score standing.0 some standing.1));
       }
 
-  -- its files were read, and its games were printed; or the output failed, or memory ran out after the lines of its
-  -- first worlds
+  -- Its files were read, and its games were printed; or the output failed; or memory ran out after the lines of the
+  -- games on its first worlds.
   pub carries_cup : {U : Type 0} (result : Result U CommandStop) (last : Result (Unit {0}) PushFault) → ending_of result ≡ play_ending last
       → ReadsFiles shelf new_shelf (cup_files worlds brains) (Contents (roster_contents cup)) → 1 ≤ length brains
       → Printed out new_out format worlds brains (score_in_cup cup.worlds cup.players format.seeds rounds) last → CarriesOut command shelf new_shelf out new_out (ending_of result)

@@ -228,13 +228,13 @@ read_cup worlds names = record {
 }
 
 module _ {A : Type 0} {files : List File} {contents_of : A → List FileContent} (reading : IsReading files contents_of) where
-  -- what is told of the same contents is told of one value
+  -- two texts of the same contents are texts of one value
   pub one_told : {IsText : A → List ℕ → Type 0} (contents : List FileContent) (text other : List ℕ) → ((value : A) → IsText value text → IsText value other → text ≡ other)
       → Tells contents_of IsText contents text → Tells contents_of IsText contents other → text ≡ other
   one_told {IsText = IsText} contents text other one a b =
       one a.value a.told (subst (λ (value : A). IsText value other) (reading.one b.value a.value (sym b.read ∙ a.read)) b.told)
 
-  -- so a text that is that of the value is one
+  -- so if the text is a function of the value, there is one text
   pub one_text_of : (text_of : A → List ℕ) (contents : List FileContent) (text other : List ℕ) → Tells contents_of (is_text_of text_of) contents text → Tells contents_of (is_text_of text_of) contents other → text ≡ other
   one_text_of text_of contents text other a b = one_told contents text other (λ value x y. x ∙ sym y) a b
 

@@ -1,4 +1,4 @@
--- Files read one after another: what the reading of some and then of others comes to.
+-- Files read one after another: the outcome of reading some files, and then others.
 use Rattle.std.proofs.Common.{◌≡◌, ◌⊎◌, ℕ, Bool, true, false, List, [], ◌∷◌, ◌++◌, refl, sym, ap, subst, inl, inr, Result, Ok, Err, Option, None, Some}
 use Rattle.std.specs.Prelude.{IsErrAnd}
 use Rattle.ant_base.proofs.Fetches.{fetches_none, fetches_then}
@@ -53,7 +53,7 @@ stops_first P (file ∷ a) b [] stops = absurd stops
 stops_first P (file ∷ a) b (fetch ∷ fetches) stops =
     elim stops [ inl here ↦ inl here | inr later ↦ inr (later.0, later.1, stops_first P a b fetches later.2) ]
 
--- the reading stopped at one that is such by a weaker fact too
+-- if the reading stopped for a fact, it also stopped for a weaker one
 stops_weaker : (P Q : File → Fetched → Type 0) (files : List File) (fetches : List Fetched) → ((file : File) (fetch : Fetched) → P file fetch → Q file fetch) → StopsAt P files fetches → StopsAt Q files fetches
 stops_weaker P Q [] fetches weaker stops = stops
 stops_weaker P Q (file ∷ files) [] weaker stops = stops
@@ -114,7 +114,7 @@ reading_stops_first first second a b fetches (AtInput name fault) stops = stops_
 reading_stops_first first second a b fetches (AtRoom element) stops = stops
 reading_stops_first first second a b fetches AtMemory stops = begun_first a b fetches stops
 
--- what comes of some contents, and then of an outcome
+-- the outcome of reading files with these contents first, and then others with this outcome
 abbrev pub after : List FileContent → ReadOutcome → ReadOutcome
 after contents (Contents others) = Contents (contents ++ others)
 after contents (Stopped reason) = Stopped reason
@@ -201,7 +201,7 @@ ends_as words command before after fetches None is ends =
     }
 ends_as words command before after fetches (Some reason) is ends = record { command = command; is_command = is; stopped = ends }
 
--- words that are a command were carried out as it was
+-- if words are a command, they were carried out as the command was
 pub carries_words : (words : List (List ℕ)) (command : PlainAsked) (shelf new_shelf : ShelfState) (out new_out : SinkState) (stop : Option Reason) → IsCommand words command
     → CarriesOut (job_of command) shelf new_shelf out new_out stop → CarriesOutWords words shelf new_shelf out new_out (ending_by stop)
 carries_words words command shelf new_shelf out new_out stop is carried =
@@ -216,18 +216,18 @@ pub carries_no_words : (words : List (List ℕ)) (word : ℕ) (shelf : ShelfStat
 carries_no_words words word shelf out refused =
     record { fetches = []; fetched = fetches_none shelf; ends = λ err new_err. record { refused = refused; unfetched = refl; kept = refl; unwritten = refl } }
 
--- the outcome of a call that answers with a stop
+-- the outcome of a call that returns a stop
 pub outcome_stopped : {V : Type 0} (contents_of : V → List FileContent) (result : Result V CommandStop) (why : CommandStop) → IsErrAnd result (λ other. other ≡ why) → Stopped (reason_of why) ≡ outcome_of contents_of result
 outcome_stopped contents_of (Ok value) why same = absurd same
 outcome_stopped contents_of (Err other) why same = ap (λ s. Stopped (reason_of s)) (sym same)
 
--- a call that answers with the stop of the files a, which come first
+-- a call that returns the stop of the files a, which come first
 pub stopped_first : {V : Type 0} (contents_of : V → List FileContent) (first second : ShelfState) (a b : List File) (result : Result V CommandStop) (why : CommandStop) → IsErrAnd result (λ other. other ≡ why)
     → ReadsFiles first second a (Stopped (reason_of why)) → ReadsFiles first second (a ++ b) (outcome_of contents_of result)
 stopped_first contents_of first second a b result why same reads =
     subst (ReadsFiles first second (a ++ b)) (outcome_stopped contents_of result why same) (reads_stopped first second a b (reason_of why) reads)
 
--- a call that answers with the stop of the files b, before which those of a were read
+-- a call that returns the stop of the files b; the files a were read before them
 pub stopped_later : {V : Type 0} (contents_of : V → List FileContent) (first second third : ShelfState) (a b : List File) (contents : List FileContent) (result : Result V CommandStop) (why : CommandStop) → IsErrAnd result (λ other. other ≡ why)
     → ReadsFiles first second a (Contents contents) → ReadsFiles second third b (Stopped (reason_of why)) → ReadsFiles first third (a ++ b) (outcome_of contents_of result)
 stopped_later contents_of first second third a b contents result why same one two =
@@ -237,19 +237,19 @@ pub ending_stopped : {U : Type 0} (result : Result U CommandStop) (why : Command
 ending_stopped (Ok done) why same = absurd same
 ending_stopped (Err other) why same = ap (λ s. Some (reason_of s)) (sym same)
 
--- a command that answers with the stop of its files
+-- a command that returns the stop of its files
 pub carries_stop : {U : Type 0} (command : Job) (shelf new_shelf : ShelfState) (out : SinkState) (result : Result U CommandStop) (why : CommandStop) → IsErrAnd result (λ other. other ≡ why)
     → ReadsFiles shelf new_shelf (files_of command) (Stopped (reason_of why)) → CarriesOut command shelf new_shelf out out (ending_of result)
 carries_stop command shelf new_shelf out result why same reads =
     subst (CarriesOut command shelf new_shelf out out) (ending_stopped result why same) (carries_stopped command shelf new_shelf out (reason_of why) reads)
 
--- a command that answers with a failed output
+-- a command that returns that its output failed
 carries_failure : {U : Type 0} (command : Job) (shelf new_shelf : ShelfState) (out new_out : SinkState) (contents : List FileContent) (result : Result U CommandStop) → IsErrAnd result (λ other. other ≡ stop.Write)
     → ReadsFiles shelf new_shelf (files_of command) (Contents contents) → (text : List ℕ) → IsJobText command contents text → PushedFront out new_out text → CarriesOut command shelf new_shelf out new_out (ending_of result)
 carries_failure command shelf new_shelf out new_out contents result same reads text is pushed =
     subst (CarriesOut command shelf new_shelf out new_out) (ending_stopped result stop.Write same) (carries_cut command shelf new_shelf out new_out contents reads text is pushed)
 
--- a command that pushes its text last, and answers as that went
+-- a command that pushes its text last, and returns the result of the push
 pub carries_pushed : {U : Type 0} (command : Job) (shelf new_shelf : ShelfState) (out new_out : SinkState) (contents : List FileContent) (result : Result U CommandStop) (last : Result (Unit {0}) Failed) → ending_of result ≡ push_ending last
     → ReadsFiles shelf new_shelf (files_of command) (Contents contents) → (text : List ℕ) → IsJobText command contents text → Pushed out new_out text last → CarriesOut command shelf new_shelf out new_out (ending_of result)
 carries_pushed command shelf new_shelf out new_out contents result (Ok done) same reads text is pushed =
@@ -257,7 +257,7 @@ carries_pushed command shelf new_shelf out new_out contents result (Ok done) sam
 carries_pushed command shelf new_shelf out new_out contents result (Err failed) same reads text is pushed =
     subst (CarriesOut command shelf new_shelf out new_out) (sym same) (carries_cut command shelf new_shelf out new_out contents reads text is pushed)
 
--- a command that answers with the fault of a play
+-- a command that returns the fault of a play
 pub carries_fault : {U : Type 0} (command : Job) (shelf new_shelf : ShelfState) (out new_out : SinkState) (contents : List FileContent) (result : Result U CommandStop) (fault : PushFault) → IsErrAnd result (λ other. other ≡ stop_of fault)
     → ReadsFiles shelf new_shelf (files_of command) (Contents contents) → (text : List ℕ) → IsJobText command contents text → StoppedBy out new_out text fault → ((front : List ℕ) → WritesInPlay command contents front)
     → CarriesOut command shelf new_shelf out new_out (ending_of result)
@@ -265,7 +265,7 @@ carries_fault command shelf new_shelf out new_out contents result play.WriteFaul
 carries_fault command shelf new_shelf out new_out contents result play.OutOfMemory same reads text is pushed in_play =
     subst (CarriesOut command shelf new_shelf out new_out) (ending_stopped result stop.Memory same) (carries_broken command shelf new_shelf out new_out contents reads text is pushed (in_play pushed.front))
 
--- a command that plays a game last, and answers as that went
+-- a command that plays a game last, and returns the result of the play
 pub carries_played : {U V : Type 0} (command : Job) (shelf new_shelf : ShelfState) (out new_out : SinkState) (contents : List FileContent) (result : Result U CommandStop) (last : Result V PushFault) → ending_of result ≡ play_ending last
     → ReadsFiles shelf new_shelf (files_of command) (Contents contents) → (text : List ℕ) → IsJobText command contents text → PushedBy out new_out text last → ((front : List ℕ) → WritesInPlay command contents front)
     → CarriesOut command shelf new_shelf out new_out (ending_of result)
@@ -276,17 +276,17 @@ carries_played command shelf new_shelf out new_out contents result (Err play.Wri
 carries_played command shelf new_shelf out new_out contents result (Err play.OutOfMemory) same reads text is pushed in_play =
     subst (CarriesOut command shelf new_shelf out new_out) (sym same) (carries_broken command shelf new_shelf out new_out contents reads text is pushed (in_play pushed.front))
 
--- a command that answers out of memory before a file was fetched
+-- a command that returns out of memory before a file was fetched
 pub carries_wanting : {U : Type 0} (command : Job) (shelf : ShelfState) (out : SinkState) (result : Result U CommandStop) → IsErrAnd result (λ other. other ≡ stop.Memory) → CarriesOut command shelf shelf out out (ending_of result)
 carries_wanting command shelf out result same = subst (CarriesOut command shelf shelf out out) (ending_stopped result stop.Memory same) (carries_nothing command shelf out)
 
--- a command that answers out of memory after its files were read
+-- a command that returns out of memory after its files were read
 pub carries_wanting_later : {U : Type 0} (command : Job) (shelf new_shelf : ShelfState) (out : SinkState) (contents : List FileContent) (result : Result U CommandStop) → IsErrAnd result (λ other. other ≡ stop.Memory)
     → ReadsFiles shelf new_shelf (files_of command) (Contents contents) → CarriesOut command shelf new_shelf out out (ending_of result)
 carries_wanting_later command shelf new_shelf out contents result same reads =
     carries_stop command shelf new_shelf out result stop.Memory same (reads_wanting shelf new_shelf (files_of command) contents reads)
 
--- a command that answers with the fault of a telling, which has all its memory before it pushes
+-- a command that returns the fault of a report, which has all its memory before it pushes
 pub carries_early : {U : Type 0} (command : Job) (shelf new_shelf : ShelfState) (out new_out : SinkState) (contents : List FileContent) (result : Result U CommandStop) (fault : PushFault) → IsErrAnd result (λ other. other ≡ stop_of fault)
     → ReadsFiles shelf new_shelf (files_of command) (Contents contents) → (text : List ℕ) → IsJobText command contents text → StoppedBefore out new_out text fault → CarriesOut command shelf new_shelf out new_out (ending_of result)
 carries_early command shelf new_shelf out new_out contents result play.WriteFault same reads text is pushed = carries_failure command shelf new_shelf out new_out contents result same reads text is pushed

@@ -115,7 +115,7 @@ module _ (setup : RunSetup) (game : ReadGame) (round : ℕ) (is : Begins setup g
       ∙ ap (λ (t : List ℕ). seed_text setup.seed +++ front +++ t) (sym is_rest)
       ∙ sym (append_assoc (seed_text setup.seed) front rest)
 
-  -- advanced, it is the save after the later round
+  -- if the save is advanced, it is the save after the later round
   again : (workers others later : ℕ) (saved : List ℕ) (found : SavedValue) (text : List ℕ) → round ≤ later → later ≤ setup.rounds
       → saved ≡ save_output (saved_setup setup round workers) game → IsSaveText saved found → text ≡ advance_output later found
       → text ≡ save_output (saved_setup setup later others) game
@@ -161,7 +161,7 @@ accepted : (world red black : List ℕ) (setup : RunSetup) (game : ReadGame) (ro
     → text ≡ save_output (saved_setup setup round workers) game → (saved : SavedValue) × Reads (SaveFile setup.rounds) text (SaveContent saved)
 accepted world red black setup game round workers text is early told = accept setup game round (begins world red black setup game is.fetches is.within is.accepted) early workers text told
 
--- and short enough for a file
+-- the save is short enough for a file
 short : (world red black : List ℕ) (setup : RunSetup) (game : ReadGame) (round workers : ℕ) (text : List ℕ) → IsGameOf world red black setup game → round ≤ setup.rounds
     → text ≡ save_output (saved_setup setup round workers) game → length text ≤ longest
 unfolding save_output
@@ -170,7 +170,7 @@ short world red black setup game round workers text is early told =
     (saves_are_short (saved_after (minds_named setup game.red game.black) setup.seed setup.window (world_of game.world) round)
     (kept-saved setup game round (begins world red black setup game is.fetches is.within is.accepted) early))
 
--- so a shelf that holds it gives it, and it is accepted
+-- so if a shelf has the save, it returns it, and it is accepted
 fetched : (world red black save : List ℕ) (setup : RunSetup) (game : ReadGame) (round workers others : ℕ) (text : List ℕ) (at : List ℕ → Option (List ℕ)) → IsGameOf world red black setup game
     → round ≤ setup.rounds → text ≡ save_output (saved_setup setup round workers) game → at save ≡ Some text
     → (saved : SavedValue) × IsJudged at (files_of (resume_job save (resumed_setup setup others))) (AllAccepted (SaveContent saved ∷ []))

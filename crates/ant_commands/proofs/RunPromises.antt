@@ -48,7 +48,7 @@ use Rattle.ant_commands.proofs.Headlines.{headline}
 use Rattle.ant_commands.proofs.RunWords.{IsTableRun, among_words, run_of_form, run_said, table_run}
 use Rattle.ant_commands.proofs.Texts.{never_both}
 
--- what a run of these files with these options asks for
+-- what a run of the files with the options requests
 abbrev asked_for : List ℕ → List ℕ → List ℕ → RunSetup → RunAsked
 asked_for world red black setup =
     record { world = world; red = red; black = black; seed = setup.seed; rounds = setup.rounds; dumps = chosen_rounds setup.dumps; sheet = sheet_named setup }
@@ -268,7 +268,7 @@ record HasStopped (world red black : List ℕ) (setup : RunSetup) (before after 
   stopped : StopsFor (run_job world red black setup) before after fetches reason
   line : GotLine before.err after.err (fault_line reason)
 
--- if a file was not read
+-- the status if a file was not read
 unread_at : (world red black : List ℕ) (setup : RunSetup) (before after : Outside) (name : List ℕ) → HasStopped world red black setup before after (AtFile name)
     → (kind : TextKind) × StopsAtFile (asked_for world red black setup) before after kind name (Err why.Failed)
 unread_at world red black setup before after name it =
@@ -344,7 +344,7 @@ wants_memory world red black setup before after off it = record {
   line = has_line before.err after.err (fault_line AtMemory) it.line;
 }
 
--- what a command stopped for is what this run stopped for
+-- the reason for which the command stopped is the reason for which this run stopped
 has_stopped : (words : List (List ℕ)) (before after : Outside) (reason : Reason) → IsCommand words (asked_in Run words) → NamesTheReason words before after reason
     → HasStopped ((asked_in Run words).file 0) ((asked_in Run words).file 1) ((asked_in Run words).file 2) (setup_of (asked_in Run words)) before after reason
 has_stopped words before after reason is it = record {
@@ -415,7 +415,7 @@ every words before after number run other uncounted =
 pub run_promise : RunPromise
 run_promise = record { kept = kept; one = one; every = every }
 
--- a run at whose end a file was not read
+-- a run that ended because a file was not read
 unread_of : (words : List (List ℕ)) (asked : RunAsked) → IsRunOf words asked → (before after : Outside) → IsRunTo words before after 3
     → (kind : TextKind) × (name : List ℕ) × StopsAtFile asked before after kind name (Err why.Failed) × (before.shelf.sure name ≡ false) × Rose before.shelf.faults after.shelf.faults
 unread_of words asked is before after run =

@@ -1,4 +1,4 @@
--- The words of a `run` are those that the table of commands has, and say the same.
+-- The words of a `run` are those that the table of commands has, and they request the same.
 use Rattle.std.proofs.Common.{◌≡◌, ◌≢◌, inl, inr, ℕ, nat_le, Bool, true, false, ◌&&◌, cond, List, [], ◌∷◌, ◌++◌, map, Option, Some, None, is_some, option_map, unwrap_or, codes, bytes_eq, refl, sym, ap, ◌∙◌, subst, lit<}
 use Rattle.std.specs.List.{AllByRecursion, AllZip, Contains, flat_map}
 use Rattle.std.proofs.lemmas.Bool.{and_from, and_parts, false≢true, le-leb, leb-true}
@@ -159,7 +159,7 @@ dumps_read word dumps e =
     go false e false f (Some rounds) is dumps same =
         (let one : ChosenDumps rounds ≡ dumps = cc in subst (λ d. IsDumps (chosen_rounds d) word) one (TheseRounds rounds word (numbers_read (pieces_of word) rounds is)))
 
--- what a command line of `run` asks for
+-- what a command line of `run` requests
 abbrev pub run_said : PlainAsked → RunAsked
 run_said plain = record {
   world = plain.file 0;
@@ -171,7 +171,7 @@ run_said plain = record {
   sheet = record { surround = plain.option choice.Surround; corpse = plain.option choice.Corpse; rest = plain.option choice.Rest };
 }
 
--- what options that are given say of these files
+-- what the options that are given request of these files
 abbrev heard : RunAsked → List Given → RunAsked
 heard asked given = record asked {
   seed = said SeedNumber 0 (value_given choice.Seed given);
@@ -283,7 +283,7 @@ given_heard world red black [] asked are = ap (λ (a : RunAsked). bare_run a.wor
 given_heard world red black (option ∷ options) asked are =
     says are.1 (parts_of option.1) (given_of (bare_run world red black) options are.0 are.2) (joined-parts option.1) (given_heard world red black options are.0 are.2)
 
--- another name than each of theirs is none of theirs
+-- a name that is different from each of theirs is the name of none of them
 given_others : (start : RunAsked) (options : List Named) (asked : RunAsked) (are : AreOptions start options asked) (of : Choice)
     → AllByRecursion (λ other. other ≢ option_of of) (names_of options) → AllByRecursion (λ other. other.choice ≢ of) (given_of start options asked are)
 given_others start [] asked are of differ = tt
@@ -337,7 +337,7 @@ needs_two given seed rounds of known =
     AllByRecursion-at (λ of. is_needed of ≡ true → IsGiven of given) (choices_of Run) of
     (λ e. seed, (λ e. rounds, (never, (never, (never, (never, (never, (never, (never, (never, tt)))))))))) known
 
--- the words are a command that asks for this, and not for counts
+-- the words are a command that requests this, without counts
 pub record IsTableRun (words : List (List ℕ)) (asked : RunAsked) : Type 0 where
   pub is : IsCommand words (asked_in Run words)
   pub uncounted : (asked_in Run words).has choice.Stats ≡ false
@@ -412,7 +412,8 @@ nothing_there : (values : List (List (List ℕ))) → FitAll [] values → value
 nothing_there [] fit = refl
 nothing_there (part ∷ values) fit = absurd fit
 
--- an option of the table is one of a run: before what is said already, it says what is heard of all together
+-- An option of the table is an option of a run: it turns what the given options request into what they request together
+-- with it.
 abbrev IsOfRun : RunAsked → Choice → List (List (List ℕ)) → List Given → Type 0
 IsOfRun asked of values given = IsOption (heard asked given) (option_of of) (joined values) (heard asked (given_as of values ∷ given))
 

@@ -1,4 +1,4 @@
--- Words of a `run` with what they say, words that are none, and what no status says.
+-- Words of a `run` and what they request, words that are no `run`, and what no status says.
 use Rattle.std.proofs.Common.{◌≡◌, ◌≢◌, ◌⊎◌, inl, inr, ℕ, ◌≤◌, nat_eq, Bool, true, false, List, [], ◌∷◌, ◌++◌, length, Result, Ok, Err, codes, bytes_eq, refl, sym, ap, ◌∙◌, lit<, arith}
 use Rattle.std.specs.List.{list_any}
 use Rattle.std.proofs.lemmas.Bool.{false≢true}
@@ -36,11 +36,11 @@ limited = record seeded { rounds = 5 }
 abbrev dumped : (ℕ → Bool) → RunAsked
 dumped dumps = record limited { dumps = dumps }
 
--- the same with other rules
+-- the same with other numbers of the rules
 abbrev ruled : ℕ → ℕ → ℕ → RunAsked
 ruled surround corpse rest = record (dumped (λ round. true)) { sheet = record { surround = surround; corpse = corpse; rest = rest } }
 
--- what all options say, in another order than that of the table
+-- what all options request, in a different order from the table's
 pub all_said : AreOptions (bare_run (codes "w") (codes "r") (codes "b"))
     ((codes "--far", []) ∷ (codes "--rest", codes "1" ∷ []) ∷ (codes "--corpse", codes "2" ∷ []) ∷ (codes "--surround", codes "6" ∷ []) ∷ (codes "--window", codes "3" ∷ [])
     ∷ (codes "--workers", codes "4" ∷ []) ∷ (codes "--dump", codes "all" ∷ []) ∷ (codes "--rounds", codes "5" ∷ []) ∷ (codes "--seed", codes "7" ∷ []) ∷ [])
@@ -76,7 +76,7 @@ all_said = (
   ),
 )
 
--- and what is said without them
+-- what the words request without them
 pub least_said : AreOptions (bare_run (codes "w") (codes "r") (codes "b")) ((codes "--rounds", codes "5" ∷ []) ∷ (codes "--seed", codes "7" ∷ []) ∷ [])
     (record bare { seed = 7; rounds = 5; dumps = λ round. false; sheet = record { surround = 5; corpse = 3; rest = 14 } })
 unfolding decimal_value
@@ -89,7 +89,7 @@ differ name other apart same = false≢true (sym apart ∙ ap (λ (n : List ℕ)
 abbrev pub two_rounds : ℕ → Bool
 two_rounds round = list_any (λ number. nat_eq number round) (0 ∷ 10 ∷ [])
 
--- a command line whose options stand in another order
+-- a command line with its options in a different order
 pub reordered : IsRunOf (words_of (codes "run w r b --rest 1 --far --dump 0,10 --rounds 5 --seed 7"))
     (record { world = codes "w"; red = codes "r"; black = codes "b"; seed = 7; rounds = 5; dumps = two_rounds; sheet = record { surround = 5; corpse = 3; rest = 1 } })
 unfolding decimal_value is_file_name
@@ -162,7 +162,7 @@ within_limits asked = (
   Dump (λ round. true) (codes "all") EveryRound,
 )
 
--- no option says a number beyond its limits
+-- no option sets a number beyond its limits
 pub seed_ends : {asked new : RunAsked} {name : List ℕ} {words : List (List ℕ)} → IsOption asked name words new → new.seed ≡ 4294967296 → asked.seed ≡ 4294967296
 seed_ends (Seed n word is) e = absurd (let most = is.2 in omega (arith, e))
 seed_ends it e = e
@@ -171,11 +171,11 @@ pub rounds_end : {asked new : RunAsked} {name : List ℕ} {words : List (List �
 rounds_end (Rounds n word is) e = absurd (let most = is.2 in omega (arith, e))
 rounds_end it e = e
 
--- words that no command line of a `run` is
+-- words that are not the command line of any `run`
 no_run : (words : List (List ℕ)) (number : ℕ) → read_of words ≡ Err number → (asked : RunAsked) → ¬ IsRunOf words asked
 no_run words number refused asked is = read-none words number refused (asked_in Run words) (table_run words asked is).is
 
--- an option that stands twice
+-- an option that is given twice
 pub seed_twice : (asked : RunAsked) → ¬ IsRunOf (words_of (codes "run w r b --seed 1 --rounds 2 --seed 1")) asked
 unfolding command_kind_of choice_of is_among rest_after is_file_name is_dumps dumps_of decimal_value
 seed_twice = no_run (words_of (codes "run w r b --seed 1 --rounds 2 --seed 1")) 9 refl
@@ -199,7 +199,7 @@ pub two_commas : (asked : RunAsked) → ¬ IsRunOf (words_of (codes "run w r b -
 unfolding command_kind_of choice_of is_among rest_after is_file_name is_dumps dumps_of decimal_value
 two_commas = no_run (words_of (codes "run w r b --dump 1,,2 --seed 1 --rounds 2")) 6 refl
 
--- a fetch that failed is no file that isn't accepted; one that was too long says so
+-- A failed fetch doesn't make a file unfit. A file that is too long is unfit, and the line says so.
 not_unfit : (says : List ℕ) → ¬ IsUnfit OfWorld (Err Failed) says
 not_unfit says is = (let no : ⊥ = (let same = is.0 in cc) in no)
 
@@ -215,17 +215,17 @@ stopped_alone : {asked : RunAsked} {before after : Outside} {kind : TextKind} {n
     → after.out ≡ before.out
 stopped_alone at = at.unwritten
 
--- the same if it stopped before the text was begun; what it fetched is reported
+-- the same if a run stopped before the text was begun; its fetches are known
 unbegun_alone : (asked : RunAsked) (before after : Outside) → IsNotBegun asked before after → (after.out ≡ before.out) × ((fetches : List Fetched) × DidFetch before after fetches)
 unbegun_alone asked before after (NothingFetched did unwritten) = (unwritten, ([], did))
 unbegun_alone asked before after (BytesCame kind name bytes at) = (at.unwritten, (at.earlier ++ (fetch name (Ok bytes) ∷ []), at.fetched))
 unbegun_alone asked before after (NoBytes kind name at) = (at.unwritten, (at.earlier ++ (fetch name (Err OutOfMemory) ∷ []), at.fetched))
 
--- of a text that is given up there is something left
+-- if a text is given up, a part of it is left
 part_left : (out new_out : SinkState) (text : List ℕ) (part : PushedPart out new_out text) → 1 ≤ length part.1
 part_left out new_out text part = part.3
 
--- before a brain a world was fetched, and before the black brain a red one too
+-- a world was fetched before a brain, and a red brain before the black one
 pub read_before : {asked : RunAsked} {kind : TextKind} {name : List ℕ} {earlier : List Fetched} → ComesNext asked kind name earlier
     → ((kind ≡ OfWorld) × (name ≡ asked.world) × (earlier ≡ []))
     ⊎ ((first : List ℕ) × (kind ≡ OfBrain) × (name ≡ asked.red) × (earlier ≡ fetch asked.world (Ok first) ∷ []) × IsText OfWorld first)

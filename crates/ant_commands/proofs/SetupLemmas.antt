@@ -1,4 +1,4 @@
--- What a command line says to a command is within its limits.
+-- What a command line passes to a command is within the command's limits.
 use Rattle.std.proofs.Common.{Bool, ℕ, ◌≡◌, ap, refl, sym, subst, lit<}
 use Rattle.std.specs.List.{Contains}
 use Rattle.command_words.specs.Command.{AreWithin, AskedWithin, PlainAsked}

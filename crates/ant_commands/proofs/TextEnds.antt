@@ -351,7 +351,7 @@ lf_standing leads gauntlet names players worlds score lines some at =
     let all = length-below players in
     lf_flat_map (table_line_text leads names) lines (omega (arith, counted, each, all, some)) (lf_table_line leads names)
 
--- the lines of games stand before it
+-- the lines of games precede it
 pub lf_printed : (format : Format) (worlds names : List (List ℕ)) (score : ℕ → ℕ → ℕ → Score) (text : List ℕ) → 1 ≤ length names → IsPrintedCupText format worlds names score text → EndsInLf text
 lf_printed format worlds names score text some told =
     subst EndsInLf (sym told.is)
@@ -399,7 +399,7 @@ lf_report told from minds seed w rounds =
     lf_then (seed_text seed) (flat_map (λ words. words +++ codes "\n") lines) (lf_seed seed)
     (lines_flat_map (λ words. words +++ codes "\n") lines (λ words. lf_last words (codes "\n") lf_end))
 
--- who died, who took and dropped food, and how the score went
+-- deaths, food that was taken and dropped, and changes of the score
 pub lf_events : (food : Bool) (setup : ReportSetup) (game : ReadGame) → EndsInLf (events_output food setup game)
 unfolding events_output
 lf_events food setup game = lf_report (event_lines food) setup.from (told_minds setup.told game) setup.told.seed (world_of game.world) setup.told.rounds
@@ -440,7 +440,7 @@ lf_profile setup game =
     lf_then (seed_text told.seed) (brain_lines Red game.red list +++ brain_lines Black game.black list) (lf_seed told.seed)
     (lines_then (brain_lines Red game.red list) (brain_lines Black game.black list) (lines_tallies minds told.seed w told.rounds setup.from Red game.red) (lines_tallies minds told.seed w told.rounds setup.from Black game.black))
 
--- what two brains come to
+-- the comparison of two brains
 lf_found : (found : Found) → EndsInLf (found_text found)
 unfolding found_text
 lf_found found =

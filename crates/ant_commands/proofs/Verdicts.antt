@@ -1,5 +1,5 @@
 -- What the end of a run says of its status: when the words are not a command, when input is refused, and that nothing
--- else is in the way.
+-- else prevents the run from being done.
 use Rattle.std.proofs.Common.{◌≡◌, ◌≢◌, ◌⊎◌, inl, inr, ℕ, ◌<◌, ◌≤◌, true, List, [], ◌∷◌, ◌++◌, length, map, Ok, Err, Option, Some, None, refl, sym, ◌∙◌, ap, subst, arith}
 use Rattle.std.specs.List.{AllByRecursion}
 use Rattle.std.specs.Prelude.{IsSomeAnd}
@@ -54,7 +54,7 @@ never_long name bytes (Some other) same short long =
     let more : longest < length bytes = subst (λ (b : List ℕ). longest < length b) one long in
     omega arith
 
--- bytes are got of no name that is too long
+-- if a file is too long, its fetch returns no bytes
 pub never_bytes : (at : At) (name bytes : List ℕ) (first second : Fetched) → IsTold (Some at) first → IsTold (Some at) second → first ≡ record { name = name; answer = Ok bytes } → second ≡ record { name = name; answer = Err answer.TooLong } → ⊥
 never_bytes at name bytes first second one two got long =
     let content = told_bytes at name bytes first one got in
@@ -76,7 +76,7 @@ pub one_verdict : (at : At) (file : File) (first second : Fetched) (content : Fi
 one_verdict at file first second content fault one two is refused =
     elim refused [ inl long ↦ never_bytes at file.name is.bytes first second one two is.got long.1 | inr bad ↦ accepted_no_text at file first second content fault one two is bad ]
 
--- files that are all accepted have none that is refused
+-- if all files are accepted, none is refused
 pub accepted_never_refused : (at : At) (files : List File) (first second : List Fetched) (contents : List FileContent) (name : List ℕ) (fault : FileFault) → AllByRecursion (IsTold (Some at)) first → AllByRecursion (IsTold (Some at)) second
     → AreAccepted files first contents → StopsAt (IsRefusedAs name fault) files second → ⊥
 accepted_never_refused at [] first second contents name fault one two are stops = stops
@@ -93,16 +93,16 @@ accepted_never_refused at (file ∷ files) (x ∷ first) (y ∷ second) (content
 accepted_name : (file : File) (fetch : Fetched) (content : FileContent) → IsAccepted file fetch content → fetch.name ≡ file.name
 accepted_name file fetch content is = ap (λ (f : Fetched). f.name) is.got
 
--- so did that of a refused one
+-- the fetch of a refused file requested its name too
 refused_name : (file : File) (fetch : Fetched) (fault : FileFault) → IsRefused file fetch fault → fetch.name ≡ file.name
 refused_name file fetch fault is = elim is [ inl long ↦ ap (λ (f : Fetched). f.name) long.1 | inr bad ↦ ap (λ (f : Fetched). f.name) bad.got ]
 
--- the shelf was sure of a file of which it wasn't
+-- a shelf can't be both sure and unsure of a file
 never_sure : (shelf : ShelfState) (name : List ℕ) (file : File) (fetch other : Fetched) → IsUnsure shelf name file fetch → other.name ≡ file.name → shelf.sure other.name ≡ true → ⊥
 never_sure shelf name file fetch other unsure named sure =
     false≢true (sym unsure.unsure ∙ ap shelf.sure (sym unsure.named ∙ sym named) ∙ sure)
 
--- if the shelf was sure of all files up to the verdict, no reading stopped at one of which it wasn't
+-- if the shelf was sure of all files up to the verdict, no reading stopped because it was unsure of a file
 sure_accepted : (shelf : ShelfState) (name : List ℕ) (files : List File) (first second : List Fetched) (contents : List FileContent) → AreSure shelf second → StopsAt (IsUnsure shelf name) files first → AreAccepted files second contents → ⊥
 sure_accepted shelf name [] first second contents sure stops are = stops
 sure_accepted shelf name (file ∷ files) [] second contents sure stops are = stops
@@ -185,7 +185,7 @@ in_order_by command before after fetches (Some (AtRoom element)) ends = in_order
 in_order_by command before after fetches (Some AtMemory) ends =
     elim ends [ inl unbegun ↦ in_order_begun (files_of command) fetches unbegun.begun | inr broken ↦ in_order_accepted (files_of command) fetches broken.contents broken.accepted ]
 
--- lists with the same prefix are the same in their rests
+-- if two lists are equal and have the same prefix, their rests are equal
 same_rest : {X : Type 0} (front a b : List X) → front ++ a ≡ front ++ b → a ≡ b
 same_rest [] a b same = same
 same_rest (x ∷ front) a b same = same_rest front a b (cc)
@@ -238,7 +238,7 @@ complete_run words before after ended run = λ contents is room shelf_held out_h
     subst (λ (s : Status). (s ≡ status.Done) ⊎ (s ≡ status.Memory)) (sym (status_by words is.command before after ended run it))
     (complete_by is.at (job_of is.command) before after run.fetches is.judged.fetches contents it.stop (told_of_run words before after ended is.at run is.told) is.judged.told is.judged.judged room it.ends shelf_held out_held)
 
--- a run of which an element has no room ends so, or runs out of memory
+-- if an element has no room, a run ends with that reason, or runs out of memory
 crowding_by : (command : PlainAsked) (before after : Outside) (fetches : List Fetched) (element : ℕ) (stop : Option Reason) → LacksRoom (job_of command) element → EndsBy (job_of command) before after fetches stop
     → (ending_status (ending_by stop) ≡ status.Input) ⊎ (ending_status (ending_by stop) ≡ status.Memory)
 crowding_by command before after fetches element None lacks ends = absurd (((laws_of command).crowded element lacks).1 ends.contents ends.text ends.is_text)
@@ -254,7 +254,7 @@ crowding_run words before after ended run = λ command element is lacks.
     subst (λ (s : Status). (s ≡ status.Input) ⊎ (s ≡ status.Memory)) (sym (status_by words command before after ended run it))
     (crowding_by command before after run.fetches element it.stop lacks it.ends)
 
--- a run of which a file is refused ends so, or runs out of memory
+-- if a file is refused, a run ends with that reason, or runs out of memory
 refusing_by : (at : At) (command : Job) (before after : Outside) (fetches told : List Fetched) (name : List ℕ) (fault : FileFault) (stop : Option Reason) → AllByRecursion (IsTold (Some at)) fetches
     → AllByRecursion (IsTold (Some at)) told → StopsAt (IsRefusedAs name fault) (files_of command) told → EndsBy command before after fetches stop → ¬ Rose before.shelf.faults after.shelf.faults
     → (ending_status (ending_by stop) ≡ status.Input) ⊎ (ending_status (ending_by stop) ≡ status.Memory)
@@ -273,7 +273,7 @@ refusing_run words before after ended run = λ name fault is shelf_held.
     subst (λ (s : Status). (s ≡ status.Input) ⊎ (s ≡ status.Memory)) (sym (status_by words is.command before after ended run it))
     (refusing_by is.at (job_of is.command) before after run.fetches is.judged.fetches name fault it.stop (told_of_run words before after ended is.at run is.told) is.judged.told is.judged.judged it.ends shelf_held)
 
--- no run ends at a file that was not read where the shelf is sure of the files up to the verdict
+-- if the shelf is sure of the files up to the verdict, no run ends at a file that was not read
 read_by : (at : At) (command : Job) (before after : Outside) (fetches told : List Fetched) (verdict : FilesVerdict) (stop : Option Reason) → AllByRecursion (IsTold (Some at)) fetches
     → AllByRecursion (IsTold (Some at)) told → Judged (files_of command) told verdict → AreSure before.shelf told → EndsBy command before after fetches stop → ending_status (ending_by stop) ≢ status.Read
 read_by at command before after fetches told verdict (Some (AtFile name)) one two judged sure ends = λ same. sure_judged at before.shelf name (files_of command) fetches told verdict one two sure ends.stopped judged

@@ -1,4 +1,4 @@
--- The view of a game, which is found by searching, is the one that the words ask for.
+-- The view of a game is found by a search. It is the view that the words request.
 use Rattle.std.proofs.Common.{◌≡◌, ℕ, List, Option, refl, ◌∙◌, ap}
 use Rattle.ant_turn.specs.Minds.{Minds, contest_minds}
 use Rattle.ant_turn.specs.Sheet.{Sheet, contest}

@@ -1,4 +1,4 @@
--- What a command line of each command asks for, as its job: which word is which file, and which option which number.
+-- The job that a command line of each command requests: which word is which file, and which option which number.
 use Rattle.std.proofs.Common.{◌≡◌, ℕ, List, ◌∷◌, [], Some, None, ap, codes, false, true, refl, ◌∙◌}
 use Rattle.std.specs.Fmt.{digits}
 use Rattle.ant_asm.specs.Source.{ReadSource}
@@ -94,13 +94,13 @@ pub asm_lines_asked : job_of (asked_in Asm (words_of (codes "asm p --lines"))) �
 unfolding is_among rest_after is_file_name is_dumps dumps_of decimal_value
 asm_lines_asked = refl
 
--- by either option the file is read as where its labels and states stand
+-- with either option the file is read for its labels and states
 pub asm_reads : (files_of (asm_job (codes "p") true false) ≡ record { name = codes "p"; kind = LabelledFile true } ∷ [])
     × (files_of (asm_job (codes "p") false true) ≡ record { name = codes "p"; kind = LabelledFile true } ∷ [])
     × (files_of (asm_job (codes "p") false false) ≡ record { name = codes "p"; kind = LabelledFile false } ∷ [])
 asm_reads = (refl, refl, refl)
 
--- go: / use back, below a block in whose second line an instruction stands
+-- go: / use back, after a block with an instruction in its second line
 abbrev source : ReadSource
 source = record {
   labels = record { way = []; name = codes "go"; state = 0 } ∷ [];

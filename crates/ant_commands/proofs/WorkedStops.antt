@@ -1,4 +1,4 @@
--- Lines, statuses and numbers of endings, among them those that no test brings about.
+-- Lines, statuses and numbers of endings. Some of these endings occur in no test.
 use Rattle.std.proofs.Common.{◌≡◌, [], ◌∷◌, codes, map, refl}
 use Rattle.std.specs.Fmt.{digits}
 use Rattle.brain_read.specs.declared.fault.BrainFault.TheVariants as brain
@@ -30,17 +30,17 @@ pub memory_line : fault_line AtMemory ≡ codes "ants: out of memory\n"
 unfolding fault_line
 memory_line = refl
 
--- the column of a position is before its row
+-- the column of a position precedes its row
 pub open_rim_line : fault_line (AtInput (codes "w") (file.Text (text.World (world.OpenRim 2 0)))) ≡ codes "ants: w: rim open at (2, 0)\n"
 unfolding digits fault_line
 open_rim_line = refl
 
--- the row of a bad cell is before its column
+-- the row of a bad cell precedes its column
 pub bad_cell_line : fault_line (AtInput (codes "w") (file.Text (text.World (world.BadCell 1 2)))) ≡ codes "ants: w: row 1: bad cell at column 2\n"
 unfolding digits fault_line
 bad_cell_line = refl
 
--- a line of a brain is before its state
+-- the line of a brain precedes the state
 pub no_state_line : fault_line (AtInput (codes "b") (file.Text (text.Brain (brain.NoSuchState 2 5)))) ≡ codes "ants: b: line 2: no such state 5\n"
 unfolding digits fault_line
 no_state_line = refl

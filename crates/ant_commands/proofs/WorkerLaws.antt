@@ -1,4 +1,4 @@
--- How many workers play, and whether they stand by, is in no command's files and in no text.
+-- No command's files and no text depend on how many workers play, or on whether they stay ready.
 use Rattle.std.proofs.Common.{◌≡◌, ◌≢◌, ℕ, Bool, false, List, Option, Some, refl, sym, ◌∙◌, ap, subst, slice_get}
 use Rattle.command_words.specs.Command.{PlainAsked}
 use Rattle.command_words.specs.Table.{number_place, places_of}
@@ -16,7 +16,7 @@ use Rattle.ant_commands.specs.Jobs.{job_by, job_of}
 use Rattle.ant_commands.specs.Laws.{AreAlikeButForWorkers, WorkersChangeNothing}
 use Rattle.ant_commands.specs.Outputs.{match_output, resume_output, save_output}
 
--- a number that says no workers, an option's, and whether an option is given that says nothing of them
+-- a word's number, an option's number, and whether an option is given; 0 and false if it is about workers
 abbrev number-of : Option Place → ℕ → ℕ
 number-of (Some (Word (Number WorkerCount))) number = 0
 number-of place number = number
@@ -51,7 +51,7 @@ has-same Workers a b same = refl
 has-same Far a b same = refl
 has-same choice a b same = same (λ e. let no : ⊥ = cc in no) (λ e. let no : ⊥ = cc in no)
 
--- two that are alike are one without them
+-- two command lines that are alike are equal without their workers
 without-same : (a b : PlainAsked) → AreAlikeButForWorkers a b → without a.kind a ≡ without b.kind b
 without-same a b like = λ i. record {
   kind = like.kind i;
@@ -64,7 +64,7 @@ without-same a b like = λ i. record {
   has = λ choice. has-same choice (a.has choice) (b.has choice) (like.has choice) i;
 }
 
--- no job asks for them
+-- no job depends on the workers
 same_files : (kind : CommandKind) (a : PlainAsked) → files_of (job_by kind a) ≡ files_of (job_by kind (without kind a))
 same_files Run a = refl
 same_files kind a = refl

@@ -1,4 +1,4 @@
--- What came of a game of a workload.
+-- The outcome of a workload's game.
 use Rattle.std.proofs.Common.{◌≡◌, ℕ, List, ◌∙◌, ap, ap₂}
 use Rattle.ant_turn.specs.Minds.{Minds}
 use Rattle.ant_turn.specs.Sheet.{Sheet, contest}

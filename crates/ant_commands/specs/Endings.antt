@@ -30,20 +30,20 @@ pub record IsCut (command : Job) (before after : Outside) (fetches : List Fetche
   pub is_text : IsJobText command contents text
   pub cut : PushedFront before.out after.out text
 
--- the fetch of the file, which has this name, failed, and the shelf wasn't sure of it
+-- the file has this name, its fetch failed, and the shelf wasn't sure of it
 pub record IsUnsure (shelf : ShelfState) (name : List ℕ) (file : File) (fetch : Fetched) : Type 0 where
   pub named : file.name ≡ name
   pub failed : fetch ≡ record { name = file.name; answer = Err answer.Failed }
   pub unsure : shelf.sure name ≡ false
 
--- a file was not read: its fetch failed, the shelf's count of faults rose, each file before it was accepted, and
--- nothing was written
+-- A file was not read: its fetch failed, and the shelf's count of faults rose. Each file before it was accepted.
+-- Nothing was written.
 pub record IsUnread (command : Job) (before after : Outside) (fetches : List Fetched) (name : List ℕ) : Type 0 where
   pub stopped : StopsAt (IsUnsure before.shelf name) (files_of command) fetches
   pub rose : Rose before.shelf.faults after.shelf.faults
   pub unwritten : after.out ≡ before.out
 
--- a file was refused, each file before it was accepted, and nothing was written
+-- A file was refused. Each file before it was accepted. Nothing was written.
 pub record IsBadInput (command : Job) (before after : Outside) (fetches : List Fetched) (name : List ℕ)
     (fault : FileFault) : Type 0 where
   pub stopped : StopsAt (IsRefusedAs name fault) (files_of command) fetches
@@ -56,14 +56,14 @@ pub record IsCrowded (command : Job) (before after : Outside) (fetches : List Fe
   pub lacks : LacksRoom command element
   pub unwritten : after.out ≡ before.out
 
--- memory ran out before the text was begun; no fetch failed or was too long, each fetched file, except perhaps the
--- last, was accepted, and nothing was written
+-- Memory ran out before the text was begun. No fetch failed or was too long. Each fetched file, except perhaps the
+-- last, was accepted. Nothing was written.
 pub record IsUnbegun (command : Job) (before after : Outside) (fetches : List Fetched) : Type 0 where
   pub begun : AreBegun (files_of command) fetches
   pub unwritten : after.out ≡ before.out
 
--- all files were accepted, and a proper prefix of the text was written before memory ran out; only a command that
--- writes while it plays can end in this way
+-- All files were accepted, and a proper prefix of the text was written before memory ran out. Only a command that
+-- writes while it plays can end in this way.
 pub record IsBrokenOff (command : Job) (before after : Outside) (fetches : List Fetched) : Type 0 where
   pub contents : List FileContent
   pub accepted : AreAccepted (files_of command) fetches contents

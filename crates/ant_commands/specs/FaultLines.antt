@@ -32,7 +32,7 @@ pub data Ending : Type 0 where
   RefusedWord : ℕ → Ending
   Stopped : Reason → Ending
 
--- a stop without the addresses of its names
+-- the reason of a stop: each name as its bytes, without its address
 abbrev pub reason_of : CommandStop → Reason
 reason_of (stop.Read name) = AtFile name.now
 reason_of stop.Write = AtOutput
@@ -40,12 +40,12 @@ reason_of (stop.Input name fault) = AtInput name.now fault
 reason_of (stop.NoRoom element) = AtRoom element
 reason_of stop.Memory = AtMemory
 
--- the ending of a command that stopped for a reason, or for none
+-- the ending of a command: done if it had no reason to stop, otherwise stopped for this reason
 abbrev pub ending_by : Option Reason → Ending
 ending_by None = Done
 ending_by (Some reason) = Stopped reason
 
--- an ending without the addresses of its names
+-- an ending, with each name as its bytes, without its address
 abbrev pub plain_ending : Ended → Ending
 plain_ending ended.Done = Done
 plain_ending (ended.RefusedWord word) = RefusedWord word

@@ -19,8 +19,8 @@ use Rattle.world_read.specs.Opened.{OpensAs}
 use Rattle.ant_commands.specs.declared.stop.FileFault.{FileFault}
 use Rattle.ant_commands.specs.declared.stop.FileFault.TheVariants.{Breaks, Text}
 
--- what a file is read as. A labelled program is read for its brain, or for its labels and states. A save must have at
--- most this many rounds done
+-- What a file is read as. A labelled program is read for its brain, or for its labels and states. A save must have at
+-- most this many rounds done.
 pub data FileKind : Type 0 where
   WorldFile : FileKind
   BrainFile : FileKind
@@ -69,13 +69,13 @@ pub record IsAccepted (file : File) (fetch : Fetched) (content : FileContent) : 
   pub got : fetch ≡ record { name = file.name; answer = Ok bytes }
   pub reads : Reads file.kind bytes content
 
--- the file was fetched, and its bytes are not in its grammar, with this fault
+-- the file was fetched; its bytes are not in its grammar, and have this fault
 pub record IsNoText (file : File) (fetch : Fetched) (fault : FileFault) : Type 0 where
   pub bytes : List ℕ
   pub got : fetch ≡ record { name = file.name; answer = Ok bytes }
   pub refuses : Refuses file.kind bytes fault
 
--- the file was fetched, and is refused with this fault: it is too long, or isn't such a text
+-- the file was fetched and is refused with this fault: it is too long, or its bytes are not in its grammar
 abbrev pub IsRefused : File → Fetched → FileFault → Type 0
 IsRefused file fetch fault =
     ((fault ≡ Text TooLong) × (fetch ≡ record { name = file.name; answer = Err answer.TooLong }))
@@ -89,8 +89,8 @@ AreAccepted (file ∷ files) (fetch ∷ fetches) [] = ⊥
 AreAccepted (file ∷ files) (fetch ∷ fetches) (content ∷ contents) =
     IsAccepted file fetch content × AreAccepted files fetches contents
 
--- the files were fetched, each once and in order, up to one for which this holds; each before it was accepted, and none
--- after it was fetched
+-- The files were fetched, each once and in order, up to one for which `IsSuch` holds. Each file before it was accepted.
+-- No file after it was fetched.
 abbrev pub StopsAt : (File → Fetched → Type 0) → List File → List Fetched → Type 0
 StopsAt IsSuch [] fetches = ⊥
 StopsAt IsSuch (file ∷ files) [] = ⊥
@@ -104,8 +104,8 @@ IsFetched file fetch =
     ((bytes : List ℕ) × (fetch ≡ record { name = file.name; answer = Ok bytes }))
     ⊎ (fetch ≡ record { name = file.name; answer = Err answer.OutOfMemory })
 
--- the first of the files were fetched, each once and in order: each, except perhaps the last, was accepted, and none
--- failed or was too long
+-- The fetches are those of the first files of the list, each once and in order. Each fetched file, except perhaps the
+-- last, was accepted. No fetch failed or was too long.
 abbrev pub AreBegun : List File → List Fetched → Type 0
 AreBegun [] fetches = fetches ≡ []
 AreBegun (file ∷ files) [] = Unit {0}

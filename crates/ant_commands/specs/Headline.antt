@@ -1,6 +1,6 @@
 -- The promise on one page, to be read from the top down. Each run of `run_to_exit` ends with one of six statuses, and
--- each status says what was fetched, accepted and written (this project's own). `IsRunTo` is what the call that `main`
--- makes ensures; the law `headline` says that everything below follows from it.
+-- each status says what was fetched, accepted and written (this project's own). `IsRunTo` is what the call in `main`
+-- ensures. The law `headline` says that everything below follows from it.
 use Rattle.std.specs.Prelude.{◌≡◌, ◌≢◌, ◌⊎◌, ℕ, ◌+◌, false, List, [], ◌∷◌, Ok}
 use Rattle.ant_base.specs.Fetched.{Fetched}
 use Rattle.ant_base.specs.Layout.{◌+++◌}
@@ -44,8 +44,8 @@ pub record PrintsItsOutput (words : List (List ℕ)) (before after : Outside) : 
   pub text : List ℕ
   pub is_text : IsJobText (job_of command) contents text
   pub written : PushedAll before.out after.out text
-  -- if the output reports what waits, all of it was flushed; and if the text has no bytes, nothing waits that didn't
-  -- before
+  -- If the output reports what waits, nothing waits to be flushed after a text with bytes. After a text without bytes,
+  -- nothing waits if nothing waited before.
   pub flushed : text ≢ [] → NothingWaits after.out.waiting
   pub kept : NothingWaits before.out.waiting → NothingWaits after.out.waiting
   -- the errors got nothing
@@ -67,8 +67,8 @@ pub record PrintsTheGame (world red black : List ℕ) (setup : RunSetup) (before
   pub is_red : IsBrainText red_bytes red_brain
   pub black_brain : List Instr
   pub is_black : IsBrainText black_bytes black_brain
-  -- the output got the line of the seed, the dump of the world after each chosen round from 0 to the last, the score of
-  -- the world after the last, and nothing else except the counts, if they are requested
+  -- The output got the line of the seed, the dump of the world after each chosen round from 0 to the last, and the
+  -- score of the world after the last round. It got nothing else, except the counts if they are requested.
   pub counts : List ℕ
   pub uncounted : setup.stats ≡ false → counts ≡ []
   pub written : PushedAll before.out after.out (
@@ -87,8 +87,8 @@ pub record TellsItsCounts (world red black : List ℕ) (setup : RunSetup) (befor
   pub told : game.counts ≡ counts_text setup.stats
       (totals_of (minds_named setup game.red_brain game.black_brain) setup.seed setup.window (start_of (world_of game.start)) setup.rounds)
 
--- status 2: the words are not a command, and the errors got the line of the first word that is refused; nothing was
--- fetched or written
+-- Status 2: the words are not a command, and the errors got the line of the first word that is refused. Nothing was
+-- fetched or written.
 pub record NamesTheWord (words : List (List ℕ)) (before after : Outside) : Type 0 where
   pub none : IsNoCommand words
   pub word : ℕ
@@ -97,7 +97,7 @@ pub record NamesTheWord (words : List (List ℕ)) (before after : Outside) : Typ
   pub unwritten : after.out ≡ before.out
   pub line : GotLine before.err after.err (word_line word)
 
--- each other status: the words are a command, which stopped for this reason, and the errors got its line
+-- each other status: the words are a command, the command stopped for this reason, and the errors got the reason's line
 pub record NamesTheReason (words : List (List ℕ)) (before after : Outside) (reason : Reason) : Type 0 where
   pub command : PlainAsked
   pub is_command : IsCommand words command
@@ -118,8 +118,8 @@ pub record KeepsPromise (words : List (List ℕ)) (before after : Outside) (numb
   pub refused : number ≡ 5
       → ((name : List ℕ) × (fault : FileFault) × NamesTheReason words before after (AtInput name fault))
       ⊎ ((element : ℕ) × NamesTheReason words before after (AtRoom element))
-  -- nothing was written; or a proper prefix of its text, by a `run` or a `resume`, and by a `cup` with `--games` the
-  -- lines of the games on its first worlds
+  -- Nothing was written, or a proper prefix of the text. Only a `run`, a `resume` or a `cup` with `--games` writes such
+  -- a prefix. For a cup it is the lines of the games on its first worlds.
   pub out_of_memory : number ≡ 6 → NamesTheReason words before after AtMemory
   pub no_other : (number ≡ 0) ⊎ (number ≡ 2) ⊎ (number ≡ 3) ⊎ (number ≡ 4) ⊎ (number ≡ 5) ⊎ (number ≡ 6)
 

@@ -12,7 +12,7 @@ pub record Job : Type 1 where
   pub Lacks : ℕ → Type 0
   -- it writes while it plays, and this may be what it has written so far
   pub InPlay : List FileContent → List ℕ → Type 0
-  -- how many workers it names for its windows; one if it plays none
+  -- how many workers its words name for its windows; one if it plays no windows
   pub workers : ℕ
 
 -- a job that generates no world, has all memory that it needs before it writes, and plays no windows

@@ -42,15 +42,15 @@ use Rattle.tournament.specs.declared.format.Seeds.{Seeds}
 use Rattle.ant_commands.specs.Verdict.{IsJudged}
 use Rattle.ant_commands.specs.Verdict.FilesVerdict.{AllAccepted}
 
--- a text without bytes, of `asm` with `--labels` and without `--lines`: its program has no labels
+-- a text without bytes, written by `asm` with `--labels` and without `--lines` for a program without labels
 pub record TellsNoLabel (command : PlainAsked) (text : List ℕ) : Type 0 where
   pub is : command.kind ≡ Asm
   pub labels : command.has Labels ≡ true
   pub no_lines : command.has Lines ≡ false
   pub empty : text ≡ []
 
--- each output of a command whose numbers and names are within the limits, and whose files were accepted, ends in LF, or
--- reports no label
+-- Suppose that a command's numbers and names are within the limits, and that its files were accepted. Then each of its
+-- outputs ends in LF, or is a text without bytes because a program has no labels.
 abbrev pub TextsEndInLf : Type 0
 TextsEndInLf =
     (command : PlainAsked) (fetches : List Fetched) (contents : List FileContent) (text : List ℕ) → AskedWithin command
@@ -74,7 +74,7 @@ pub record AreAlikeButForWorkers (a b : PlainAsked) : Type 0 where
   pub dumps : a.dumps ≡ b.dumps
   pub has : (choice : Choice) → choice ≢ Workers → choice ≢ Far → a.has choice ≡ b.has choice
 
--- they read the same files and have the same outputs
+-- two such command lines read the same files and have the same outputs
 pub record WorkersChangeNothing : Type 0 where
   pub files : (a b : PlainAsked) → AreAlikeButForWorkers a b → files_of (job_of a) ≡ files_of (job_of b)
   pub text : (a b : PlainAsked) → AreAlikeButForWorkers a b → (contents : List FileContent) (text : List ℕ)
@@ -88,8 +88,8 @@ WindowsChangeCountsAlone =
     → IsJobText (run_job world red black setup) contents text
     → IsJobText (run_job world red black (record setup { window = window })) contents text
 
--- the score of a game of a cup, between two players of a list on a world of a list with one of the cup's seeds, is the
--- one that `run` prints for the same world, brains, seed and rounds by the contest's rules
+-- The score of a game of a cup is the one that `run` prints for the same world, brains, seed and rounds by the
+-- contest's rules. The game is between two players of a list, on a world of a list, with one of the cup's seeds.
 abbrev pub CupGamesAreRuns : Type 0
 CupGamesAreRuns =
     (worlds : List Grid) (players : List (List Instr)) (seeds : Seeds) (setup : RunSetup) (n red black : ℕ)
@@ -101,19 +101,19 @@ CupGamesAreRuns =
     })
     ≡ seed_text setup.seed +++ score_text (score_in_cup worlds players seeds setup.rounds n red black)
 
--- a command within the limits whose files were accepted, and whose elements have room, has an output
+-- a command has an output, if it is within the limits, its files were accepted, and its elements have room
 abbrev pub HasOutput : Type 0
 HasOutput =
     (command : PlainAsked) (fetches : List Fetched) (contents : List FileContent) → AskedWithin command
     → AreAccepted (files_of (job_of command)) fetches contents → HasRoom (job_of command)
     → (text : List ℕ) × IsJobText (job_of command) contents text
 
--- the brain of a labelled program, minimised, plays the labelled game, for any opening world, other brain, numbers of
--- the rules, seed, side and number of rounds
+-- The minimised brain of a labelled program plays the labelled game. This holds for any opening world, other brain,
+-- numbers of the rules, seed, side and number of rounds.
 pub record MinimisedPlaysLabelled (main : Items) (brain new : List Instr) (list : List Address)
     (numbers : List (Option ℕ)) : Type 0 where
-  -- with each address replaced by the number of its place, and then by the minimised brain's state, at the same place
-  -- of the stream
+  -- It is the labelled game at the same place of the stream, with each address replaced by the number of its place, and
+  -- that number by the minimised brain's state.
   pub plays : (side : Colour) (minds : Minds) (seed width height : ℕ) (kinds : List Kind) (r : ℕ)
       → AreSound (with_mind minds side brain) → Valid (world_of (opening width height kinds)) →
       game (with_mind minds side new) seed width height kinds r
@@ -131,11 +131,12 @@ AssembledAndMinimised =
     → IsAssembled main brain list → IsMinimised brain new numbers
     → MinimisedPlaysLabelled main brain new list numbers
 
--- the settings of `save` for a game of `run`: its numbers, but this round and these workers, and no dumps and counts
+-- the settings of `save` for a game of `run`: the same, but with this round as the last, this many workers, and no
+-- dumps and counts
 abbrev pub saved_setup : RunSetup → ℕ → ℕ → RunSetup
 saved_setup setup round workers = record setup { rounds = round; dumps = NoDump; workers = workers; stats = false }
 
--- the settings of `resume` for it: its rounds, its dumps and its counts, and these workers
+-- the settings of `resume` for that game: its rounds, its dumps and its counts, but this many workers
 abbrev pub resumed_setup : RunSetup → ℕ → ResumeSetup
 resumed_setup setup workers = record {
   rounds = setup.rounds;
@@ -156,8 +157,8 @@ pub record IsGameOf (world red black : List ℕ) (setup : RunSetup) (game : Read
   pub fetches : List Fetched
   pub accepted : AreAccepted (game_files world red black) fetches (game_contents game)
 
--- such a game was saved after a round by this many workers, and what was printed is accepted if at most this many
--- rounds are to be played in total
+-- Such a game was saved after this round, by some number of workers. What `save` printed is accepted as this save, if
+-- it has at most as many rounds done as the game has in total.
 pub record IsSavedAs (world red black : List ℕ) (setup : RunSetup) (game : ReadGame) (round : ℕ)
     (saved : SavedValue) : Type 0 where
   pub early : round ≤ setup.rounds
@@ -166,15 +167,15 @@ pub record IsSavedAs (world red black : List ℕ) (setup : RunSetup) (game : Rea
   pub is_text : IsJobText (save_job world red black (saved_setup setup round workers)) (game_contents game) text
   pub reads : Reads (SaveFile setup.rounds) text (SaveContent saved)
 
--- games are saved and continued, with any workers before the save and after it
+-- games are saved and continued, by any number of workers before the save and after it
 pub record SavesAreResumed : Type 0 where
-  -- what `save` prints up to the last round is accepted
+  -- if the round of the save is at most the last of the game, what `save` prints is accepted
   pub accepted : (world red black : List ℕ) (setup : RunSetup) (game : ReadGame) (round workers : ℕ) (text : List ℕ)
       → IsGameOf world red black setup game → round ≤ setup.rounds
       → IsJobText (save_job world red black (saved_setup setup round workers)) (game_contents game) text
       → (saved : SavedValue) × Reads (SaveFile setup.rounds) text (SaveContent saved)
-  -- it is no longer than a file may be: if it is the file under the name of the save, `resume` accepts that file, with
-  -- any workers
+  -- The save is no longer than a file may be. If it is the content of the file with the name of the save, `resume`
+  -- accepts that file, with any number of workers.
   pub fetched : (world red black save : List ℕ) (setup : RunSetup) (game : ReadGame) (round workers others : ℕ)
       (text : List ℕ) (at : List ℕ → Option (List ℕ))
       → IsGameOf world red black setup game → round ≤ setup.rounds
@@ -182,22 +183,22 @@ pub record SavesAreResumed : Type 0 where
       → at save ≡ Some text
       → (saved : SavedValue)
       × IsJudged at (files_of (resume_job save (resumed_setup setup others))) (AllAccepted (SaveContent saved ∷ []))
-  -- what `run` prints is what it prints up to the saved round, and then what `resume` prints of the save
+  -- what `run` prints has two parts: what it prints up to the saved round, and then what `resume` prints of the save
   pub goes_on : (world red black save : List ℕ) (setup : RunSetup) (game : ReadGame) (round workers : ℕ)
       (saved : SavedValue) (text rest : List ℕ)
       → IsGameOf world red black setup game → IsSavedAs world red black setup game round saved
       → IsJobText (run_job world red black setup) (game_contents game) text
       → IsJobText (resume_job save (resumed_setup setup workers)) (save_contents saved) rest
       → text ≡ front_output setup round game ++ rest
-  -- what `advance` prints for the save up to a round is what `save` prints of the game after that round, so all of this
-  -- holds for it too
+  -- What `advance` prints from the save, up to a later round, is what `save` prints of the game after that round. So
+  -- all of this holds for it too.
   pub advanced : (world red black save : List ℕ) (setup : RunSetup) (game : ReadGame)
       (round later workers others : ℕ) (saved : SavedValue) (text : List ℕ)
       → IsGameOf world red black setup game → IsSavedAs world red black setup game round saved
       → round ≤ later → later ≤ setup.rounds
       → IsJobText (advance_job save later workers) (save_contents saved) text
       → IsJobText (save_job world red black (saved_setup setup later others)) (game_contents game) text
-  -- so it doesn't matter after which round it was saved
+  -- so it doesn't matter after which round the game was saved
   pub any_round : (world red black save other : List ℕ) (setup : RunSetup) (game : ReadGame)
       (round later workers others : ℕ) (saved changed : SavedValue) (rest last : List ℕ)
       → IsGameOf world red black setup game

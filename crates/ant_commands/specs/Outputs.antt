@@ -73,7 +73,7 @@ break_file name = record { name = name; kind = BreakFile }
 abbrev pub labelled_file : Bool → List ℕ → File
 labelled_file source name = record { name = name; kind = LabelledFile source }
 
--- a file with a save of which at most this many rounds are done
+-- a file with a save that has at most this many rounds done
 abbrev pub save_file : List ℕ → ℕ → File
 save_file name rounds = record { name = name; kind = SaveFile rounds }
 
@@ -145,7 +145,7 @@ cup_contents worlds players = map WorldContent worlds ++ map BrainContent player
 abbrev pub roster_contents : ReadCup → List FileContent
 roster_contents cup = cup_contents cup.worlds cup.players
 
--- these contents are those of some value, and the text is one of that value
+-- the contents are those of some value, and the text is a text of that value
 pub record Tells {A : Type 0} (contents_of : A → List FileContent) (IsText : A → List ℕ → Type 0)
     (contents : List FileContent) (text : List ℕ) : Type 0 where
   pub value : A
@@ -202,15 +202,15 @@ resume_output setup saved = resumed_text saved setup.rounds (chosen_rounds setup
 abbrev pub told_minds : ToldSetup → ReadGame → Minds
 told_minds setup game = record { red = game.red; black = game.black; sheet = told_sheet setup }
 
--- the output of `trace`: the line of the seed, and a line for one ant after each round from `--from` on, up to its
--- death
+-- the output of `trace`: the line of the seed, and a line for one ant after each round from `--from` on, up to the
+-- ant's death
 unfoldable pub trace_output : ℕ → ReportSetup → ReadGame → List ℕ
 trace_output id setup game =
     trace_text (told_minds setup.told game) setup.told.seed (world_of game.world) setup.told.rounds id setup.from
 
--- the output of `events`: the line of the seed, and the lines of each turn from round `--from` on, in order: one for
--- each ant that is killed in it; with `--food` one for the particle that its ant takes or drops; one for the score if
--- it changed
+-- the output of `events`: the line of the seed, and then the lines of each turn from round `--from` on, in order. A
+-- turn has a line for each ant that is killed in it. With `--food` it has a line for the particle that its ant takes or
+-- drops. It has a line for the score if the score changed
 unfoldable pub events_output : Bool → ReportSetup → ReadGame → List ℕ
 events_output food setup game =
     report_text (event_lines food) setup.from (told_minds setup.told game) setup.told.seed
@@ -222,8 +222,8 @@ unfoldable pub acts_output : Option ℕ → ReportSetup → ReadGame → List �
 acts_output one setup game =
     acts_text (told_minds setup.told game) setup.told.seed (world_of game.world) setup.told.rounds one setup.from
 
--- the output of `profile`: the line of the seed, and a line for each state of the red brain and then of the black one,
--- counting the turns from round `--from` on
+-- the output of `profile`: the line of the seed, and a line for each state of the red brain and then of the black one.
+-- The turns from round `--from` on are counted
 unfoldable pub profile_output : ReportSetup → ReadGame → List ℕ
 profile_output setup game =
     profile_text (told_minds setup.told game) setup.told.seed (world_of game.world) setup.told.rounds setup.from
@@ -260,7 +260,8 @@ pub record TellsMinimised (states : Bool) (old : List Instr) (text : List ℕ) :
   pub minimised : IsMinimised old new numbers
   pub told : text ≡ minimise_output states old new numbers
 
--- the output of `view`: the first stop of the game, by the contest's rules, in a round from `--from` on, and its cells
+-- the output of `view`: the first stop of the game in a round from `--from` on, and the cells at that stop. The game is
+-- played by the contest's rules
 abbrev pub IsViewOutput : ℕ → ℕ → ℕ → ReadView → List ℕ → Type 0
 IsViewOutput seed rounds from view text =
     IsViewText (contest_minds view.game.red view.game.black) seed rounds from
@@ -270,8 +271,8 @@ IsViewOutput seed rounds from view text =
 abbrev pub nowhere : Grid
 nowhere = record { width = 0; height = 0; ids = 0; cells = [] }
 
--- the minds of a game by the contest's rules between two players of a list, the red one first; players are counted from
--- 0
+-- The minds of a game by the contest's rules between two players of a list, the red one first. Players are counted from
+-- 0.
 abbrev pub minds_between : List (List Instr) → ℕ → ℕ → Minds
 minds_between players red black = contest_minds (slice_index_or players red []) (slice_index_or players black [])
 
@@ -281,7 +282,7 @@ score_between worlds players seed rounds world red black =
     score_of
     (world_after (minds_between players red black) seed (world_of (slice_index_or worlds world nowhere)) rounds)
 
--- the score of a game of a cup, if n is a pair of a world and a seed
+-- the score of a game of a cup; `n` is the number of a pair of a world and a seed
 abbrev pub score_in_cup : List Grid → List (List Instr) → Seeds → ℕ → ℕ → ℕ → ℕ → Score
 score_in_cup worlds players seeds rounds n red black =
     score_between worlds players (seed_at seeds n) rounds (world_at seeds n) red black
@@ -295,7 +296,7 @@ IsCupOutput false worlds names format rounds cup text =
 IsCupOutput true worlds names format rounds cup text =
     IsPrintedCupText format worlds names (score_in_cup cup.worlds cup.players format.seeds rounds) text
 
--- the lines of all games on the first worlds of such a cup, on none or on all
+-- the lines of all games on the first worlds of such a cup; these may be none or all of its worlds
 pub record TellsFirstWorlds (worlds names : List (List ℕ)) (format : Format) (rounds : ℕ) (cup : ReadCup)
     (text : List ℕ) : Type 0 where
   pub told : ℕ
@@ -327,8 +328,9 @@ contest_shape = record {
 abbrev pub sample_minds : Minds
 sample_minds = contest_minds sample_brain sample_brain
 
--- the result of a workload: how many ants there are, and the food on all cells at the start; how many are alive, the
--- score and the counts of the turns after this many rounds, which are played in windows of the default size
+-- The result of a workload. From the start it has the number of ants, and the food on all cells. From the end, after
+-- this many rounds, it has the number of living ants of each side, the score and the counts of the turns. The rounds
+-- are played in windows of the default size.
 unfoldable pub summary_of : ℕ → ℕ → World → Summary
 summary_of seed rounds w = record {
   ants = w.ids;
@@ -352,7 +354,7 @@ unfoldable pub workload_text : ℕ → ℕ → Summary → List ℕ
 workload_text seed rounds summary =
     summary_lines seed rounds summary +++ score_text summary.score +++ stats_text summary.totals
 
--- the output of `workload`: a summary of a game on the world of this seed and the contest's shape; it doesn't have the
+-- the output of `workload`: a summary of a game on the world of this seed and the contest's shape. It doesn't have the
 -- number of workers
 pub record TellsWorkload (seed rounds : ℕ) (text : List ℕ) : Type 0 where
   pub world : Grid
@@ -360,7 +362,7 @@ pub record TellsWorkload (seed rounds : ℕ) (text : List ℕ) : Type 0 where
   pub told : text ≡ workload_text seed rounds (summary_of seed rounds (world_of world))
 
 -- what `asm` prints instead of the brain: the labels if they are requested, and then the line of each state if those
--- are
+-- lines are requested
 abbrev pub source_text : Bool → Bool → ReadSource → List ℕ
 source_text labels lines source =
     (if labels then labels_text source.labels else []) +++ (if lines then state_lines_text source.lines else [])

@@ -20,8 +20,8 @@ use Rattle.ant_commands.specs.Status.{status_number}
 use Rattle.ant_commands.specs.FaultLines.{Ending, Reason, ending_status, fault_line, word_line}
 use Rattle.ant_commands.specs.FaultLines.Ending.{Done, RefusedWord, Stopped}
 
--- the words are a command, which is done; if the output reports what waits, nothing waits to be flushed after the text,
--- and an empty text makes nothing wait
+-- The words are a command, which is done. If the output reports what waits, nothing waits to be flushed after a text
+-- with bytes. After a text without bytes, nothing waits if nothing waited before.
 pub record IsFinished (words : List (List ℕ)) (before after : Outside) (fetches : List Fetched) : Type 0 where
   pub command : PlainAsked
   pub is_command : IsCommand words command
@@ -36,7 +36,7 @@ pub record IsStopped (words : List (List ℕ)) (before after : Outside) (fetches
   pub is_command : IsCommand words command
   pub stopped : StopsFor (job_of command) before after fetches reason
 
--- the words are not a command, and this is the refused word; nothing was fetched or written
+-- The words are not a command, and this is the refused word. Nothing was fetched or written.
 pub record IsRefusedByWords (words : List (List ℕ)) (before after : Outside) (fetches : List Fetched)
     (word : ℕ) : Type 0 where
   pub refused : IsRefusedAt words word
@@ -81,7 +81,7 @@ IsOrderly words before after =
     (command : PlainAsked) → IsCommand words command → (fetches : List Fetched)
     → after.shelf.log ≡ before.shelf.log ++ fetches → AreInOrder (files_of (job_of command)) fetches
 
--- the words are a command, whose files have this verdict by the contents that the shelf reports
+-- the words are a command, and its files have this verdict by the contents that the shelf reports
 pub record IsJudgedCommand (words : List (List ℕ)) (shelf : ShelfState) (verdict : FilesVerdict) : Type 0 where
   pub command : PlainAsked
   pub is_command : IsCommand words command
@@ -89,8 +89,8 @@ pub record IsJudgedCommand (words : List (List ℕ)) (shelf : ShelfState) (verdi
   pub told : shelf.files ≡ Some at
   pub judged : IsJudged at (files_of (job_of command)) verdict
 
--- if each file is accepted, each element of a world to be generated has room, and neither the shelf nor the output
--- failed, a run is done, or memory ran out
+-- A run is done, or memory ran out, if each file is accepted, each element of a world to be generated has room, and
+-- neither the shelf nor the output failed.
 abbrev pub IsComplete : List (List ℕ) → Outside → Outside → Status → Type 0
 IsComplete words before after ended =
     (contents : List FileContent) (is : IsJudgedCommand words before.shelf (AllAccepted contents))
@@ -98,20 +98,20 @@ IsComplete words before after ended =
     → ¬ Rose before.shelf.faults after.shelf.faults → ¬ Rose before.out.faults after.out.faults
     → (ended ≡ status.Done) ⊎ (ended ≡ status.Memory)
 
--- if an element of a world to be generated has no room, a run ends as refused input, or memory ran out
+-- a run ends as refused input, or memory ran out, if an element of a world to be generated has no room
 abbrev pub IsCrowding : List (List ℕ) → Status → Type 0
 IsCrowding words ended =
     (command : PlainAsked) (element : ℕ) → IsCommand words command → LacksRoom (job_of command) element
     → (ended ≡ status.Input) ⊎ (ended ≡ status.Memory)
 
--- if a file is refused, and the shelf didn't fail, a run ends as refused input, or memory ran out
+-- a run ends as refused input, or memory ran out, if a file is refused and the shelf didn't fail
 abbrev pub IsRefusing : List (List ℕ) → Outside → Outside → Status → Type 0
 IsRefusing words before after ended =
     (name : List ℕ) (fault : FileFault) → IsJudgedCommand words before.shelf (FirstRefused name fault)
     → ¬ Rose before.shelf.faults after.shelf.faults → (ended ≡ status.Input) ⊎ (ended ≡ status.Memory)
 
--- if the shelf reports its contents and is sure of the files up to the first that is refused, or of all if none is, no
--- run ends at a file that was not read
+-- No run ends at a file that was not read, if the shelf reports its contents and is sure of the files up to the first
+-- that is refused. If none is refused, it must be sure of all.
 abbrev pub NeverUnread : List (List ℕ) → Outside → Status → Type 0
 NeverUnread words before ended =
     (verdict : FilesVerdict) (is : IsJudgedCommand words before.shelf verdict) → AreSure before.shelf is.judged.fetches
@@ -121,8 +121,8 @@ NeverUnread words before ended =
 abbrev pub IsNoCommand : List (List ℕ) → Type 0
 IsNoCommand words = (command : PlainAsked) → ¬ IsCommand words command
 
--- everything that is promised of a call of the program with these words: the first field says all of it, and the others
--- follow from it
+-- Everything that is promised of a call of the program with these words. The first field says all of it, and the others
+-- follow from it.
 pub record EndsAsPromised (given : List (List ℕ)) (before after : Outside) (ended : Status) : Type 0 where
   pub run : IsRun given before after ended
   pub words : (ended ≡ status.Words) ↔ IsNoCommand given

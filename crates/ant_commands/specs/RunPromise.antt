@@ -29,8 +29,8 @@ use Rattle.ant_commands.specs.Run.{IsNoCommand, IsRunTo}
 abbrev pub IsNumber : ℕ → ℕ → ℕ → List ℕ → Type 0
 IsNumber least greatest number word = (decimal_value word ≡ Some number) × (least ≤ number) × (number ≤ greatest)
 
--- a word chooses the rounds that are dumped: `none`, `all`, or the numbers of these rounds, separated by single commas,
--- which are the byte 44
+-- A word chooses the rounds that are dumped: it is `none`, `all`, or the numbers of these rounds. Single commas (the
+-- byte 44) separate the numbers.
 pub data IsDumps : (ℕ → Bool) → List ℕ → Type 0 where
   NoRound : IsDumps (λ round. false) (codes "none")
   EveryRound : IsDumps (λ round. true) (codes "all")
@@ -38,8 +38,8 @@ pub data IsDumps : (ℕ → Bool) → List ℕ → Type 0 where
       → AllZip (IsNumber 0 1000000) rounds (slice_split (λ byte. byte == 44) word)
       → IsDumps (λ round. list_any (λ number. nat_eq number round) rounds) word
 
--- what a run has to do: the names of its files, the seed, how many rounds are played, which are dumped, and the numbers
--- of the rules
+-- what a run has to do: the names of its files, the seed, how many rounds are played, which rounds are dumped, and the
+-- numbers of the rules
 pub record RunAsked : Type 0 where
   pub world : List ℕ
   pub red : List ℕ
@@ -50,7 +50,7 @@ pub record RunAsked : Type 0 where
   pub sheet : Sheet
 
 -- `IsOption others name words asked`: the option of this name, followed by these words, turns `others` into `asked`. So
--- `--seed 7` sets the seed to 7. `--workers`, `--window` and `--far` change nothing
+-- `--seed 7` sets the seed to 7. `--workers`, `--window` and `--far` change nothing.
 pub data IsOption (others : RunAsked) : List ℕ → List (List ℕ) → RunAsked → Type 0 where
   Seed : (n : ℕ) (word : List ℕ) → IsNumber 0 4294967295 n word
       → IsOption others (codes "--seed") (word ∷ []) (record others { seed = n })
@@ -69,21 +69,21 @@ pub data IsOption (others : RunAsked) : List ℕ → List (List ℕ) → RunAske
       → IsOption others (codes "--rest") (word ∷ []) (record others { sheet = record others.sheet { rest = n } })
   Far : IsOption others (codes "--far") [] others
 
--- the start for the options, if these are the files: nothing is dumped, and the rules are the contest's; a seed and a
--- number of rounds are always given
+-- A run of these files before its options: nothing is dumped, and the rules are the contest's. A seed and a number of
+-- rounds are always given by options.
 abbrev pub bare_run : List ℕ → List ℕ → List ℕ → RunAsked
 bare_run world red black =
     record { world = world; red = red; black = black; seed = 0; rounds = 0; dumps = λ round. false; sheet = record { surround = 5; corpse = 3; rest = 14 } }
 
--- options, each a name and the words that follow it, turn `start` into `asked`, one by one, the last first. Each is
--- given at most once, so their order doesn't matter
+-- The options turn `start` into `asked`, one by one, the last first. Each is a name and the words that follow it. Each
+-- is given at most once, so their order doesn't matter.
 abbrev pub AreOptions : RunAsked → List (List ℕ × List (List ℕ)) → RunAsked → Type 0
 AreOptions start [] asked = asked ≡ start
 AreOptions start (option ∷ options) asked =
     (others : RunAsked) × IsOption others option.0 option.1 asked × AreOptions start options others
 
--- the words are `run`, the names of three files, and options in any order, each at most once, the seed and the rounds
--- among them
+-- The words are `run`, the names of three files, and options in any order, each at most once. The seed and the rounds
+-- are among the options.
 pub record IsRunOf (words : List (List ℕ)) (asked : RunAsked) : Type 0 where
   pub options : List (List ℕ × List (List ℕ))
   pub whole : words ≡ codes "run" ∷ asked.world ∷ asked.red ∷ asked.black ∷ flat_map (λ option. option.0 ∷ option.1) options
@@ -111,8 +111,8 @@ abbrev pub IsText : TextKind → List ℕ → Type 0
 IsText OfWorld bytes = (world : Grid) × OpensAs bytes world
 IsText OfBrain bytes = (brain : List Instr) × IsBrainText bytes brain
 
--- `ComesNext asked kind name earlier`: after the fetches `earlier` the file with this name is next, and has to be a
--- text of this kind
+-- `ComesNext asked kind name earlier`: after the fetches `earlier` the file with this name is next, and it has to be a
+-- text of this kind.
 pub data ComesNext (asked : RunAsked) : TextKind → List ℕ → List Fetched → Type 0 where
   -- the world, after none
   WorldFirst : ComesNext asked OfWorld asked.world []
@@ -123,8 +123,8 @@ pub data ComesNext (asked : RunAsked) : TextKind → List ℕ → List Fetched �
   BlackLast : (first second : List ℕ) → IsText OfWorld first → IsText OfBrain second
       → ComesNext asked OfBrain asked.black (fetch asked.world (Ok first) ∷ fetch asked.red (Ok second) ∷ [])
 
--- a run stopped at the file with this name, which has to be a text of this kind: it was fetched last, with this answer,
--- and nothing was written
+-- A run stopped at the file with this name, which has to be a text of this kind. It was fetched last, with this answer,
+-- and nothing was written.
 pub record StopsAtFile (asked : RunAsked) (before after : Outside) (kind : TextKind) (name : List ℕ)
     (answer : Result (List ℕ) FetchFault) : Type 0 where
   pub earlier : List Fetched
@@ -137,8 +137,8 @@ abbrev pub PushedPart : SinkState → SinkState → List ℕ → Type 0
 PushedPart out new_out text =
     (front : List ℕ) × (rest : List ℕ) × (text ≡ front ++ rest) × (1 ≤ length rest) × PushedAll out new_out front
 
--- the three files were fetched, in this order, and no others; they are a world and two brains, and `IsWritten` says
--- what was written of the text of their game: `PushedAll` at 0, `PushedFront` at 4, and `PushedPart` at 6
+-- The three files were fetched, in this order, and no others. They are a world and two brains. `IsWritten` says what
+-- was written of the text of their game: `PushedAll` at status 0, `PushedFront` at 4, and `PushedPart` at 6.
 pub record Plays (IsWritten : SinkState → SinkState → List ℕ → Type 0) (asked : RunAsked)
     (before after : Outside) : Type 0 where
   pub first : List ℕ
@@ -175,8 +175,8 @@ pub record IsCutOff (asked : RunAsked) (before after : Outside) : Type 0 where
   pub plays : Plays PushedFront asked before after
   pub line : HasLine before.err after.err (codes "ants: output failed\n")
 
--- the bytes that were fetched are not such a text, and `says` is any text; or the fetch returned that the file is too
--- long, and `says` is `too long`
+-- Either the bytes that were fetched are not such a text, and `says` may be any text. Or the fetch returned that the
+-- file is too long, and `says` is `too long`.
 abbrev pub IsUnfit : TextKind → Result (List ℕ) FetchFault → List ℕ → Type 0
 IsUnfit kind (Ok bytes) _ = ¬ IsText kind bytes
 IsUnfit kind (Err fault) says = (fault ≡ TooLong) × (says ≡ codes "too long")
@@ -217,10 +217,10 @@ RunEnds asked before after number =
     ⊎ ((number ≡ 5) × IsNotAccepted asked before after)
     ⊎ ((number ≡ 6) × IsOutOfMemory asked before after)
 
--- the promise of a run. `IsRunOf words asked`: these words request this run. `IsRunTo words before after number`: the
--- program, called with these words, ended with this number. So a run ended as `RunEnds` says. Words request at most one
--- run. And if the program was called with `run` and other words, without `--stats`, and didn't end with 2, then `run`
--- and these words request a run
+-- The promise of a run. `IsRunOf words asked`: these words request this run. `IsRunTo words before after number`: the
+-- program, called with these words, ended with this number. `kept`: a run that the words request ended as `RunEnds`
+-- says. `one`: words request at most one run. `every`: the program was called with `run` and further words, without
+-- `--stats`, and didn't end with 2; then `run` and these words request a run.
 pub record RunPromise : Type 0 where
   pub kept : (words : List (List ℕ)) (asked : RunAsked) → IsRunOf words asked
       → (before after : Outside) (number : ℕ) → IsRunTo words before after number → RunEnds asked before after number
@@ -229,9 +229,9 @@ pub record RunPromise : Type 0 where
       → IsRunTo (codes "run" ∷ words) before after number → number ≢ 2
       → ¬ Contains words (codes "--stats") → (asked : RunAsked) × IsRunOf (codes "run" ∷ words) asked
 
--- what a run does to its shelf. `each`: its fetches agree with what the shelf reports, contents and sureness are kept,
--- and the count of faults never falls; `unread`: at 3 the shelf wasn't sure of the file at which the run stopped, and
--- its count of faults rose
+-- What a run does to its shelf. `each`: its fetches agree with what the shelf reports, contents and sureness are kept,
+-- and the count of faults never falls. `unread`: at 3 the shelf wasn't sure of the file at which the run stopped, and
+-- its count of faults rose.
 pub record RunShelf : Type 0 where
   pub each : (words : List (List ℕ)) (asked : RunAsked) → IsRunOf words asked → (before after : Outside) (number : ℕ)
       → IsRunTo words before after number
@@ -241,8 +241,8 @@ pub record RunShelf : Type 0 where
       → (kind : TextKind) × (name : List ℕ) × StopsAtFile asked before after kind name (Err Failed)
       × (before.shelf.sure name ≡ false) × Rose before.shelf.faults after.shelf.faults
 
--- words that are not a command end with status 2 at the refused word; and each `run` without `--stats` by the table of
--- commands is one
+-- Words that are not a command end with status 2 at the refused word. Each `run` without `--stats` that is a command by
+-- the table of commands is a run by `IsRunOf`.
 pub record RefusedWords : Type 0 where
   pub refused : (words : List (List ℕ)) (before after : Outside) (number : ℕ) → IsRunTo words before after number
       → IsNoCommand words

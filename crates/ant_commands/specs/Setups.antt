@@ -69,7 +69,7 @@ setup_of asked = record {
 abbrev pub save_setup_of : PlainAsked → RunSetup
 save_setup_of asked = record (setup_of asked) { dumps = NoDump; stats = false; far = false }
 
--- the settings of `resume`, of a game that is reported, also with its first round, or of `gen`
+-- the settings of `resume`; of a game that is reported, without and with its first reported round; and of `gen`
 abbrev pub resume_of : PlainAsked → ResumeSetup
 resume_of asked = record { rounds = asked.option Rounds; dumps = asked.dumps; workers = asked.option Workers; stats = asked.has Stats }
 
@@ -116,8 +116,8 @@ pub record ShapeWithin (shape : GenShape) : Type 0 where
   pub rocks : IsWithin ElementCount shape.rocks
   pub blobs : IsWithin ElementCount shape.blobs
 
--- the format of a cup: with `--gauntlet` only the games of the first brain, with `--leads` the leads, the seeds from
--- that of `--seed` on, and these in the lines of games if `--seeds` is given
+-- The format of a cup. With `--gauntlet` it has only the games of the first brain, and with `--leads` the leads. Its
+-- seeds begin with that of `--seed`. If `--seeds` is given, they are in the lines of games.
 abbrev pub format_of : PlainAsked → Format
 format_of asked = record {
   gauntlet = asked.has Gauntlet;

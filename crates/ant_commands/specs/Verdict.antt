@@ -21,13 +21,13 @@ abbrev pub Judged : List File → List Fetched → FilesVerdict → Type 0
 Judged files fetches (AllAccepted contents) = AreAccepted files fetches contents
 Judged files fetches (FirstRefused name fault) = StopsAt (IsRefusedAs name fault) files fetches
 
--- the files have this verdict by these contents: by fetches that return them
+-- the files have this verdict by these contents, that is, by fetches that return them
 pub record IsJudged (at : List ℕ → Option (List ℕ)) (files : List File) (verdict : FilesVerdict) : Type 0 where
   pub fetches : List Fetched
   pub told : AllByRecursion (IsTold (Some at)) fetches
   pub judged : Judged files fetches verdict
 
--- there is content under the name of each of these files
+-- each of the files has content under its name
 abbrev pub AreThere : (List ℕ → Option (List ℕ)) → List File → Type 0
 AreThere at files = AllByRecursion (λ file. IsSome (at file.name)) files
 
@@ -37,6 +37,6 @@ pub record HasOneVerdict (at : List ℕ → Option (List ℕ)) (files : List Fil
   pub judged : IsJudged at files verdict
   pub only : (other : FilesVerdict) → IsJudged at files other → other ≡ verdict
 
--- contents give files that exist exactly one verdict
+-- if all files exist, contents give them exactly one verdict
 abbrev pub JudgesOnce : Type 0
 JudgesOnce = (at : List ℕ → Option (List ℕ)) (files : List File) → AreThere at files → HasOneVerdict at files

@@ -60,8 +60,8 @@ use round_book::Crew;
 use std::alloc::Global;
 use tournament::{Pairing, Played};
 
-/// Passes a command line to its command's own function, with a crew if it plays in windows, and with a function that
-/// plays games if it is a cup.
+/// Passes a command line to its command's own function. A command that plays in windows also gets a crew, and a cup
+/// gets a function that plays games.
 pub fn dispatch<
     'w,
     C: Crew,
@@ -179,7 +179,7 @@ pub fn dispatch<
     }
 }
 
-/// How many workers a command line names for its windows; one if it plays none.
+/// How many workers a command line names for its windows; one if it plays no windows.
 pub fn workers_in(asked: Asked<'_>) -> u32
     requires { AskedWithin (plain asked) }
     ensures named { result ≡ workers_named (job_of (plain asked.entry)) }

@@ -11,34 +11,35 @@ pub fn headline()
 {}
 
 /// A law: the promise of one `run` without `--stats`, in definitions of its own: what each status says about its three
-/// files, the text of its game and the errors. The words of a `run` name one game; and words that begin with `run`,
-/// have no `--stats` and are not refused are such words.
+/// files, the text of its game and the errors. The words of a `run` name one game. Words that begin with `run`, have no
+/// `--stats` and are not refused are the words of such a `run`.
 pub fn run_promise()
     ensures { RunPromise }
 {}
 
-/// A law: what such a run does to its shelf. Its fetches agree with the contents that the shelf reports and with a
-/// file's greatest length; and if a file was not read, the shelf was not sure of it, and its count of faults rose.
+/// A law: what such a run does to its shelf. Its fetches agree with the contents that the shelf reports, and with a
+/// file's greatest length. If a file was not read, the shelf was not sure of it, and its count of faults rose.
 pub fn run_shelf()
     ensures { RunShelf }
 {}
 
-/// A law: words that are not a command end with status 2 at the first word that is refused; and each `run` without
-/// `--stats` by the table of commands is one by `run_promise`.
+/// A law: words that are not a command end with status 2 at the first word that is refused. Each `run` without
+/// `--stats` that is a command by the table of commands is a run by `run_promise`.
 pub fn refused_words()
     ensures { RefusedWords }
 {}
 
-/// A law: contents for each file of a command are judged in exactly one way: all are accepted, as the same contents, or
-/// one and the same file is the first that is refused, with the same fault.
+/// A law: the contents of a command's files give exactly one verdict. Either all files are accepted, always as the same
+/// contents; or the first refused file is always the same, with the same fault.
 #[tactic(auto, using(crate::proofs::Judgements::judges_once))]
 pub fn contents_judge_once()
     ensures { JudgesOnce }
 {}
 
-/// A law: each output of a command whose numbers and names are within the limits, and whose files were accepted, ends
-/// in LF. The only exception is an output without bytes, of `asm` with `--labels` and without `--lines` for a program
-/// without labels. So if the output reports what waits, nothing of it waits to be flushed after all of it was written.
+/// A law: each output of a command ends in LF, if the command's numbers and names are within the limits and its files
+/// were accepted. The only exception is an output without bytes, of `asm` with `--labels` and without `--lines` for a
+/// program without labels. So if the output reports what waits, nothing of the text waits to be flushed after all of it
+/// was written.
 #[tactic(auto, using(crate::proofs::JobTexts::texts_end_in_lf))]
 pub fn texts_end_in_lf()
     ensures { TextsEndInLf }
@@ -70,25 +71,25 @@ pub fn cup_games_are_runs()
     ensures { CupGamesAreRuns }
 {}
 
-/// A law: a command within the limits whose files were accepted, and whose elements have room, has an output.
+/// A law: a command has an output, if it is within the limits, its files were accepted, and its elements have room.
 #[tactic(auto, using(crate::proofs::JobTexts::has_output))]
 pub fn has_output()
     ensures { HasOutput }
 {}
 
-/// A law: what `asm` writes, minimised, still plays the labelled game of the program, with a state for each address and
-/// the same score.
+/// A law: the minimised brain of what `asm` writes still plays the labelled game of the program, with a state for each
+/// address and the same score.
 #[tactic(auto, using(crate::proofs::LabelledGames::assembled_and_minimised))]
 pub fn assembled_and_minimised()
     ensures { AssembledAndMinimised }
 {}
 
-/// A law: if `run` prints a text, then `save` after at most that many rounds of the same game prints a save that fits
-/// into a file and that `resume` accepts, and `resume` prints the rest of that text. The line of the seed and the
-/// selected dumps up to the saved round precede it. The seed, the window, the sheet, the dumps and the counts are those
-/// of `run`; each of the three commands may have any number of workers. This holds after whichever round the game is
-/// saved. What `advance` prints from such a save is what `save` prints of the game after the later round, byte for
-/// byte, so all of this holds for it too.
+/// A law: suppose that `run` prints a text. If `save` saves the same game after at most that many rounds, the save fits
+/// into a file, and `resume` accepts it. `resume` then prints the rest of the text: everything after the line of the
+/// seed and the selected dumps up to the saved round. The seed, the window, the sheet, the dumps and the counts are
+/// those of `run`; each of the three commands may have any number of workers. It doesn't matter after which round the
+/// game is saved. What `advance` prints from such a save is what `save` prints of the game after the later round, byte
+/// for byte, so all of this holds for it too.
 #[tactic(auto, using(crate::proofs::ResumedGames::saves_are_resumed))]
 pub fn saves_are_resumed()
     ensures { SavesAreResumed }

@@ -1,13 +1,13 @@
 //! All commands of the program `ants`, over any shelf of files and any two sinks: a simulator of the ant world of the
 //! ICFP Programming Contest 2004.
 //!
-//! `run_ants` does all that the program does, and returns its status. `run_to_exit` returns its exit code, and `main`
-//! passes it the real shelf and sinks. `run_here` does all of it except `run --far`, which has to wait for workers, and
-//! `run_alone` does what `run_here` does on the caller's thread. Each command's files, its text, its faults and their
-//! lines are definitions in specs/, and the clause of `run_ants` says how every run ends.
+//! `run_ants` does all that the program does, and returns its status. `run_to_exit` returns that as an exit code, and
+//! `main` passes it the real shelf and sinks. `run_here` does all of it except `run --far`, which has to wait for
+//! workers. `run_alone` does the same as `run_here`, on the caller's thread. Each command's files, its text, its faults
+//! and their lines are definitions in specs/, and the clause of `run_ants` says how every run ends.
 //!
-//! Whatever names no section of the contest's task is this project's own: the commands and what they print, the faults,
-//! and the statuses.
+//! Definitions that name no section of the contest's task are this project's own: the commands and what they print, the
+//! faults, and the statuses.
 #![tactic(auto)]
 
 mod commands;

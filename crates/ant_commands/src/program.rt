@@ -32,7 +32,8 @@ use std::sync::Wait;
 use std::thread::Threads;
 use tournament::{Pairing, play_games, play_games_alone};
 
-// Who calls whom, from `main` down. The words are read once, by the one that knows `--far` or by the one that doesn't:
+// Which function calls which, from `main` down. The words are read once, by a function that knows `--far` or by one
+// that doesn't:
 //
 //     run_to_exit > run_ants > run_here > read_and_carry_out > carry_out > dispatch > the command's own function
 //                            > read_and_carry_out_far > carry_out_far > run_far, for a run
@@ -40,7 +41,7 @@ use tournament::{Pairing, play_games, play_games_alone};
 //     run_alone > read_and_carry_out_alone > carry_out_alone > dispatch
 
 // Carries out a command, whose numbers and names are within their limits. A crew takes no memory before its first
-// window, so that each command may have one.
+// window, so each command may have one.
 fn carry_out<'w, R: Threads + Sync, S: Shelf, K: Sink, G: Gate>(
     rt: &R,
     alloc: Global,
@@ -161,18 +162,18 @@ fn read_and_carry_out_far<'w, R: Threads + Wait + Sync, S: Shelf, K: Sink, G: Ga
 ///   got nothing.
 /// - `Write`: all files were fetched and accepted, and the output failed and got a prefix of the text.
 /// - `Input`: the last file that was fetched is too long, not in its grammar, or a save with too many rounds done, and
-///   each before it was accepted; or an element of the world to be generated has no room. The output got nothing.
+///   each file before it was accepted; or an element of the world to be generated has no room. The output got nothing.
 /// - `Memory`: memory ran out; no fetch failed or was too long. Either each file except perhaps the last was accepted,
 ///   and the output got nothing; or all files of a `run`, a `resume` or a `cup` with `--games`, which write while they
 ///   play, were accepted, and the output got a proper prefix of the text. For a cup, these are the lines of all games
 ///   on its first worlds.
 ///
-/// After each of these except `Done` the errors got one line, which names the word (from 1), or the file and the place
-/// in it. If the errors failed, they got a prefix of that line. The shelf's contents and the names of which it is sure
-/// are unchanged, its log grows by the fetches, and its count of faults rises only if it isn't sure of a name that was
+/// After each result except `Done` the errors got one line. It names the word (from 1), or the file and the place in
+/// it. If the errors failed, they got a prefix of that line. The shelf's contents and the names of which it is sure are
+/// unchanged, its log grows by the fetches, and its count of faults rises only if it isn't sure of a name that was
 /// fetched. The workers of a game or a cup are threads of the runtime; a game's workers call the gate before each look.
 ///
-/// The clause has a field for each of these promises. The first, `run`, implies all others, by `promised_run` of
+/// The clause has a field for each of the promises above. The first, `run`, implies all others, by `promised_run` of
 /// proofs/Verdicts.antt. The others state its parts for callers.
 pub fn run_here<R: Threads + Sync, S: Shelf, K: Sink, E: Sink, G: Gate>(
     rt: &R,
@@ -263,8 +264,8 @@ fn report_stop<E: Sink>(stop: &CommandStop<'_>, err: &mut E) -> Status
     stop.status()
 }
 
-/// Does what `run_ants` does, and returns the number of its status as an exit code: everything that `main` does after
-/// it has its words and its memory.
+/// Does what `run_ants` does, and returns the number of its status as an exit code. It is everything that `main` does
+/// after it has its words and its memory.
 pub fn run_to_exit<R: Threads + Wait + Sync, S: Shelf, K: Sink, E: Sink, G: Gate>(
     rt: &R,
     alloc: Global,
@@ -280,7 +281,7 @@ pub fn run_to_exit<R: Threads + Wait + Sync, S: Shelf, K: Sink, E: Sink, G: Gate
     exit_of(run_ants(rt, alloc, words, shelf, out, err, gate))
 }
 
-/// Reports that memory ran out, and returns that status as an exit code: what `main` does if it has no memory for the
+/// Reports that memory ran out, and returns that status as an exit code. `main` does this if it has no memory for the
 /// words or the buffer.
 pub fn exit_without_memory<E: Sink>(err: &mut E) -> ExitCode
     ensures reports { GotLine (E.state err.old) (E.state err.new) (fault_line AtMemory) }

@@ -1,4 +1,4 @@
--- What a call answers, by how its run ended and whether the text and the line have room.
+-- The status of a call, by how its run ended and whether the text and the line have room.
 use Rattle.std.proofs.Common.{◌≡◌, ◌≤◌, ◌<◌, ◌^◌, ◌∙◌, ◌&&◌, ℕ, Bool, true, false, cond, nat_le, List, length, refl, sym, ap, arith, leb-true}
 use Rattle.std.specs.Prelude.{unwrap_or}
 use Rattle.ant_commands.specs.FaultLines.{Ending, ending_status}

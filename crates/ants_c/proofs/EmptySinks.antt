@@ -1,5 +1,5 @@
--- A run over two sinks that held something is a run over two empty ones, and leaves in each what it held with the run's
--- text after it.
+-- A run over two sinks that held something is also a run over two empty ones. It leaves in each sink what the sink
+-- held, followed by the run's text.
 use Rattle.std.proofs.Common.{◌≡◌, ◌∙◌, ap, sym, refl, append-nil, ℕ, List, [], ◌∷◌, ◌++◌, drop, length, arith, Some, inl, inr}
 use Rattle.std.specs.Prelude.{Ok, Err}
 use Rattle.ant_base.specs.Fetched.{Fetched}
@@ -19,7 +19,7 @@ use Rattle.ants_c.specs.Called.{holding}
 use Rattle.ants_c.specs.Ended.{ending_line}
 use Rattle.ants_c.specs.Rooms.{behind}
 
--- what a push leaves in a sink, and that it does so in an empty one
+-- what a push appends to a sink, and that it appends the same to an empty one
 held_more : (old new more : List ℕ) → Some new ≡ Some (old ++ more) → new ≡ old ++ more
 held_more old new more same = cc
 
@@ -178,7 +178,8 @@ never_cut words before after fetches ending none still ends same = cc
 pub never_failed : (words : List (List ℕ)) (before after : Outside) (ended : Status) → before.out.faults ≡ 0 → after.out.faults ≡ 0 → IsRun words before after ended → ended ≡ status.Write → ⊥
 never_failed words before after ended none still run same = never_cut words before after run.fetches run.ending none still run.ends (sym run.is_status ∙ same)
 
--- what two logs have more, if each begins with a number of its own
+-- Two logs each begin with a number of their own. If one is the other with more at its end, the numbers are equal, and
+-- the rest of the one continues the rest of the other.
 pub same_name : (name new_name : ℕ) (log new_log text : List ℕ) → new_name ∷ new_log ≡ (name ∷ log) ++ text → new_name ≡ name
 same_name name new_name log new_log text same = cc
 

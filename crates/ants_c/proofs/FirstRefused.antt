@@ -1,4 +1,4 @@
--- Of some texts the first that is at fault is refused.
+-- The first text at fault is the one that is refused.
 use Rattle.std.proofs.Common.{◌≡◌, ℕ, List, refl, ap, arith}
 use Rattle.brain_read.specs.declared.fault.BrainFault.{BrainFault}
 use Rattle.brain_read.specs.Faulty.{IsBrainFault}
@@ -25,8 +25,8 @@ not-refused text grid refusal gives refused = elim refused.why [ Long more is �
 numbered : (number : ℕ) (Wrong : List ℕ → TextFault → Type 0) (text : List ℕ) (refusal : Refusal) → IsRefusedText number Wrong text refusal → refusal.text ≡ number
 numbered number Wrong text refusal refused = ap (λ (r : Refusal). r.text) refused.is
 
--- if the world of a game is at fault, it is refused whatever the brains are; and the red brain is, whatever the black
--- one is
+-- If the world of a game is at fault, it is refused, whatever the brains are. If the red brain is the first at fault,
+-- it is refused, whatever the black one is.
 pub world_first : (world red black : List ℕ) (why : WorldFault) (refusal : Refusal) → IsWorldFault world why → IsRefusedGame world red black refusal → refusal.text ≡ 1
 world_first world red black why refusal is (IsRefusedGame.World refused) = numbered 1 IsNoWorld world refusal refused
 world_first world red black why refusal is (IsRefusedGame.Red grid gives refused) = absurd (one-world world grid why gives is)

@@ -15,11 +15,11 @@ words_are : {Z : Type 0} (words : List (String Z)) → AllByRecursion IsUtf8 (ma
 words_are [] = tt
 words_are (word ∷ words) = (IsUtf8-string_bytes word, words_are words)
 
--- what is said of a value that is there
+-- a property of an optional value, if the value is there
 some_at : {X : Type 0} (P : X → Type 0) (found : Option X) (x : X) → found ≡ Some x → IfSome found P → P x
 some_at {X} P found x is holds = subst (λ (it : Option X). IfSome it P) is holds
 
--- what was made into words and files can be read
+-- if words and files were made of what was given, it can be read
 pub is_read : {Z A : Type 0} (spoken : Option (Vec (String Z) A)) (words : Vec (String Z) A) (text names sizes bytes : List ℕ) (status : ℕ)
     → spoken ≡ Some words → IfSome spoken (λ words. map string_bytes words.items ≡ lines_of text) → AreFiles (lines_of names) sizes bytes
     → (status ≡ 1) ⊎ ((status ≡ 6) ⊎ CanBeRead text names sizes bytes)
@@ -32,7 +32,7 @@ pub spoken_are : {Z A : Type 0} (spoken : Option (Vec (String Z) A)) (words : Ve
     → spoken ≡ Some words → IfSome spoken (λ words. map string_bytes words.items ≡ lines_of text) → list ≡ words.items → map string_bytes list ≡ lines_of text
 spoken_are {Z} {A} spoken words list text at same is = ap (map string_bytes) is ∙ some_at (λ (it : Vec (String Z) A). map string_bytes it.items ≡ lines_of text) spoken words at same
 
--- of lines one of which is no UTF-8 not all are UTF-8
+-- if one of some lines is not UTF-8, not all of them are UTF-8
 pub not_all : (front rest : List (List ℕ)) (line : List ℕ) → (IsUtf8 line → ⊥) → AllByRecursion IsUtf8 (front ++ (line ∷ rest)) → ⊥
 not_all [] rest line not_one all = not_one all.0
 not_all (first ∷ front) rest line not_one all = not_all front rest line not_one all.1
@@ -52,6 +52,6 @@ none_left text bytes sizes i all are =
     let sized = are.sized in let whole = are.whole in let total = nothing (drop i sizes) none in
     (no_text text (omega (arith, none, sized)), omega (arith, whole, total))
 
--- a length that a test says isn't zero
+-- if a test says that a length isn't zero, it isn't
 pub some_left : (n : ℕ) → (n == 0) ≡ false → n ≡ 0 → ⊥
 some_left n some none = false≢true (sym (subst (λ (m : ℕ). (m == 0) ≡ false) none some))

@@ -1,4 +1,4 @@
--- Looks one after the other: what is in the caller's rooms, and where the game stands.
+-- Looks one after another: what is in the caller's rooms, and which round the game has reached.
 use Rattle.std.proofs.Common.{◌≡◌, ℕ, ◌+◌, ◌*◌, ◌-◌, ◌<◌, ◌≤◌, List, [], ◌∷◌, ◌++◌, length, take, drop, map, slice_set, slice_index_or, sym, ap, ap₂, ◌∙◌, subst, arith}
 use Rattle.std.proofs.lemmas.List.{append_assoc, append-nil, drop_more, length-append, length-drop, length-map, length-take-le, map_more, take-append-drop, take_more}
 use Rattle.std.proofs.lemmas.Grind.{flat_map-append}
@@ -35,7 +35,7 @@ ant_more w old id below =
     one_more (map (seen_ant w) (range_with_len 0 id)) old id (seen_ant w id) (length-map-range_with_len (seen_ant w) 0 id) below
     ∙ ap (λ front. front ++ drop (id + 1) old) (sym (map-range_with_len_more (seen_ant w) 0 id id (omega arith)))
 
--- the ants of some looks are as many as these have together
+-- how many ants some looks have together
 ants_after-length : (world : Grid) (red black : List Instr) (seed : ℕ) (rounds : List ℕ) → length (ants_after world red black seed rounds) ≡ length rounds * world.ids
 unfolding world_after
 ants_after-length world red black seed [] = let none : 0 ≡ 0 * world.ids = omega arith in none
@@ -47,19 +47,19 @@ ants_after-length world red black seed (round ∷ rounds) =
     length-append (seen_ants w) (ants_after world red black seed rounds) ∙ ap₂ (λ (a b : ℕ). a + b) here more
     ∙ add_comm world.ids (length rounds * world.ids) ∙ sym (suc-mul (length rounds) world.ids)
 
--- rounds that rise from a later one on rise from an earlier one on
+-- rounds that rise from a later round on also rise from an earlier one on
 AreRising-from : (least from : ℕ) (rounds : List ℕ) → least ≤ from → AreRising from rounds → AreRising least rounds
 AreRising-from least from [] below rising = rising
 AreRising-from least from (round ∷ rounds) below rising = let later = rising.0 in (omega (arith, below, later), rising.1, rising.2)
 
--- a game stands where this many rounds of it led, and the rounds to come rise from there on
+-- a game has played this many of the rounds, and the rounds to come rise from there on
 pub record Looking (world : Grid) (red black : List Instr) (seed : ℕ) (rounds : List ℕ) (index : ℕ) (game : GameAloneValue) : Type 0 where
   pub minds : game.minds ≡ contest_minds red black
   pub same_seed : game.seed ≡ seed
   pub stands : standing game ≡ after_rounds (contest_minds red black) seed (start_of (world_of world)) game.done
   pub later : AreRising game.done (drop index rounds)
 
--- the next round is at least the one after which it stands, and within the limit
+-- the next round is at least the one that the game has reached, and within the limit
 pub next_round : (world : Grid) (red black : List Instr) (seed : ℕ) (rounds : List ℕ) (index : ℕ) (game : GameAloneValue) → Looking world red black seed rounds index game → index < length rounds
     → AreRising game.done (slice_index_or rounds index 0 ∷ drop (index + 1) rounds)
 next_round world red black seed rounds index game it below = subst (AreRising game.done) (drop_more rounds index 0 below) it.later

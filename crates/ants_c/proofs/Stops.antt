@@ -1,4 +1,4 @@
--- Why texts are not opened, by why they are not read.
+-- A call stops at a text because the text is not opened.
 use Rattle.std.proofs.Common.{◌≡◌, ℕ, List, Result, Ok, Err, IfErr, IfOk, refl, arith}
 use Rattle.brain_read.specs.declared.instr.Instr.{Instr}
 use Rattle.cell_world.specs.Grid.{Grid}

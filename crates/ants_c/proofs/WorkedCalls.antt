@@ -39,7 +39,7 @@ no_fault = record { text = 0; kind = 0; line = 0; column = 0; number = 0; words 
 some_fault : AntsFault
 some_fault = record { text = 1; kind = 2; line = 3; column = 4; number = 5; words = 6 }
 
--- a text and a line that just fill their rooms have the program's number, and either that is longer has 4
+-- a text and a line that just fill their rooms give the program's status; if either is longer, the status is 4
 both_fill : call_status (1 ∷ 2 ∷ []) (3 ∷ []) (lent (0 ∷ 0 ∷ []) 0 (0 ∷ []) 0 no_fault) (RefusedWord 1) ≡ 2
 both_fill = refl
 
@@ -49,8 +49,8 @@ long_text = refl
 long_line : call_status [] (1 ∷ 2 ∷ []) (lent [] 0 (0 ∷ []) 0 no_fault) (RefusedWord 1) ≡ 4
 long_line = refl
 
--- the fault that a caller lends stays where a line is too long, and where a run is done, and is written where a word is
--- refused
+-- The fault that a caller lends is unchanged if a line is too long, and if a run is done. It is written if a word is
+-- refused.
 fault_stays : call_fault [] [] [] (1 ∷ 2 ∷ []) (lent [] 0 (0 ∷ []) 0 some_fault) (RefusedWord 1) ≡ some_fault
 fault_stays = refl
 

@@ -16,7 +16,7 @@ use Rattle.ants_c.specs.Ended.{ending_fault, ending_line}
 use Rattle.ants_c.specs.Rooms.{counted, overlaid}
 use Rattle.ants_c.specs.declared.fault.AntsFault.{AntsFault}
 
--- the files with these names: each takes the number of the remaining bytes that its size says
+-- the files with these names; each takes `size` of the remaining bytes, and the sizes are in the order of the names
 abbrev pub files_in : List (List ℕ) → List ℕ → List ℕ → List (List ℕ × List ℕ)
 files_in (name ∷ names) (size ∷ sizes) bytes = (name, take size bytes) ∷ files_in names sizes (drop size bytes)
 files_in names sizes bytes = []
@@ -27,21 +27,21 @@ pub record AreFiles (names : List (List ℕ)) (sizes bytes : List ℕ) : Type 0 
   pub sized : length sizes ≡ length names
   pub whole : sum sizes ≡ length bytes
 
--- the lines of the words are in UTF-8, and those of the names are names of files
+-- the lines of the words are in UTF-8, and the lines of the names are names of files
 pub record CanBeRead (words names sizes bytes : List ℕ) : Type 0 where
   pub spoken : AllByRecursion IsUtf8 (lines_of words)
   pub files : AreFiles (lines_of names) sizes bytes
 
--- a shelf in memory with these files, from which nothing was fetched; it reports them, and is sure of each
+-- A shelf in memory with these files, from which nothing was fetched. It reports the files, and is sure of each.
 abbrev pub shelf_with : List (List ℕ × List ℕ) → ShelfState
 shelf_with files = shelf_of (record { files = files; failing = []; calls = 0; faults = 0; log = [] })
 
--- a sink that reports these bytes, none of which wait, and that never failed
+-- a sink that reports these bytes, has none waiting, and never failed
 abbrev pub holding : List ℕ → SinkState
 holding bytes = record { held = Some bytes; waiting = Some []; faults = 0 }
 
--- the program ran with these words over these files, with this ending; it wrote this text, and reported this line,
--- which is the whole line of its ending
+-- The program ran with these words over these files, with this ending. It wrote this text, and reported this line. The
+-- line is the whole line of the ending.
 pub record Runs (words : List (List ℕ)) (files : List (List ℕ × List ℕ)) (text line : List ℕ)
     (ending : Ending) : Type 0 where
   pub shelf : ShelfState
@@ -58,7 +58,7 @@ pub record Lent : Type 0 where
   pub told : ℕ
   pub fault : AntsFault
 
--- the same, of these parts
+-- the caller's memory, built from these parts
 abbrev pub lent : List ℕ → ℕ → List ℕ → ℕ → AntsFault → Lent
 lent out used said told fault = record { out = out; used = used; said = said; told = told; fault = fault }
 
@@ -70,14 +70,14 @@ have_room text line lent = nat_le (length text) (length lent.out) && nat_le (len
 abbrev pub call_status : List ℕ → List ℕ → Lent → Ending → ℕ
 call_status text line lent ending = if have_room text line lent then status_number (ending_status ending) else 4
 
--- the fault after a call: how the run ended, in numbers, if the text and the line have room and the ending has numbers;
--- otherwise unchanged
+-- The fault after a call. If the text and the line have room and the ending has numbers, it is how the run ended, in
+-- numbers. Otherwise it is unchanged.
 abbrev pub call_fault : List (List ℕ) → List (List ℕ) → List ℕ → List ℕ → Lent → Ending → AntsFault
 call_fault words names text line lent ending = if have_room text line lent then unwrap_or (ending_fault words names ending) lent.fault else lent.fault
 
--- the program ran in this way over files with these names: its text and its line were written over the rooms, their
--- bytes were counted, and the status and the fault say how it ended; it never ends with a failed output, whose number
--- is 4
+-- The program ran in this way over files with these names. Its text and its line were written over the rooms, and their
+-- bytes were counted. The status and the fault say how it ended. The program never ends with a failed output, whose
+-- status is 4 too.
 pub record IsCalled (words names : List (List ℕ)) (files : List (List ℕ × List ℕ)) (before after : Lent)
     (status : ℕ) : Type 0 where
   pub text : List ℕ
@@ -92,7 +92,7 @@ pub record IsCalled (words names : List (List ℕ)) (files : List (List ℕ × L
   pub answered : status ≡ call_status text line before ending
   pub faulted : after.fault ≡ call_fault words names text line before ending
 
--- nothing ran and nothing was written: what was given can't be read, or memory ran out
+-- Nothing ran and nothing was written. Either what was given can't be read, or memory ran out.
 pub record IsNotCalled (before after : Lent) (status : ℕ) : Type 0 where
   pub either : (status ≡ 1) ⊎ (status ≡ 6)
   pub unwritten : after ≡ before

@@ -14,16 +14,19 @@ ending_line Done = []
 ending_line (RefusedWord word) = word_line word
 ending_line (Stopped reason) = fault_line reason
 
--- the number of the first of some texts that equals this one, if they are counted from `first`; 0 if none does
+-- Some texts are numbered from `first` on. This is the number of the first one that equals this text, or 0 if none
+-- does.
 abbrev pub number_of : ℕ → List ℕ → List (List ℕ) → ℕ
 number_of first text [] = 0
 number_of first text (other ∷ others) = if bytes_eq other text then first else number_of (first + 1) text others
 
--- which of the given files has this name first, from 1; the largest number of 32 bits means any number above it too
+-- the number of the first given file with this name, counted from 1; the largest number of 32 bits also means any
+-- larger number
 abbrev pub file_named : List ℕ → List (List ℕ) → ℕ
 file_named name names = min (number_of 1 name names) 4294967295
 
--- which word is the first that names this file, from 1; the first word of all is the command's own
+-- The number of the first word that names this file, counted from 1. The first word of all names no file: it is the
+-- command's own.
 abbrev pub word_naming : List ℕ → List (List ℕ) → ℕ
 word_naming name words = number_of 2 name (drop 1 words)
 
@@ -31,8 +34,9 @@ word_naming name words = number_of 2 name (drop 1 words)
 abbrev pub at_word : ℕ → AntsFault
 at_word number = record { text = 0; kind = 0; line = 0; column = 0; number = number; words = 0 }
 
--- how a run with these words over files with these names ended, in numbers: the refused word, the word that names a
--- missing file, the file that is refused and its fault, or the element that has no room; any other ending has none
+-- How a run with these words over files with these names ended, in numbers: the refused word, the word that names a
+-- missing file, the file that is refused and its fault, or the element that has no room. Any other ending has no
+-- numbers.
 abbrev pub ending_fault : List (List ℕ) → List (List ℕ) → Ending → Option AntsFault
 ending_fault words names Done = None
 ending_fault words names (RefusedWord word) = Some (at_word word)

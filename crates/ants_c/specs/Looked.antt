@@ -21,7 +21,7 @@ abbrev pub colour_number : Colour → ℕ
 colour_number Red = 0
 colour_number Black = 1
 
--- the ant of a position as C sees it, or one that is dead
+-- the ant at a position as C sees it; if there is none, a dead one
 abbrev pub seen_at : Pos → Option Ant → AntsAnt
 seen_at p None = record { state = 0; resting = 0; column = 0; row = 0; alive = 0; colour = 0; direction = 0; laden = 0 }
 seen_at p (Some ant) = record {
@@ -35,16 +35,16 @@ seen_at p (Some ant) = record {
   laden = one_if ant.laden;
 }
 
--- the ant that has a place, or is dead
+-- the ant at a place as C sees it; if it has no place, a dead one
 abbrev pub seen_from : Cells → Option Pos → AntsAnt
 seen_from cells None = seen_at (record { x = 0; y = 0 }) None
 seen_from cells (Some p) = seen_at p (cells p).ant
 
--- the ant with an id
+-- the ant with an id as C sees it
 abbrev pub seen_ant : World → ℕ → AntsAnt
 seen_ant w t = seen_from w.cells (place_in w t)
 
--- the ants of all ids that were assigned, in order
+-- the ants of all ids that were assigned, in order, as C sees them
 abbrev pub seen_ants : World → List AntsAnt
 seen_ants w = map (seen_ant w) (range_with_len 0 w.ids)
 
@@ -66,8 +66,8 @@ pub record HasIds (world_text red_text black_text : List ℕ) (ids : ℕ) : Type
   pub is_game : IsGame world_text red_text black_text world red black
   pub made : ids ≡ world.ids
 
--- after each of these rounds its score and its ants are at the front of the caller's rooms; what follows them is
--- unchanged
+-- After each round, its score and its ants were written at the front of the caller's rooms. What follows them is
+-- unchanged.
 pub record AreLooked (world_text red_text black_text : List ℕ) (seed : ℕ) (rounds : List ℕ)
     (scores new_scores : List AntsScore) (ants new_ants : List AntsAnt) (ids : ℕ) : Type 0 where
   pub game : HasIds world_text red_text black_text ids

@@ -32,12 +32,13 @@ pub record IsGame (world_text red_text black_text : List ℕ) (world : Grid) (re
 abbrev pub seen_score : Score → AntsScore
 seen_score score = record { red = score.red; black = score.black }
 
--- the score of a game by the contest's rules, of these brains on this world after this many rounds, with this seed
+-- the score of a game by the contest's rules: the game of these brains on this world, after this many rounds, with this
+-- seed
 abbrev pub game_score : (world : Grid) (red black : List Instr) → ℕ → ℕ → AntsScore
 game_score world red black rounds seed =
     seen_score (score_of (world_after (contest_minds red black) seed (world_of world) rounds))
 
--- three texts are a game's, and the score is that after this many rounds with this seed
+-- three texts are those of a game, and this is its score after this many rounds with this seed
 pub record IsScored (world_text red_text black_text : List ℕ) (seed rounds : ℕ) (score : AntsScore) : Type 0 where
   pub world : Grid
   pub red : List Instr
@@ -45,8 +46,8 @@ pub record IsScored (world_text red_text black_text : List ℕ) (seed rounds : �
   pub is_game : IsGame world_text red_text black_text world red black
   pub is_score : score ≡ game_score world red black rounds seed
 
--- three texts are a game's, and its scores are at the front of the caller's room, one for each seed in order; what
--- follows them is unchanged
+-- Three texts are those of a game. Its scores are at the front of the caller's room, one for each seed, in order. What
+-- follows them is unchanged.
 pub record AreScored (world_text red_text black_text : List ℕ) (seeds : List ℕ) (rounds : ℕ)
     (before after : List AntsScore) : Type 0 where
   pub world : Grid

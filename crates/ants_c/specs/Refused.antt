@@ -23,7 +23,7 @@ IsRefusedWorld = IsRefusedText 1 IsNoWorld
 abbrev pub IsRefusedBrain : ℕ → List ℕ → Refusal → Type 0
 IsRefusedBrain number = IsRefusedText number IsNoBrain
 
--- the first refused text of a game: those before it are a world's and a brain's
+-- one text of a game is refused, and each text before it is that of a world or of a brain
 pub data IsRefusedGame (world red black : List ℕ) (refusal : Refusal) : Type 0 where
   World : IsRefusedWorld world refusal → IsRefusedGame world red black refusal
   Red : (grid : Grid) → GivesWorld world grid → IsRefusedBrain 2 red refusal → IsRefusedGame world red black refusal

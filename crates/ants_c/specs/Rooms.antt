@@ -1,14 +1,14 @@
 -- The caller's room, and what is written over it (this project's own).
 use Rattle.std.specs.Prelude.{◌≡◌, ◌⊎◌, ◌≤◌, ℕ, min, List, [], ◌∷◌, length, take, drop, nat_le, if◌then◌else◌}
 
--- a room with a text written over it, byte by byte from its front on: what the text doesn't reach is unchanged, and
--- what has no room is left out
+-- A room with a text written over it, byte by byte from its front on. The bytes that the text doesn't reach are
+-- unchanged. The bytes of the text that have no room are left out.
 abbrev pub overlaid : List ℕ → List ℕ → List ℕ
 overlaid [] text = []
 overlaid (byte ∷ room) [] = byte ∷ room
 overlaid (byte ∷ room) (code ∷ text) = code ∷ overlaid room text
 
--- how many bytes a text has, as a number of 64 bits, the largest of which means any number above it too
+-- how many bytes a text has, as a number of 64 bits; the largest such number also means any larger number
 abbrev pub counted : List ℕ → ℕ
 counted text = min (length text) 18446744073709551615
 
@@ -22,7 +22,7 @@ pub record IsPut (text before after : List ℕ) (used status : ℕ) : Type 0 whe
   pub count : used ≡ counted text
   pub answered : status ≡ room_status (length text) before
 
--- a status at which a text is written over the room: all of it, or as much as the room holds
+-- a status at which a text is written over the room: 0 if all of it has room, 4 if only a part has
 abbrev pub Writes : ℕ → Type 0
 Writes status = (status ≡ 0) ⊎ (status ≡ 4)
 
@@ -30,8 +30,8 @@ Writes status = (status ≡ 0) ⊎ (status ≡ 4)
 abbrev pub behind : List ℕ → List ℕ → List ℕ
 behind room log = drop (length room) log
 
--- what was pushed was written over what the room held at first, and its bytes are counted; the log has both, one after
--- the other
+-- The log has what the room held at first, followed by what was pushed. What was pushed was written over the room, and
+-- its bytes are counted.
 pub record IsLaid (room : List ℕ) (pushed : ℕ) (log : List ℕ) : Type 0 where
   pub long : length room ≤ length log
   pub laid : room ≡ overlaid (take (length room) log) (drop (length room) log)

@@ -30,7 +30,7 @@ pub record IsTold (Why : Refusal → Type 0) (fault : AntsFault) (before after :
   pub numbers : fault ≡ told_fault refusal
   pub words : after ≡ overlaid before (fault_words refusal.fault)
 
--- why texts were not read: a refusal has this property; out of memory says nothing of a text
+-- Why texts were not read. A refusal has this property. Out of memory says nothing about a text.
 abbrev pub StopsAt : (Refusal → Type 0) → Stop → Type 0
 StopsAt Why OutOfMemory = Unit {0}
 StopsAt Why (Refused refusal) = Why refusal

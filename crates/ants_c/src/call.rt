@@ -51,8 +51,8 @@ fn run_in_rooms<'w>(
     run_alone(alloc, words, &mut shelf, output, errors)
 }
 
-/// How the program ran: how it ended, how many bytes it wrote and reported, and what the two rooms held, followed by
-/// these bytes.
+/// How the program ran: how it ended, and how many bytes it wrote and reported. For each of the two rooms it has what
+/// the room held, followed by these bytes.
 #[derive(Drop)]
 pub struct Ran<'w> {
     pub ended: Ended<'w>,

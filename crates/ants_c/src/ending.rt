@@ -10,7 +10,7 @@ use crate::tell::told_fault;
 use ant_base::{Lines, cut_line};
 use ant_commands::{CommandStop, Ended};
 
-// The number of the first line that equals this text, if the lines are counted from `first`; 0 if none does.
+// The lines are numbered from `first` on. Returns the number of the first one that equals this text, or 0 if none does.
 fn number_of(first: u64, text: &str, lines: &[u8]) -> u64
     requires { first ≤ 2 }
     ensures { result ≡ number_of first text.now (lines_of lines.now) }
@@ -25,7 +25,7 @@ fn number_of(first: u64, text: &str, lines: &[u8]) -> u64
     0
 }
 
-// The number of the file with this name, among these names.
+// The number of the first file with this name, among these names.
 fn file_named(name: &str, names: &[u8]) -> u32
     ensures { result ≡ file_named name.now (lines_of names.now) }
 {

@@ -39,7 +39,7 @@ pub fn are_files(names: &[u8], sizes: &[u32], bytes: &[u8]) -> bool
     true
 }
 
-// The bytes of the first file with this name: the names are lines, and each file has the number of bytes that its size
+// The bytes of the first file with this name. The names are lines, and each file has the number of bytes that its size
 // says.
 fn content<'f>(names: &[u8], sizes: &[u32], bytes: &'f [u8], name: &str) -> Option<&'f [u8]>
     ensures { option_copied result ≡ content_of (files_in (lines_of names.now) sizes.now bytes.now) name.now }
@@ -95,7 +95,7 @@ impl<'f> Model for LentShelf<'f> {
 }
 
 impl<'f> LentShelf<'f> {
-    /// A shelf of these files, from which nothing was fetched.
+    /// A shelf with these files, from which nothing was fetched.
     pub fn new(names: &'f [u8], sizes: &'f [u32], bytes: &'f [u8]) -> Self
         ensures { result ≡ record { files = files_in (lines_of names.now) sizes.now bytes.now; failing = []; calls = 0; faults = 0; log = [] } }
     {

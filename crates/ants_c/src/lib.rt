@@ -4,8 +4,9 @@
 //! owes the ten duties that ants.h lists. Apart from these no export has a precondition: a wrong number, text or word
 //! gives a status. The statuses are the program's: 0 done, 2 a number outside its limits, 4 the room is too small, 5 a
 //! text is refused, 6 out of memory. `ants_call`, which runs every command of the program, also returns 1 if its
-//! arguments can't be read, 2 if the words are not a command, and 3 if a file is missing. Whatever names no section of
-//! the contest's task is this project's own. This crate depends on the readers, on `match_run` and on `ant_commands`.
+//! arguments can't be read, 2 if the words are not a command, and 3 if a file is missing. Definitions that name no
+//! section of the contest's task are this project's own. This crate depends on the readers, on `match_run` and on
+//! `ant_commands`.
 #![tactic(auto)]
 
 ghost use Rattle.std.specs.Prelude.{◌≡◌, ◌⊎◌, ◌↔◌, ◌<◌, ◌≤◌, length};
@@ -120,7 +121,7 @@ pub extern "C" fn ants_score(
     }
 }
 
-/// Plays a game as `ants_score` does for each of these seeds, and reads the texts once (the task's
+/// Plays a game as `ants_score` does for each of the seeds, and reads the texts once (the task's
 /// game play). The status is that of `ants_score`, or
 /// - 4: there is room for fewer scores than there are seeds.
 ///
@@ -168,9 +169,9 @@ pub extern "C" fn ants_scores(
     }
 }
 
-/// Plays a game as `ants_score` does, and looks at it after each of these rounds (the task's game
-/// play and biology). A look is the score, and an ant for each id of the game, in order. The ants of
-/// a later round follow those of the round before it. The status is that of `ants_score`, or
+/// Plays a game as `ants_score` does, and looks at it after each of the rounds (the task's game
+/// play and biology). A look is the score, and an ant for each id of the game, in order. The ants
+/// of a later round follow those of the round before it. The status is that of `ants_score`, or
 /// - 2: a round isn't above the one before it, or is above 1,000,000;
 /// - 4: there is room for fewer scores than there are rounds, or for fewer ants than all rounds have
 ///   together.
@@ -237,8 +238,8 @@ pub extern "C" fn ants_look(
 /// Or the call itself fails:
 /// - 1: the words or the names aren't UTF-8, the number of sizes isn't the number of names, or the
 ///   sizes don't add up to the length of `bytes`;
-/// - 4: the output is longer than `out`, or the line is longer than `said`; both hold as much as
-///   they have room for.
+/// - 4: the output is longer than `out`, or the line is longer than `said`; both hold the part
+///   that has room.
 ///
 /// `used` is the length of the output and `told` the length of the line, at 4 too. The rest of
 /// `out` and `said` is unchanged. The fault is written at 2, 3 and 5 only. At 5 its words are the

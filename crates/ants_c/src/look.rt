@@ -83,7 +83,7 @@ fn put_ants(world: &World, room: &mut [AntsAnt])
     }
 }
 
-/// Plays a game and writes its score and its ants after each of these rounds into rooms that have places for them.
+/// Plays a game. After each of the rounds it writes the score and the ants into rooms that have places for them.
 pub fn put_looks(
     setting: Setting,
     seed: u32,

@@ -25,8 +25,8 @@ impl Layout for CallFault {
     }
 }
 
-/// A text, by its number among those that were passed, from 1, and what is wrong with it; 0 means that it isn't about a
-/// text.
+/// What is wrong with a text, and the number of the text among those that were passed, counted from 1. If the number is
+/// 0, no text is at fault.
 #[derive(Clone, Copy)]
 pub struct Refusal {
     pub text: u32,

@@ -5,8 +5,8 @@ ghost use Rattle.ants_c.specs.Rooms.{IsLaid, overlaid};
 use crate::room_log::RoomLog;
 use ant_base::{Failed, Sink};
 
-/// A sink that writes what is pushed over the caller's room, as far as the room goes, and counts all of it (this
-/// project's own). No push fails. The count stays at the largest `usize`.
+/// A sink over the caller's room (this project's own). It writes what is pushed over the room, as far as the room goes,
+/// and counts all of it. No push fails. The count stays at the largest `usize`.
 #[derive(Drop)]
 pub struct RoomSink<'o> {
     room: &'o mut [u8],

@@ -15,7 +15,7 @@ use cell_world::World;
 use match_run::play_score;
 use std::alloc::Global;
 
-/// The score of a game of these brains on this world after this many rounds, with this seed.
+/// The score of a game: the game of these brains on this world, after this many rounds, with this seed.
 pub fn score_of_game(world: World, brains: Brains<'_>, rounds: u32, seed: u32) -> AntsScore
     requires fit { Fits (world_of world) (minds_of brains) }
     requires few_rounds { rounds ≤ most_rounds }

@@ -1,4 +1,4 @@
-// The statuses of calls: those of the program that a library has.
+// The statuses of calls. They are those of the program's statuses that a library has.
 
 /// Done.
 pub const DONE: u32 = 0;

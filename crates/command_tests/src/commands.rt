@@ -1,7 +1,8 @@
-// What no clause says: that commands succeed, and the exact bytes that they write. Each file has tables of cases, and a
-// loop for each. A table with commands in it is a `static`, and so is a command that a function varies: if they were
-// constants, a function would build them piece by piece. The texts of one `static` are proved together, and the cost of
-// that grows with the square of their length. So a long table is a `static` of its own, or several.
+// These tests check what no clause says: that commands succeed, and the exact bytes that they write. Each file has
+// tables of cases, and a loop for each table. A table with commands in it is a `static`, and so is a command that a
+// function varies: if they were constants, a function would build them piece by piece. The texts of one `static` are
+// proved together, and the cost of that grows with the square of their length. So a long table is a `static` of its
+// own, or is split into several.
 mod acts;
 mod assembled;
 mod brains;
@@ -33,7 +34,7 @@ use std::sync::Wait;
 use std::test::Fail;
 use std::thread::Threads;
 
-// More bytes than any text of these tests has.
+// A room with more bytes than any text in these tests.
 const ROOM: u64 = 2000000;
 
 // One red ant between rocks.
@@ -43,9 +44,9 @@ const CLOSED: &str = "3\n3\n# # #\n # + #\n# # #\n";
 const CLOSING: &str =
     "7\n6\n# # # # # # #\n # . . . . . #\n# . . - # . #\n # - . + - # #\n# + . - - # #\n # # # # # # #\n";
 
-// A command over a world in the files w and -, a red brain in r, a black one in b, breaks in k, and more files by name;
-// the fetch and the push to out that fail, if there are calls with these numbers; and the room of out and of err, in
-// bytes.
+// A command, and what it runs over. A world is in the files w and -, a red brain in r, a black one in b, breaks in k,
+// and more files have names of their own. `failing_fetch` and `failing_push` are the numbers of the fetch and of the
+// push to out that fail, if there are such calls. Out and err have room for the given number of bytes.
 #[derive(Clone, Copy, Debug)]
 struct Job<'t> {
     line: &'t str,
@@ -313,7 +314,7 @@ fn check_ending<R: Abort>(rt: &R, job: &Job<'_>, ending: Ending<'_>, wanted: End
     assert_eq!(rt; ending, wanted, "at {job:?}");
 }
 
-// The beginning of a text, some of its lines in order, perhaps with others between them, and its end.
+// A text by its parts: its beginning, some of its lines in order, perhaps with others between them, and its end.
 #[derive(Clone, Copy, Debug)]
 struct Told<'t> {
     start: &'t str,
@@ -361,7 +362,7 @@ fn check_told<R: Abort>(rt: &R, job: &Job<'_>, ending: Ending<'_>, told: &Told<'
     assert!(rt; is_told(ending.out, told), "{told:?} of {job:?}");
 }
 
-// What the rows of a table vary of a command.
+// The part of a command that the rows of a table vary.
 #[derive(Clone, Copy)]
 enum Given {
     Line,
@@ -398,8 +399,8 @@ fn check_with<R: Threads + Wait + Sync + Abort>(
     check(rt, alloc, &job.with(given, text), wanted)
 }
 
-// A table of rows: each has a text in one of the places of a command, and what the output gets at Done, otherwise what
-// the errors get.
+// A table of rows. Each row has a text for one part of a command, and what the command prints: to the output if the
+// status is Done, otherwise to the errors.
 #[derive(Clone, Copy)]
 struct Table<'t> {
     job: Job<'t>,
@@ -433,7 +434,7 @@ fn check_tables<R: Threads + Wait + Sync + Abort>(
     Ok(())
 }
 
-// A command whose output fails: what the output holds then, and the line that the errors got.
+// A command whose output fails: what the output holds then, and the line that the errors get.
 #[derive(Clone, Copy)]
 struct CutRun<'t> {
     job: Job<'t>,

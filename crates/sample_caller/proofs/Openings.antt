@@ -25,18 +25,18 @@ pub opening-read : {log new_log : List Fetched} {name : List ℕ} {grid : Grid} 
 opening-read (Opened bytes (Ok world) _ fetched opens named) = record { kinds = opens.is.kinds; plan = rw named opens.is.is.plan; is = rw named opens.is.opened }
 opening-read (Opened bytes (Err stop) _ fetched opens named) = absurd named
 
--- the brain of a file has a state
+-- the brain of a file has at least one state
 pub some-read : {log new_log : List Fetched} {name : List ℕ} {list : List Instr} → ReadsBrain log new_log name (Ok list) → 1 ≤ length list
 some-read (Opened bytes (Ok brain) _ fetched opens named) = rw named opens.is.some
 some-read (Opened bytes (Err stop) _ fetched opens named) = absurd named
 
--- a minimised brain has a state
+-- a minimised brain has at least one state
 pub some-minimised : (old new : List Instr) (numbers : List (Option ℕ)) → IsMinimised old new numbers → 1 ≤ length new
 some-minimised old new numbers minimised =
     let inside = (Carries-minimised old new numbers minimised).inside 0 0 (zero-number old new numbers minimised) in
     omega (arith, inside.1)
 
--- if both sides play by it, the score is that of the game in which both play by the brain
+-- If both sides play by a minimised brain, the score is that of the game in which both play by the brain itself.
 pub score-of-both : (grid : Grid) (old new : List Instr) (numbers : List (Option ℕ)) (seed rounds : ℕ) → IsOpeningWorld grid → IsMinimised old new numbers
     → score_of (world_after (contest_minds new new) seed (world_of grid) rounds) ≡ score_of (world_after (contest_minds old old) seed (world_of grid) rounds)
 unfolding world_after

@@ -22,13 +22,13 @@ begun-world game field window world minds seed round begins is =
     ap (λ (f : FieldValue). (after_rounds f.minds f.seed (field_moment f) round).world) (sym is)
     ∙ ap (λ (g : GameValue). (after_rounds g.field.minds g.field.seed (now_of g) round).world) (sym begins)
 
--- what is asked of the world that a game shows is asked of that after its rounds
+-- a test of the world that a game shows is a test of the world after the game's rounds
 pub laden-shown : {game new : GameValue} {round : ℕ} → GoesOnFor game new round → (id : ℕ) (shown : Grid) (b : Bool) → shown ≡ new.field.world → b ≡ is_laden id (world_of shown)
     → is_laden id (after_rounds game.field.minds game.field.seed (now_of game) round).world ≡ b
 laden-shown on id shown b same is =
     ap (is_laden id) (sym (GoesOnFor-world on)) ∙ ap (λ (grid : Grid). is_laden id (world_of grid)) (sym same) ∙ sym is
 
--- one round more doesn't meet a test
+-- one more round doesn't meet a test
 pub MeetsNone-more : (test : ℕ → Bool) (n : ℕ) → MeetsNone test n → test (n + 1) ≡ false → MeetsNone test (n + 1)
 MeetsNone-more test n none last = λ round low high. elim (cases_lt round (n + 1)) [
   | inl below ↦ none round low (omega arith)

@@ -1,5 +1,5 @@
--- The result for a file: it is fetched once, and its bytes are those of a world or of a brain, or it is refused (this
--- project's own).
+-- The result for a file, which is fetched once: its bytes are those of a world or of a brain, or the file is refused
+-- (this project's own).
 use Rattle.std.specs.Prelude.{◌≡◌, ℕ, ◌≤◌, List, [], ◌∷◌, ◌++◌, length, Result, Ok, Err, Vec, codes}
 use Rattle.ant_base.specs.Fetched.{Fetched}
 use Rattle.ant_base.specs.FaultText.{fetch_fault_text}
@@ -32,7 +32,7 @@ refusal_text name fault = name +++ codes ": " +++ file_fault_text fault
 abbrev pub IsFetched : List Fetched → List Fetched → List ℕ → Result (List ℕ) FetchFault → Type 0
 IsFetched log new_log name answer = new_log ≡ log ++ record { name = name; answer = answer } ∷ []
 
--- a file gave no bytes: the refusal has its name, and why
+-- a file gave no bytes; the refusal has its name, and the reason
 pub record IsUnfetched (log new_log : List Fetched) (name : List ℕ) (refusal : Refusal) : Type 0 where
   pub why : FetchFault
   pub fetched : IsFetched log new_log name (Err why)
@@ -44,7 +44,7 @@ abbrev pub FetchesFile : {A : Type 0} → List Fetched → List Fetched → List
 FetchesFile log new_log name (Ok bytes) = IsFetched log new_log name (Ok bytes.items) × (length bytes.items ≤ longest)
 FetchesFile log new_log name (Err refusal) = IsUnfetched log new_log name refusal
 
--- what bytes were opened as; or the refusal of the file with this name, if they weren't
+-- the value as which bytes were opened; or, if they weren't opened, the refusal of the file with this name
 abbrev pub IsNamed : {V : Type 0} → List ℕ → Result V TextStop → Result V Refusal → Type 0
 IsNamed name (Ok value) (Ok named) = named ≡ value
 IsNamed name (Err stop) (Err refusal) = (refusal.name.now ≡ name) × (refusal.fault ≡ Text stop)

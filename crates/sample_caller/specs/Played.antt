@@ -16,9 +16,9 @@ use Rattle.sample_caller.specs.Files.{ReadsBrain, ReadsWorld, refusal_text}
 abbrev pub sample_seed : ℕ
 sample_seed = 12345
 
--- the result of a game of the files of a world, a red brain and a black one: they are fetched and read in this order,
--- each only if those before it were opened. The first that is refused ends it; otherwise the score is that of the world
--- after the given number of rounds by the contest's rules
+-- The result of a game of the files of a world, a red brain and a black one. The files are fetched and read in this
+-- order, each only if those before it were opened. The first file that is refused ends it. Otherwise the result is the
+-- score of the world after the given number of rounds by the contest's rules.
 pub data PlaysFiles (log new_log : List Fetched) (world red black : List ℕ)
     (rounds : ℕ) : Result Score Refusal → Type 0 where
   WorldRefused : (refusal : Refusal) → ReadsWorld log new_log world (Err refusal)

@@ -22,7 +22,7 @@ is_laden id w = carries_at w (place_in w id)
 abbrev pub MeetsNone : (ℕ → Bool) → ℕ → Type 0
 MeetsNone test n = (round : ℕ) → 1 ≤ round → round ≤ n → test round ≡ false
 
--- the first of the rounds from 1 to the last that meets a test, or that there is none
+-- the first of the rounds from 1 to the last that meets a test; `None` if no round does
 abbrev pub IsFirstRound : (ℕ → Bool) → ℕ → Option ℕ → Type 0
 IsFirstRound test last None = MeetsNone test last
 IsFirstRound test last (Some first) =

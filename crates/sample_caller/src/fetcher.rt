@@ -54,8 +54,8 @@ pub fn small_fetcher(alloc: Global) -> Result<Minimised, OutOfMemory>
 }
 
 /// The score after the given number of rounds, at most 1,000,000, by the contest's rules and with seed 12345, if both
-/// sides play with this minimised fetcher. It is the score of the game in which both play with the fetcher itself. The
-/// world is an opening world. It takes no memory.
+/// sides play with this minimised fetcher. The score is the same if both play with the fetcher itself. The world is an
+/// opening world. It takes no memory.
 pub fn play_fetchers(small: &Minimised, world: World, rounds: u32) -> Score
     requires minimised { IsMinimised fetcher small.now.brain small.now.map }
     requires opening { IsOpeningWorld world }

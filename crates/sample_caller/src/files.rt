@@ -21,7 +21,7 @@ fn fetch<'n, S: Shelf>(alloc: Global, shelf: &mut S, name: &'n str) -> Result<Ve
     }
 }
 
-// What was opened from the bytes of a file, or what is wrong with the file.
+// The value as which the bytes of a file were opened, or what is wrong with the file.
 fn named<'n, T>(name: &'n str, opened: Result<T, TextStop>) -> Result<T, Refusal<'n>>
     ensures { IsNamed name.now opened result }
 {

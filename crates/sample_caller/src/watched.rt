@@ -14,7 +14,7 @@ use match_run::{Game, OutOfMemory};
 use round_book::{Field, SoloCrew, lemma_valid};
 use std::alloc::Global;
 
-// How many turns are looked at ahead; the result doesn't depend on it.
+// How many turns are looked at ahead. The result doesn't depend on this number.
 const WINDOW: u32 = 64;
 
 // Whether the ant with this id is alive and carries food.

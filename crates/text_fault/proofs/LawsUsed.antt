@@ -1,4 +1,4 @@
--- The law of texts that are opened, used on one text: a law that says less, or that asks for more, doesn't give this.
+-- The law of texts that are opened, used on one text. A law that says less, or that requires more, doesn't give this.
 use Rattle.std.proofs.Common.{◌≡◌, inl, inr, ℕ, List, codes}
 use Rattle.ant_asm.specs.Source.{IsSourceOf}
 use Rattle.brain_read.specs.Grammar.{IsBrainText}
@@ -12,7 +12,7 @@ use Rattle.text_fault.specs.declared.fault.TextFault.{TextFault}
 abbrev text : List ℕ
 text = codes "Drop 0"
 
--- a value of it is the only one, and there is no fault beside it; without a value it has one fault
+-- if the text has a value, that is its only one and it has no fault; if it has no value, it has exactly one fault
 record OneOrOther {V : Type 0} (Is : List ℕ → V → Type 0) (Wrong : List ℕ → TextFault → Type 0) : Type 0 where
   value : (one : V) → Is text one → ((other : V) → Is text other → other ≡ one) × ((fault : TextFault) → ¬ Wrong text fault)
   fault : ((one : V) → ¬ Is text one) → (fault : TextFault) × Wrong text fault × ((other : TextFault) → Wrong text other → other ≡ fault)
@@ -23,7 +23,7 @@ one_or_other it = record {
   fault = λ none. elim it.some [ inl value ↦ absurd (none value.0 value.1) | inr fault ↦ (fault.0, fault.1, λ other wrong. it.one_fault other fault.0 wrong fault.1) ];
 }
 
--- as a text of each kind
+-- this holds for the text as a text of each kind
 every_text_has_one_verdict_used : EveryTextHasOneVerdict →
     OneOrOther OpensAs IsNoWorld × OneOrOther IsBrainText IsNoBrain × OneOrOther IsProgramOf IsNoProgram × OneOrOther IsSourceOf IsNoProgram × OneOrOther (IsSaveWithin 5) (IsNoSave 5)
 every_text_has_one_verdict_used law =

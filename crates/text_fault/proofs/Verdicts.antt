@@ -26,7 +26,7 @@ use Rattle.text_fault.specs.Opens.{IsProgramOf, IsSaveWithin}
 use Rattle.text_fault.specs.Refusals.{IsNoBrain, IsNoProgram, IsNoSave, IsReadersFault, IsNoWorld, IsPast}
 use Rattle.text_fault.specs.Verdicts.{EveryTextHasOneVerdict, HasOneVerdict}
 
--- as the reader's verdict is one
+-- there is one verdict, since the reader has one
 by_reader : {V F : Type 0} (wrap : F → TextFault) (IsFault : List ℕ → F → Type 0) (Is : List ℕ → V → Type 0) (text : List ℕ) → ((value : V) × Is text value) ⊎ ((why : F) × IsFault text why)
     → ((a b : V) → Is text a → Is text b → a ≡ b) → ((a b : F) → IsFault text a → IsFault text b → a ≡ b) → ((value : V) (why : F) → Is text value → IsFault text why → ⊥) → HasOneVerdict Is (IsReadersFault wrap IsFault) text
 by_reader wrap IsFault Is text some one one_why never = record {
@@ -60,7 +60,7 @@ source_verdict text = by_reader Labelled IsAsmFault IsSourceOf text
     (elim (some-reading text) [ inl is ↦ inl (has-source text is.2.main is.2.is) | inr wrong ↦ inr wrong ])
     (one-source text) (program_text.one_fault lines_decide text) (λ source why is wrong. source-fault text source is why wrong)
 
--- of a save however many rounds are done
+-- a save has one verdict, however many rounds are done
 pub any_save_verdict : (text : List ℕ) → HasOneVerdict IsSaveText (IsReadersFault Save IsSaveFault) text
 any_save_verdict text = by_reader Save IsSaveFault IsSaveText text (every_verdict.some text) (every_verdict.one_save text) (every_verdict.one_fault text) (every_verdict.never_both text)
 
@@ -70,7 +70,7 @@ some_save rounds text saved is = elim (cases_lt rounds saved.round) [
   | inr early ↦ inl (saved, (is, early))
 ]
 
--- its rounds are too many, and then no fault is the reader's; or they are not
+-- If too many rounds are done, that is the one fault, and the reader finds none. Otherwise it isn't a fault.
 one_past : (rounds : ℕ) (text : List ℕ) (a b : TextFault) → IsPast rounds text a → IsPast rounds text b → a ≡ b
 one_past rounds text a b first second =
     first.told ∙ ap (λ (saved : SavedValue). AlreadyAt saved.round) (every_verdict.one_save text first.saved second.saved first.is second.is) ∙ sym second.told

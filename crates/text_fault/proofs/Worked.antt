@@ -1,4 +1,4 @@
--- What texts are refused for at the limits, and what is said of them.
+-- Why texts at the limits are refused, and the words for it.
 use Rattle.std.proofs.Common.{◌≡◌, ℕ, ◌+◌, List, codes, length, refl, arith}
 use Rattle.std.specs.Fmt.{digits}
 use Rattle.brain_read.specs.declared.fault.BrainFault.TheVariants.{BadByte}
@@ -30,7 +30,7 @@ at_last text saved is = (is, omega arith)
 pub past_before : (rounds : ℕ) (text : List ℕ) (saved : SavedValue) → IsSaveText text saved → saved.round ≡ rounds + 1 → IsPast rounds text (AlreadyAt (rounds + 1))
 past_before rounds text saved is at = record { saved = saved; is = is; past = omega (arith, at); told = rw at refl }
 
--- what is said
+-- the words for it
 pub says_long : text_stop_text (Refused TooLong) ≡ codes "too long"
 says_long = refl
 

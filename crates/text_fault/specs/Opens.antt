@@ -13,12 +13,12 @@ use Rattle.text_fault.specs.declared.stop.TextStop.{TextStop}
 use Rattle.text_fault.specs.declared.stop.TextStop.TheVariants.{OutOfMemory, Refused}
 use Rattle.text_fault.specs.Refusals.{IsRefusal}
 
--- a text that isn't too long is one of this value
+-- the text isn't too long, and is a text of this value
 pub record Gives {V : Type 0} (Is : List ℕ → V → Type 0) (text : List ℕ) (value : V) : Type 0 where
   pub short : length text ≤ longest
   pub is : Is text value
 
--- it is the text of an opening world, or of a brain
+-- the text isn't too long, and is that of this opening world, or of this brain
 abbrev pub GivesWorld : List ℕ → Grid → Type 0
 GivesWorld = Gives OpensAs
 
@@ -29,11 +29,12 @@ GivesBrain = Gives IsBrainText
 abbrev pub IsProgramOf : List ℕ → Assembled → Type 0
 IsProgramOf text made = IsAssembledText text made.brain made.places
 
--- a text is that of this save, of which at most this many rounds are done
+-- a text is that of this save, which has at most this many rounds done
 abbrev pub IsSaveWithin : ℕ → List ℕ → SavedValue → Type 0
 IsSaveWithin rounds text saved = IsSaveText text saved × (saved.round ≤ rounds)
 
--- the result of opening a text: its value, or a fault for which it is refused; out of memory says nothing of the text
+-- The result of opening a text: its value, or a fault for which it is refused. Out of memory says nothing about the
+-- text.
 abbrev pub Opens : {V : Type 0} → (List ℕ → V → Type 0) → (List ℕ → TextFault → Type 0) → List ℕ → Result V TextStop
     → Type 0
 Opens Is Wrong text (Ok value) = Gives Is text value

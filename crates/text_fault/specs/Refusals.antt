@@ -26,18 +26,19 @@ IsNoBrain = IsReadersFault Brain IsBrainFault
 abbrev pub IsNoProgram : List ℕ → TextFault → Type 0
 IsNoProgram = IsReadersFault Labelled IsAsmFault
 
--- a text is that of a save of which this many rounds are done, more than allowed
+-- a text is that of a save with more than this many rounds done; the fault says how many are done
 pub record IsPast (rounds : ℕ) (text : List ℕ) (fault : TextFault) : Type 0 where
   pub saved : SavedValue
   pub is : IsSaveText text saved
   pub past : rounds < saved.round
   pub told : fault ≡ AlreadyAt saved.round
 
--- a text is not a save, or is a save of which more rounds are done than allowed
+-- a text is not a save, or is a save with more than this many rounds done
 abbrev pub IsNoSave : ℕ → List ℕ → TextFault → Type 0
 IsNoSave rounds text fault = IsReadersFault Save IsSaveFault text fault ⊎ IsPast rounds text fault
 
--- a text is refused for this fault: it is too long to be read, or it isn't and this is wrong with it
+-- A text is refused for this fault. Either the text is too long to be read, and that is the fault. Or it isn't too
+-- long, and this is wrong with it.
 pub data IsRefusal (Wrong : List ℕ → TextFault → Type 0) (text : List ℕ) (fault : TextFault) : Type 0 where
   Long : longest < length text → fault ≡ TooLong → IsRefusal Wrong text fault
   Bad : length text ≤ longest → Wrong text fault → IsRefusal Wrong text fault

@@ -16,7 +16,7 @@ pub record HasOneVerdict {V : Type 0} (Is : List ℕ → V → Type 0) (Wrong : 
   pub never_both : (value : V) (fault : TextFault) → Is text value → Wrong text fault → ⊥
 
 -- this holds for worlds, for brains, for labelled programs with their brain or with their labels and states, and for
--- saves of which at most this many rounds are done
+-- saves with at most this many rounds done
 pub record EveryTextHasOneVerdict : Type 0 where
   pub of_world : (text : List ℕ) → HasOneVerdict OpensAs IsNoWorld text
   pub of_brain : (text : List ℕ) → HasOneVerdict IsBrainText IsNoBrain text

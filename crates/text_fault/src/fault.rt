@@ -5,7 +5,7 @@ use brain_read::BrainFault;
 use match_save::{AlreadyAt, SaveFault};
 use world_read::WorldFault;
 
-/// What is wrong with a text, by what it should be. None of these is the reader's `OutOfMemory`.
+/// What is wrong with a text, by the kind of text that it should be. It is never a reader's `OutOfMemory`.
 #[derive(Clone, Copy, Debug, PartialEq, Eq)]
 pub enum TextFault {
     /// It has more than 4,194,304 bytes.

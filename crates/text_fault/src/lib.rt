@@ -1,9 +1,9 @@
 //! Texts that are refused: why, the words for it, and the one way in which each shell opens a text.
 //!
-//! A world, a brain, a labelled program or a save reaches a shell as bytes, and is opened here. The result is its
-//! value, or the one fault for which it is refused (too long is one), or out of memory, which is not a fault of the
-//! text. The shells add where the text is from: a file's name, or the text's number in a call. All of it is this
-//! project's own. It depends on the four readers.
+//! A shell gets a world, a brain, a labelled program or a save as bytes, and this crate opens it. The result is the
+//! text's value, or the one fault for which the text is refused. Being too long is such a fault. The result may also be
+//! out of memory, which is not a fault of the text. The shells add where the text is from: a file's name, or the text's
+//! number in a call. All of it is this project's own. It depends on the four readers.
 #![tactic(auto)]
 
 mod fault;

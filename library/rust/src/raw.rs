@@ -200,7 +200,7 @@ pub fn ants_score(world: &[u8], red: &[u8], black: &[u8], seed: u32, rounds: u32
     }
 }
 
-/// Plays a game as `ants_score` does for each of these seeds, and reads the texts once (the task's
+/// Plays a game as `ants_score` does for each of the seeds, and reads the texts once (the task's
 /// game play). The status is that of `ants_score`, or
 /// - 4: there is room for fewer scores than there are seeds.
 ///
@@ -237,9 +237,9 @@ pub fn ants_scores(
     }
 }
 
-/// Plays a game as `ants_score` does, and looks at it after each of these rounds (the task's game
-/// play and biology). A look is the score, and an ant for each id of the game, in order. The ants of
-/// a later round follow those of the round before it. The status is that of `ants_score`, or
+/// Plays a game as `ants_score` does, and looks at it after each of the rounds (the task's game
+/// play and biology). A look is the score, and an ant for each id of the game, in order. The ants
+/// of a later round follow those of the round before it. The status is that of `ants_score`, or
 /// - 2: a round isn't above the one before it, or is above 1,000,000;
 /// - 4: there is room for fewer scores than there are rounds, or for fewer ants than all rounds have
 ///   together.
@@ -300,8 +300,8 @@ pub fn ants_look(
 /// Or the call itself fails:
 /// - 1: the words or the names aren't UTF-8, the number of sizes isn't the number of names, or the
 ///   sizes don't add up to the length of `bytes`;
-/// - 4: the output is longer than `out`, or the line is longer than `said`; both hold as much as
-///   they have room for.
+/// - 4: the output is longer than `out`, or the line is longer than `said`; both hold the part
+///   that has room.
 ///
 /// `used` is the length of the output and `told` the length of the line, at 4 too. The rest of
 /// `out` and `said` is unchanged. The fault is written at 2, 3 and 5 only. At 5 its words are the

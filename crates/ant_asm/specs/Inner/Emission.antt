@@ -15,7 +15,8 @@ offset (suc k) End = 0
 offset (suc k) (Do action others) = suc (offset k others)
 offset (suc k) (Use handed block others) = size_of block + offset k others
 
--- the numbers of a body in use: of its first instruction, of what follows it, and those given for its parameters
+-- the numbers of a body in use: that of its first instruction, that of what follows it, and those given for its
+-- parameters
 pub record Numbers : Type 0 where
   pub base : ℕ
   pub after : ℕ
@@ -52,8 +53,9 @@ emitted (Use handed block others) body numbers k =
 abbrev pub main_numbers : Numbers
 main_numbers = record { base = 0; after = 0; given = [] }
 
--- the number of an address in a body with these items, by the way that leads to it: the first number is a place, the
--- items from there on are these, and this many instructions precede them
+-- The number of the instruction to which an address leads. The address has led to the first of these items so far, and
+-- only the rest of it is given. `before` instructions precede that item. The next number of the address is a place in
+-- the block that the item uses.
 abbrev pub number_walk : Address → ℕ → Items → ℕ
 number_walk [] before items = before
 number_walk (k ∷ address) before End = before

@@ -23,7 +23,7 @@ tree_of trees [] = End
 tree_of trees (Item.Do action ∷ items) = Do action (tree_of trees items)
 tree_of trees (Item.Use block handed ∷ items) = Use handed.items (slice_index_or trees block End) (tree_of trees items)
 
--- the items of further bodies, after those of the bodies before
+-- the items of all bodies: of the earlier ones, which are given, and then of these
 abbrev pub trees_from : List Items → List Body → List Items
 trees_from trees [] = trees
 trees_from trees (body ∷ bodies) = trees_from (trees ++ tree_of trees body.items.items ∷ []) bodies
@@ -55,14 +55,15 @@ IsGoodAction parameters items (Move met unmet) = IsGoodLabel parameters items me
 IsGoodAction parameters items (Flip bound met unmet) =
     IsGoodLabel parameters items met × IsGoodLabel parameters items unmet
 
--- an item of the body with this number is good: a use is of an earlier body, with a label for each of its parameters
+-- An item of the body with this number is good. All its labels lead somewhere. If it is a use, it uses an earlier body,
+-- and it has a label for each parameter of that body.
 abbrev pub IsGoodItem : List Body → ℕ → ℕ → ℕ → Item → Type 0
 IsGoodItem bodies number parameters items (Item.Do action) = IsGoodAction parameters items action
 IsGoodItem bodies number parameters items (Item.Use block handed) =
     (block < number) × AllByRecursion (IsGoodLabel parameters items) handed.items
     × ((body : Body) → slice_get bodies block ≡ Some body → length handed.items ≡ body.parameters)
 
--- the body with this number is good, and knows where its items start
+-- the items of the body with this number are good, and the body knows where each of them starts
 pub record IsGood (bodies : List Body) (number : ℕ) (body : Body) : Type 0 where
   pub items : AllByRecursion (IsGoodItem bodies number body.parameters (length body.items.items)) body.items.items
   pub starts : (k : ℕ) → k ≤ length body.items.items
@@ -89,12 +90,12 @@ abbrev pub IsLabelOf : List Body → ℕ → Label → Type 0
 IsLabelOf bodies number label =
     (body : Body) → slice_get bodies number ≡ Some body → IsGoodLabel body.parameters (length body.items.items) label
 
--- all labels of an instruction are
+-- all labels of an instruction are labels of the body with this number
 abbrev pub IsActionOf : List Body → ℕ → Action Label → Type 0
 IsActionOf bodies number action =
     (body : Body) → slice_get bodies number ≡ Some body → IsGoodAction body.parameters (length body.items.items) action
 
--- these labels are
+-- these labels are labels of the body with this number
 abbrev pub AreLabelsOf : List Body → ℕ → List Label → Type 0
 AreLabelsOf bodies number labels =
     (body : Body) → slice_get bodies number ≡ Some body
@@ -109,7 +110,7 @@ HasGiven bodies number frame =
 abbrev pub numbers_of : Frame → Numbers
 numbers_of frame = record { base = frame.base; after = frame.after; given = frame.given.now }
 
--- an item of a body in use, all of whose instructions have numbers
+-- a spot is at an item of a body in use, and all instructions of that body have numbers
 pub record IsSpot (spot : Spot) : Type 0 where
   pub good : AreGood spot.bodies.now
   pub known : spot.number < length spot.bodies.now

@@ -1,4 +1,4 @@
--- Bodies by the names in their lines, as the code has them, and the labels of bodies by numbers of instructions.
+-- Bodies as lists of lines with names, as the code has them; and the labels of bodies, with numbers of instructions.
 use Rattle.std.specs.Prelude.{◌≡◌, ℕ, suc, ◌+◌, ◌-◌, ◌<◌, ◌≤◌, ◌==◌, true, false, List, [], ◌∷◌, ◌++◌, length, Option, Some, None, Ok, Err, if◌then◌else◌, slice_get, slice_index_or}
 use Rattle.std.specs.Borrow.{Bor}
 use Rattle.std.specs.List.{AllByRecursion}
@@ -25,7 +25,7 @@ outline_size (Labelled name others) = outline_size others
 outline_size (Instructed line others) = suc (outline_size others)
 outline_size (Used line name block others) = outline_size block + outline_size others
 
--- the most that the code counts
+-- the largest number of instructions that the code counts
 abbrev pub most_size : ℕ
 most_size = 65535
 
@@ -36,29 +36,29 @@ line_before blocks (NamedLine.Instruction line) others = Instructed line others
 line_before blocks (NamedLine.Use line name block) others =
     Used line name.items (slice_index_or blocks block Closed) others
 
--- lines before others
+-- several lines before others
 abbrev pub lines_before : List Outline → List NamedLine → Outline → Outline
 lines_before blocks [] others = others
 lines_before blocks (line ∷ lines) others = line_before blocks line (lines_before blocks lines others)
 
--- a body
+-- the outline of a body, if the blocks have these outlines
 abbrev pub outline_in : List Outline → NamedBody → Outline
 outline_in blocks body = lines_before blocks body.lines.items Closed
 
--- further bodies, after those before
+-- the outlines of all bodies: of the earlier ones, which are given, and then of these
 abbrev pub outlines_from : List Outline → List NamedBody → List Outline
 outlines_from blocks [] = blocks
 outlines_from blocks (body ∷ bodies) = outlines_from (blocks ++ outline_in blocks body ∷ []) bodies
 
--- each body
+-- the outline of each body
 abbrev pub outlines_of : List NamedBody → List Outline
 outlines_of bodies = outlines_from [] bodies
 
--- the body with this number
+-- the outline of the body with this number
 abbrev pub outline_at : List NamedBody → ℕ → Outline
 outline_at bodies number = slice_index_or (outlines_of bodies) number Closed
 
--- a use is of one of this many blocks
+-- if the line is a use, its block is one of the first `count`
 abbrev pub IsUseBelow : ℕ → NamedLine → Type 0
 IsUseBelow count (NamedLine.Label name) = Unit {0}
 IsUseBelow count (NamedLine.Instruction line) = Unit {0}
@@ -71,20 +71,20 @@ counted_from place (NamedLine.Label name ∷ lines) = counted_from (suc place) l
 counted_from place (NamedLine.Instruction line ∷ lines) = place ∷ counted_from (suc place) lines
 counted_from place (NamedLine.Use line name block ∷ lines) = place ∷ counted_from (suc place) lines
 
--- a body after blocks with these outlines uses only these; it knows its size, if that is at most the most counted, and
--- the places of its items
+-- A body uses only the blocks with these outlines. It knows the places of its items. It also knows its size, if that is
+-- at most the largest number that the code counts.
 pub record IsGoodNamed (blocks : List Outline) (body : NamedBody) : Type 0 where
   pub uses : AllByRecursion (IsUseBelow (length blocks)) body.lines.items
   pub counted : body.counted.items ≡ counted_from 0 body.lines.items
   pub size : outline_size (outline_in blocks body) ≤ most_size → body.size ≡ outline_size (outline_in blocks body)
 
--- each of these bodies does so
+-- each body is good, and uses only the blocks before it
 abbrev pub AreGoodNamed : List Outline → List NamedBody → Type 0
 AreGoodNamed blocks [] = Unit {0}
 AreGoodNamed blocks (body ∷ bodies) =
     IsGoodNamed blocks body × AreGoodNamed (blocks ++ outline_in blocks body ∷ []) bodies
 
--- how many instructions a line of a body expands to, according to the bodies
+-- how many instructions a line of a body expands to, by the sizes that the bodies know
 abbrev pub size_in : Option NamedBody → ℕ
 size_in None = 0
 size_in (Some body) = body.size
@@ -102,7 +102,8 @@ outline_in_map blocks (Some n) = Some (slice_index_or blocks n Closed)
 abbrev pub blocks_named : List NamedBody → List (Bor (List ℕ) × ℕ) → List ℕ → Option Outline
 blocks_named bodies entries name = outline_in_map (outlines_of bodies) (known_as entries name)
 
--- main, if these lines are left: what was read of it, and of the block that has begun, precedes them
+-- The outline of main, if these lines are still to be read. What was read of main, and of a block that has begun, comes
+-- before what they add.
 abbrev pub rest_around : List NamedBody → Option Around → NamedBody → (List ℕ → Option Outline) → List NumberedLine
     → Outline
 rest_around bodies None current blocks lines =
@@ -130,11 +131,11 @@ said_by (line ∷ lines) = said_before line.number (read_line line.tokens) (said
 abbrev pub lines_said : List ℕ → List NumberedLine
 lines_said text = said_by (lines_with_tokens text)
 
--- the same for lines some of which have no token, if the first has this number
+-- the same for lines that may have no token; the first has this number
 unfoldable pub rest_from : Outlines → ℕ → List (List ℕ) → Outline
 rest_from outlines number lines = rest_of outlines (said_by (token_lines number lines))
 
--- main is good, if lines are added to a block in it
+-- if lines are added to a block, main is good
 abbrev pub IsGoodAround : List Outline → Option Around → Type 0
 IsGoodAround blocks None = Unit {0}
 IsGoodAround blocks (Some around) = IsGoodNamed blocks around.main
@@ -159,12 +160,13 @@ pub record AreOutlinesOf (lines : List NumberedLine) (bodies : List NamedBody) :
   pub short : length bodies ≤ suc most_blocks
   pub main : outline_at bodies (main_of bodies) ≡ outline_of lines
 
--- the number to which a label at this number leads, before this many instructions of its body
+-- The state to which a label leads. If `left` instructions of its body follow it, and that is at least one, it is `at`,
+-- the number of the next one. Otherwise it is `after`, the number of what follows the body.
 abbrev pub state_at : ℕ → ℕ → ℕ → ℕ
 state_at left at after = if left == 0 then after else at
 
--- the own labels of a body, of which these lines are left, by the numbers of its next instruction and of what follows
--- the body
+-- The labels of a body's own lines, each with the state to which it leads. The outline has the lines that are left.
+-- `at` is the number of the body's next instruction, and `after` is the number of what follows the body.
 abbrev pub own_states : Outline → ℕ → ℕ → List WayStep → List LabelState
 own_states Closed at after way = []
 own_states (Labelled name others) at after way =
@@ -177,7 +179,7 @@ own_states (Used line name block others) at after way = own_states others (at + 
 abbrev pub further : List WayStep → List ℕ → ℕ → List WayStep
 further way name line = way ++ (record { name = name; line = line }) ∷ []
 
--- the labels of the blocks that it uses
+-- the labels of the blocks that the body uses
 abbrev pub inner_states : Outline → ℕ → ℕ → List WayStep → List LabelState
 inner_states Closed at after way = []
 inner_states (Labelled name others) at after way = inner_states others at after way
@@ -187,11 +189,12 @@ inner_states (Used line name block others) at after way =
     ++ inner_states block at (state_at (outline_size others) (at + outline_size block) after) (further way name line))
     ++ inner_states others (at + outline_size block) after way
 
--- all of them
+-- the labels of the body's own lines, and then those of the blocks that it uses
 abbrev pub all_states : Outline → ℕ → ℕ → List WayStep → List LabelState
 all_states outline at after way = own_states outline at after way ++ inner_states outline at after way
 
--- the lines of its instructions, one after another, from this number on
+-- The line of each instruction of a body and of the blocks that it uses, in order. The first instruction has this
+-- number.
 abbrev pub told_lines : Outline → ℕ → List WayStep → List StateLine
 told_lines Closed at way = []
 told_lines (Labelled name others) at way = told_lines others at way
@@ -207,7 +210,7 @@ source_seen bodies = record {
   lines = told_lines (outline_at bodies (main_of bodies)) 0 [];
 }
 
--- the label of a line, if it is one
+-- the label that a line is, if it is one
 abbrev pub label_of : NamedLine → ℕ → List WayStep → List LabelState
 label_of (NamedLine.Label name) state way = (record { way = way; name = name.items; state = state }) ∷ []
 label_of (NamedLine.Instruction line) state way = []

@@ -27,7 +27,7 @@ block_in bodies (Some n) = Some (record { parameters = parameters_in (slice_get 
 abbrev pub blocks_seen : List Body → List (Bor (List ℕ) × ℕ) → List ℕ → Option Block
 blocks_seen bodies entries name = block_in bodies (known_as entries name)
 
--- main, if lines are added to it or to a block in it
+-- main, whether lines are added to it or to a block
 abbrev pub main_of : Option Outer → OpenBody → OpenBody
 main_of None current = current
 main_of (Some outer) current = outer.main
@@ -52,7 +52,7 @@ abbrev pub program_seen : Program → Standing
 program_seen program =
     standing_of program.bodies.items program.outer program.current program.blocks.entries program.unknown
 
--- main is good, and there is room for the block that has begun
+-- if a block has begun, main is good, and there is room for one more block
 abbrev pub IsGoodOuter : List Body → Option Outer → Type 0
 IsGoodOuter bodies None = Unit {0}
 IsGoodOuter bodies (Some outer) = IsGoodOpen bodies outer.main × (length bodies < 256)
@@ -82,12 +82,12 @@ abbrev pub placed_or : Option AsmFault → Standing → Result Standing AsmFault
 placed_or None under = Ok under
 placed_or (Some fault) under = Err fault
 
--- a line that was read
+-- the state below a line that was read, or the fault of the line
 abbrev pub stepped : Standing → ℕ → Read Line → Result Standing AsmFault
 stepped above number (Ok line) = placed_or (place_fault above number line) (below above number line)
 stepped above number (Err fault) = Err (fault_at number fault)
 
--- what comes after a line without a fault
+-- if a line has no fault, reading continues from the state below it
 abbrev pub then_lines : Result Standing AsmFault → (Standing → Result Standing AsmFault) → Result Standing AsmFault
 then_lines (Ok under) later = later under
 then_lines (Err fault) later = Err fault
@@ -98,7 +98,7 @@ reading above [] = Ok above
 reading above (line ∷ lines) =
     then_lines (stepped above line.number (read_line line.tokens)) (λ under. reading under lines)
 
--- the same for lines some of which have no token, if the first has this number
+-- the same for lines that may have no token; the first has this number
 unfoldable pub reading_from : Standing → ℕ → List (List ℕ) → Result Standing AsmFault
 reading_from above number lines = reading above (token_lines number lines)
 

@@ -53,7 +53,7 @@ ReadsAs see made (Err fault) = StopsAs made fault
 abbrev pub Reads : Read Line → Result code_line.Line SpellingFault → Type 0
 Reads made result = ReadsAs line_seen made result
 
--- some more in front
+-- the same with these elements in front
 abbrev pub all_before : {A : Type 0} → List A → Step (List A) → Step (List A)
 all_before front (Ok others) = Ok (front ++ others.0, others.1)
 all_before front (Err fault) = Err fault

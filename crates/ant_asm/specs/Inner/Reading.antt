@@ -72,7 +72,7 @@ fault_spelled LineFault.ExtraToken = ExtraToken
 abbrev pub spelling_of : Refusal → SpellingFault
 spelling_of refusal = if refusal.bad_byte then BadByte else fault_spelled refusal.fault
 
--- what is read in the same way in a brain's text
+-- the result of reading a brain's text, as a result of this language
 abbrev pub lifted : {A : Type 0} → brain.Read A → Read A
 lifted (Ok x) = Ok x
 lifted (Err refusal) = Err (spelling_of refusal)
@@ -92,7 +92,7 @@ abbrev pub or_fault : {A : Type 0} → Option A → SpellingFault → Read A
 or_fault (Some x) fault = Ok x
 or_fault None fault = Err fault
 
--- what a token gives, if it has no bad byte
+-- the result for a token, unless the token has a bad byte
 abbrev pub good_token : {A : Type 0} → List ℕ → Read A → Read A
 good_token token read = if has_bad_byte token then Err BadByte else read
 
@@ -104,27 +104,27 @@ read_label token = good_token token (or_fault (label_of token) BadName)
 unfoldable pub read_name : List ℕ → Read (List ℕ)
 read_name token = good_token token (or_fault (name_of token) BadName)
 
--- the next token, by its meaning
+-- the meaning of the next token, and the tokens after it
 abbrev pub take_token : {A : Type 0} → (List ℕ → Read A) → List (List ℕ) → Step A
 take_token read [] = Err MissingToken
 take_token read (token ∷ rest) = with_rest rest (read token)
 
--- one more in front
+-- the same with one more element in front
 abbrev pub put_before : {A : Type 0} → A → Step (List A) → Step (List A)
 put_before x (Ok others) = Ok (x ∷ others.0, others.1)
 put_before x (Err fault) = Err fault
 
--- the next tokens, at most this many
+-- the meanings of the next tokens, at most this many
 abbrev pub take_all : {A : Type 0} → (List ℕ → Read A) → ℕ → List (List ℕ) → Step (List A)
 take_all read zero tokens = Ok ([], tokens)
 take_all read (suc n) [] = Ok ([], [])
 take_all read (suc n) (token ∷ rest) = read token >>= (λ x. put_before x (take_all read n rest))
 
--- the tokens of the line, at most this many
+-- the meanings of all tokens that are left in the line, at most this many
 abbrev pub all_read : {A : Type 0} → (List ℕ → Read A) → ℕ → List (List ℕ) → Read (List A)
 all_read read n tokens = take_all read n tokens >>= (λ others. lifted (take_end others.1) >>= (λ end. Ok others.0))
 
--- the end of the line, which says this
+-- the line, if no token is left
 abbrev pub ending : Line → List (List ℕ) → Read Line
 ending line tokens = lifted (take_end tokens) >>= (λ end. Ok line)
 
@@ -196,7 +196,7 @@ read_keyword BlockWord tokens = read_named read_name Begins tokens
 read_keyword EndWord tokens = ending Ends tokens
 read_keyword UseWord tokens = read_named read_label Uses tokens
 
--- a line whose first token isn't the first word of a form
+-- a line whose first token is neither the first word of a form nor a keyword
 abbrev pub read_mark : List ℕ → List (List ℕ) → Read Line
 read_mark token [] = or_fault (name_if (before_colon token)) UnknownWord >>= (λ name. Ok (Marks name))
 read_mark token (other ∷ rest) = Err UnknownWord
@@ -209,7 +209,7 @@ keyword_words = map word_of_keyword keywords
 abbrev pub keyword_at : ℕ → Keyword
 keyword_at i = if i == 0 then BlockWord else (if i == 1 then EndWord else UseWord)
 
--- a line by the places of its first token in the tables of forms and of keywords
+-- a line, given the places of its first token in the table of forms and in that of keywords
 abbrev pub read_by : Option ℕ → Option ℕ → List ℕ → List (List ℕ) → Read Line
 read_by (Some form) keyword token rest = read_form (form_at form) rest
 read_by None (Some keyword) token rest = read_keyword (keyword_at keyword) rest

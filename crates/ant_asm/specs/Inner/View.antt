@@ -45,7 +45,7 @@ open_seen trees draft = record {
   size = draft.size;
 }
 
--- an item, whose use names a block by its number
+-- an item; if it is a use, it names its block by the block's number
 pub data Flat : Type 0 where
   Acts : Action Label → Flat
   Puts : (block : ℕ) → (handed : List Label) → Flat
@@ -70,15 +70,16 @@ abbrev pub parameters_in : Option Body → ℕ
 parameters_in None = 0
 parameters_in (Some body) = body.parameters
 
--- an item is a use of an existing block, with a label for each parameter, or an instruction whose numbers are in their
--- ranges; and it expands to this many instructions
+-- An item is an instruction whose numbers are in their ranges, or a use of an existing block with a label for each of
+-- its parameters. It expands to this many instructions.
 abbrev pub IsGoodKind : List Body → ℕ → OpenKind → Type 0
 IsGoodKind bodies size (OpenKind.Do action) = IsInRange (instruction_by (λ label. 0) (mapped seen action)) × (size ≡ 1)
 IsGoodKind bodies size (OpenKind.Use block handed) =
     (block < length bodies) × (length handed.items ≡ parameters_in (slice_get bodies block))
     × (size ≡ size_of (tree_at bodies block)) × (1 ≤ size)
 
--- items are good and start one after another, if this many instructions precede them; all of them expand to this many
+-- Items are good, and each starts where the one before it ends. `before` instructions precede them, and at their end
+-- `all` instructions have been counted.
 abbrev pub AreGoodItems : List Body → ℕ → List OpenItem → ℕ → Type 0
 AreGoodItems bodies before [] all = before ≡ all
 AreGoodItems bodies before (item ∷ items) all =
@@ -99,7 +100,8 @@ pub record IsNew (named : List (List ℕ)) (draft : OpenBody) : Type 0 where
   pub items : draft.items.items ≡ []
   pub size : draft.size ≡ 0
 
--- a body that was read is closed: its labels have the meanings that they have in it, and it knows where its items start
+-- A body that was read is closed. Each label has the meaning that it has in the body. The body knows where each of its
+-- items starts.
 pub record IsClosedAs (draft : OpenBody) (body : Body) : Type 0 where
   pub parameters : body.parameters ≡ draft.parameters
   pub items : map flat_of body.items.items

@@ -40,11 +40,11 @@ lines_from bodies spot way = told_lines (rest_at bodies spot) spot.at way
 abbrev pub labels_from : List NamedBody → Spot → List WayStep → List LabelState
 labels_from bodies spot way = inner_states (rest_at bodies spot) spot.at spot.after way
 
--- the same for the bodies that were left at uses
+-- the same for the bodies that the walk has left at uses
 abbrev pub left_in : {A : Type 0} → (Spot → List WayStep → List A) → List Level → List WayStep → List A
 left_in tell levels way = left_by step_of (λ level way. tell level.spot way) levels way
 
--- the same for all
+-- the same for the spot's body, and then for the bodies that the walk has left
 abbrev pub left_of : {A : Type 0} → (Spot → List WayStep → List A) → Walk → List A
 left_of tell walk = tell walk.spot (steps_of walk.outer.items) ++ left_in tell walk.outer.items []
 
@@ -68,7 +68,8 @@ steps_after bodies (level ∷ levels) = steps_in (rest_at bodies level.spot) + s
 abbrev pub steps_left : Walk → ℕ
 steps_left walk = steps_in (rest_at walk.bodies.now walk.spot) + steps_after walk.bodies.now walk.outer.items
 
--- a spot in one of these bodies, which is inside this many others: each has a lower number than the one around it
+-- A spot is in one of these bodies, which is inside `depth` others. Each body has a lower number than the one around
+-- it.
 pub record IsSpotIn (bodies : List NamedBody) (depth : ℕ) (spot : Spot) : Type 0 where
   pub known : depth + spot.number < length bodies
   pub ends : spot.at + outline_size (rest_at bodies spot) ≡ spot.end
@@ -84,7 +85,7 @@ pub record IsWalk (walk : Walk) : Type 0 where
   pub spot : IsSpotIn walk.bodies.now (length walk.outer.items) walk.spot
   pub outer : AreLevelsIn walk.bodies.now 0 walk.outer.items
 
--- a line of a spot's body follows the spot, and a spot follows the line
+-- `line` is the line of the spot's body that follows the spot, and `behind` is the spot after that line
 pub record IsNext (bodies : List NamedBody) (spot : Spot) (line : NamedLine) (behind : Spot) : Type 0 where
   pub number : behind.number ≡ spot.number
   pub at : behind.at ≡ spot.at + outline_size (line_before (outlines_of bodies) line Closed)
@@ -104,20 +105,21 @@ met_labels bodies Nothing way = []
 met_labels bodies (Instruction at line) way = []
 met_labels bodies (Body spot) way = own_states (outline_at bodies spot.number) spot.at spot.after way
 
--- a body that begins is one of these, and all its instructions have numbers
+-- if a body begins, it is one of these bodies, and all its instructions have numbers
 abbrev pub FitsMet : List NamedBody → Met → Type 0
 FitsMet bodies Nothing = Unit {0}
 FitsMet bodies (Instruction at line) = Unit {0}
 FitsMet bodies (Body spot) =
     (spot.number < length bodies) × (spot.at + outline_size (outline_at bodies spot.number) ≤ most)
 
--- a step of a walk, and its end
+-- A step of a walk. What was left to report is what the step met, followed by what is left now. Fewer steps are left.
 pub record IsStep (old new : Walk) (met : Met) : Type 0 where
   pub fits : FitsMet old.bodies.now met
   pub lines : lines_left old ≡ met_lines met (steps_of new.outer.items) ++ lines_left new
   pub labels : labels_left old ≡ met_labels old.bodies.now met (steps_of new.outer.items) ++ labels_left new
   pub fewer : steps_left new < steps_left old
 
+-- a step of a walk, or its end, at which nothing is left to report
 abbrev pub IsStepOrEnd : Walk → Walk → Option Met → Type 0
 IsStepOrEnd old new None = (lines_left old ≡ []) × (labels_left old ≡ [])
 IsStepOrEnd old new (Some met) = IsStep old new met

@@ -17,7 +17,7 @@ use Rattle.ant_asm.specs.Inner.Left.{left_by}
 abbrev pub numbers_in : Put → Numbers
 numbers_in put = record { base = put.base; after = put.after; given = put.given.items }
 
--- its instructions from its k-th item on, and their addresses
+-- a body's instructions from its k-th item on, and their addresses
 abbrev pub list_from : List Body → ℕ → Put → List ℕ → List Instr
 list_from bodies k put path =
     emitted (from_place k (tree_at bodies put.number)) (tree_at bodies put.number) (numbers_in put) k
@@ -25,11 +25,11 @@ list_from bodies k put path =
 abbrev pub places_from : List Body → ℕ → Put → List ℕ → List Address
 places_from bodies k put path = places_of (from_place k (tree_at bodies put.number)) path k
 
--- the place of the next item, or of the use at which a body is expanded
+-- a place in a body: that of its next item, or, while a block that it uses is expanded, that of the use
 abbrev pub place_in : Put → ℕ
 place_in put = put.place
 
--- what is left of all
+-- what is left of the current body and of the bodies around it
 abbrev pub left_of_work : {A : Type 0} → (ℕ → Put → List ℕ → List A) → Work → List A
 left_of_work tell work =
     tell work.top.place work.top (map place_in work.outer.items)
@@ -56,13 +56,13 @@ abbrev pub nodes_left : List Body → Work → ℕ
 nodes_left bodies work =
     nodes_in (from_place work.top.place (tree_at bodies work.top.number)) + nodes_after bodies work.outer.items
 
--- one of these bodies, in use; all its instructions have numbers
+-- A body in use is one of these. It has a number for each parameter, and all its instructions have numbers.
 pub record IsPutIn (bodies : List Body) (put : Put) : Type 0 where
   pub known : put.number < length bodies
   pub given : (body : Body) → slice_get bodies put.number ≡ Some body → length put.given.items ≡ body.parameters
   pub fits : put.base + size_of (tree_at bodies put.number) ≤ most
 
--- the same for each body around it, at one of its items
+-- the same for a body around it, at a place of one of its items
 abbrev pub IsPutAt : List Body → Put → Type 0
 IsPutAt bodies put = IsPutIn bodies put × (put.place < most)
 
@@ -71,7 +71,8 @@ pub record IsWork (bodies : List Body) (work : Work) : Type 0 where
   pub outer : AllByRecursion (IsPutAt bodies) work.outer.items
   pub path : work.path.items ≡ map place_in work.outer.items
 
--- a step of the work, or its end
+-- A step of the work. What was expanded so far, followed by what is left, is the same before and after it. If there is
+-- more to do, fewer steps are left. Otherwise nothing is left.
 pub record IsGone (bodies : List Body) (old new : Work) (before after : Expansion) (more : Bool) : Type 0 where
   pub work : IsWork bodies new
   pub list : after.list.items ++ list_left bodies new ≡ before.list.items ++ list_left bodies old

@@ -30,7 +30,8 @@ pub record Opens (world : Grid) : Type 0 where
   pub kinds : List Kind
   pub opened : world ≡ opening world.width world.height kinds
 
--- the worlds and the players of a cup: as many as a cup may have, opening worlds, and brains with at least one state
+-- The worlds and the players of a cup. Their numbers are within a cup's limits. The worlds are opening worlds, and each
+-- brain has at least one state.
 pub record AreReady (worlds : List Grid) (players : List (List Instr)) : Type 0 where
   pub some_worlds : fewest_names Worlds ≤ length worlds
   pub few_worlds : length worlds ≤ most_names
@@ -39,7 +40,8 @@ pub record AreReady (worlds : List Grid) (players : List (List Instr)) : Type 0 
   pub opened : AllByRecursion Opens worlds
   pub sound : AllByRecursion (λ (player : List Instr). 1 ≤ length player) players
 
--- a game that can be played, if n is a pair of a world and a seed: its world and its players exist, and fit
+-- A game that can be played. `n` is the number of a pair of a world and a seed. The world and both players exist, and
+-- they fit.
 pub record CanBePlayed (worlds : List Grid) (players : List (List Instr)) (seeds : Seeds)
     (rounds n red black : ℕ) : Type 0 where
   pub some_seeds : 1 ≤ seeds.count

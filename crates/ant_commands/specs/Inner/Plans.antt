@@ -37,22 +37,22 @@ pub record CanPlay (plan : Plan) : Type 0 where
   pub few : plan.rounds ≤ most_rounds
   pub sized : 1 ≤ plan.window
 
--- the stop of a game or a cup whose text wasn't pushed whole
+-- why a command stopped that didn't push the whole text of a game or a cup
 abbrev pub stop_of : PushFault → CommandStop
 stop_of push.WriteFault = stop.Write
 stop_of push.OutOfMemory = stop.Memory
 
--- why a command stopped that pushed the text of a game or a cup last, if it stopped
+-- why a command stopped, if it did; the last thing that it does is to push the text of a game or a cup
 abbrev pub play_ending : {A : Type 0} → Result A PushFault → Option Reason
 play_ending (Ok done) = None
 play_ending (Err fault) = Some (reason_of (stop_of fault))
 
--- a game was planned; only memory can run out
+-- a game was planned, or memory ran out
 abbrev pub IsPlanned : RunSetup → Result PlannedGame CommandStop → Type 0
 IsPlanned setup (Ok game) = Plans setup game
 IsPlanned setup (Err reason) = reason ≡ stop.Memory
 
--- a world was generated, or why not
+-- a world was generated; or an element has no room, or memory ran out
 abbrev pub IsGenerating : ℕ → Shape → Result Grid CommandStop → Type 0
 IsGenerating seed shape (Ok world) = IsGenerated seed shape world
 IsGenerating seed shape (Err (stop.NoRoom element)) = HasNoRoom seed shape element

@@ -23,7 +23,7 @@ use Rattle.ant_commands.specs.Run.{Ends}
 use Rattle.ant_commands.specs.FaultLines.{Ending, Reason, reason_of}
 use Rattle.ant_commands.specs.FaultLines.Reason.{AtFile, AtOutput, AtInput, AtMemory}
 
--- the result of reading some files: their contents, or why it stopped
+-- the result of reading some files: their contents, or why the reading stopped
 pub data ReadOutcome : Type 0 where
   Contents : List FileContent → ReadOutcome
   Stopped : Reason → ReadOutcome
@@ -33,7 +33,7 @@ abbrev pub outcome_of : {A : Type 0} → (A → List FileContent) → Result A C
 outcome_of contents_of (Ok value) = Contents (contents_of value)
 outcome_of contents_of (Err stop) = Stopped (reason_of stop)
 
--- a file of these was not read, and the shelf's count of faults rose
+-- one of the files was not read, and the shelf's count of faults rose
 pub record FailsAt (shelf new_shelf : ShelfState) (files : List File) (fetches : List Fetched)
     (name : List ℕ) : Type 0 where
   pub stopped : StopsAt (IsUnsure shelf name) files fetches
@@ -58,7 +58,7 @@ pub record ReadsFiles (shelf new_shelf : ShelfState) (files : List File) (outcom
   pub fetched : FetchesEach shelf new_shelf fetches
   pub comes : ComesTo shelf new_shelf files fetches outcome
 
--- a file of any kind was fetched, or its reading stops there
+-- a file was fetched, or its reading stopped there, whatever its kind
 abbrev pub FetchesFile : {A : Type 0} → ShelfState → ShelfState → List ℕ → Result (Vec ℕ A) CommandStop → Type 0
 FetchesFile {A} shelf new_shelf name (Ok bytes) = Fetches {A = A} shelf new_shelf name (Ok bytes)
 FetchesFile shelf new_shelf name (Err stop) =
@@ -103,7 +103,7 @@ abbrev pub ending_of : {U : Type 0} → Result U CommandStop → Option Reason
 ending_of (Ok done) = None
 ending_of (Err stop) = Some (reason_of stop)
 
--- why a command stopped that pushed its text last, if it stopped
+-- why a command stopped, if it did; the last thing that it does is to push its text
 abbrev pub push_ending : {U : Type 0} → Result U Failed → Option Reason
 push_ending (Ok done) = None
 push_ending (Err failed) = Some AtOutput
@@ -113,7 +113,7 @@ abbrev pub EndsBy : Job → Outside → Outside → List Fetched → Option Reas
 EndsBy command before after fetches None = IsDone command before after fetches
 EndsBy command before after fetches (Some reason) = StopsFor command before after fetches reason
 
--- a command was carried out, with this ending; it uses only the shelf and the output, so the errors may hold anything
+-- A command was carried out, with this ending. It uses only the shelf and the output, so the errors may hold anything.
 pub record CarriesOut (command : Job) (shelf new_shelf : ShelfState) (out new_out : SinkState)
     (stop : Option Reason) : Type 0 where
   pub fetches : List Fetched

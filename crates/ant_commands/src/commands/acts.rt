@@ -17,7 +17,7 @@ use ant_turn::{Brains, Sheet};
 use game_reports::ReportPlan;
 use std::alloc::Global;
 
-// Plays a game, and pushes what all its ants executed, or one of them.
+// Plays a game, and pushes what its ants executed: all of them, or only one.
 fn push_acts<K: Sink>(
     setting: Setting,
     sheet: Sheet,
@@ -39,7 +39,7 @@ fn push_acts<K: Sink>(
     game_reports::acts(world, brains, plan, one, out)
 }
 
-/// Plays a game turn by turn, and writes what all its ants executed from a round on, or one of them.
+/// Plays a game turn by turn, and writes what its ants executed from a round on: all of them, or only one.
 pub fn acts<'w, S: Shelf, K: Sink>(
     alloc: Global,
     game: GameWords<'w>,

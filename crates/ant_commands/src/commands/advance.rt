@@ -11,9 +11,9 @@ use match_save::write_saved;
 use round_book::Crew;
 use std::alloc::Global;
 
-/// Continues the game of a save by a crew until this number of rounds is done in total, and writes its save there. A
-/// save with more rounds done is refused. Nothing is written before the last round is played; the crew may have any
-/// number of workers.
+/// Continues the game of a save by a crew until this number of rounds is done in total, and writes the save of the game
+/// after them. A save with more rounds done is refused. Nothing is written before the last round is played. The crew
+/// may have any number of workers.
 pub fn advance<'w, C: Crew, S: Shelf, K: Sink>(
     alloc: Global,
     crew: &mut C,

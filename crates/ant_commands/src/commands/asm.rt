@@ -12,8 +12,8 @@ use ant_base::{Failed, Layout, Shelf, Sink, layout};
 use brain_read::write_brain;
 use std::alloc::Global;
 
-/// Writes the canonical text of the brain of a labelled program; or, if requested, a line for each of its labels and
-/// then one for each of its states.
+/// Writes the canonical text of the brain of a labelled program. If the labels or the states are requested, it writes a
+/// line for each of them instead, the labels first.
 pub fn asm<'w, S: Shelf, K: Sink>(
     alloc: Global,
     name: &'w str,
@@ -59,7 +59,7 @@ fn asm_source<'w, S: Shelf, K: Sink>(
     after_push(push_source(&source, labels, lines, out))
 }
 
-// Pushes the labels if they are requested, and then the lines if those are.
+// Pushes the labels if they are requested, and then the lines if they are requested.
 fn push_source<K: Sink>(
     source: &Source,
     labels: bool,

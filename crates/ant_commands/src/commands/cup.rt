@@ -150,7 +150,7 @@ fn print_games<K: Sink, P: Fn(&Games<'_>, &[Pairing], u32) -> Result<Vec<Played>
     )
 }
 
-// The names of the players, which are different.
+// The names of the players, all different.
 fn names_of(alloc: Global, words: &[String]) -> Result<Names, OutOfMemory>
     requires { AllDiffer (texts words.now) }
     ensures { IfOk result (λ names. names ≡ texts words.now) }

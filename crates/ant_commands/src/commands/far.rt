@@ -61,7 +61,7 @@ impl<'s, 'o, 'w, S: Shelf, K: Sink> Errand for RunErrand<'s, 'o, 'w, S, K> {
     }
 }
 
-// Does nothing: this use of a reference that an errand returned ties it to the one that was passed.
+// Does nothing. The call uses a reference that an errand returned, and so ties it to the one that was passed.
 fn take_back<T>(x: &mut T)
     ensures { x.new ≡ x.old }
 {}

@@ -113,7 +113,7 @@ pub struct Setting {
     pub black: Brain,
 }
 
-// The files of a game, in the order in which its words name them. Each is read before the next one is fetched, and both
+// The files of a game, in the order in which its words name them. Each is read before the next one is fetched. Both
 // brains are fetched even if they have the same name.
 pub fn setting_of<'w, S: Shelf>(
     alloc: Global,

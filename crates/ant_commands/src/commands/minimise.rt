@@ -11,7 +11,8 @@ use brain_minimise::{Minimised, push_minimised};
 use brain_read::Brain;
 use std::alloc::Global;
 
-/// Writes the text of a brain, minimised; or, if the states are requested, a line for each of them.
+/// Writes the text of a minimised brain. If the states are requested, it writes a line for each of the old brain's
+/// states instead.
 pub fn minimise<'w, S: Shelf, K: Sink>(
     alloc: Global,
     name: &'w str,
@@ -26,7 +27,7 @@ pub fn minimise<'w, S: Shelf, K: Sink>(
     after_push(push_told(&brain, &minimised, states, out))
 }
 
-// Pushes the minimised brain; or, if the states are requested, the new number of each of them.
+// Pushes the minimised brain. If the states are requested, it pushes the new number of each old state instead.
 fn push_told<K: Sink>(
     brain: &Brain,
     minimised: &Minimised,

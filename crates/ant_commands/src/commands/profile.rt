@@ -39,8 +39,8 @@ fn push_profile<K: Sink>(
     game_reports::profile(alloc, world, brains, plan, out)
 }
 
-/// Plays a game turn by turn, and writes how often each state was executed in it from a round on. Nothing is written
-/// before the last round is played.
+/// Plays a game turn by turn, and writes how often each state was executed from a round on. Nothing is written before
+/// the last round is played.
 pub fn profile<'w, S: Shelf, K: Sink>(
     alloc: Global,
     game: GameWords<'w>,

@@ -18,7 +18,7 @@ use round_book::Crew;
 use std::alloc::Global;
 use text_fault::open_save;
 
-// Reads the bytes of the file with this name as a save of which at most this many rounds are done.
+// Reads the bytes of the file with this name as a save with at most this many rounds done.
 #[tactic(auto, using(crate::proofs::Texts::text_read))]
 fn read_save<'w>(
     alloc: Global,

@@ -56,8 +56,8 @@ pub fn dumps_of(alloc: Global, word: DumpRounds<'_>) -> Result<Dumps, OutOfMemor
     }
 }
 
-/// What a game has to do, and by which sheet. The selected rounds become a list, which takes memory, before any file is
-/// fetched: if memory runs out there, nothing was touched.
+/// What a game has to do, and by which sheet. The selected rounds become a list before any file is fetched. The list
+/// takes memory: if memory runs out there, nothing was touched.
 pub fn planned_game<'w>(alloc: Global, words: RunWords<'_>) -> Result<PlannedGame, CommandStop<'w>>
     ensures { IsPlanned (plain_setup words.entry) result }
 {
@@ -107,8 +107,8 @@ fn play_setting<C: Crew, K: Sink>(
     }
 }
 
-// Plays a game without requested counts turn by turn, and pushes its text. It makes no looks, since no counts are
-// requested, and takes no memory for a second world.
+// Plays a game turn by turn, and pushes its text. No counts are requested, so it makes no looks and takes no memory for
+// a second world.
 fn play_setting_alone<K: Sink>(
     setting: Setting,
     game: &PlannedGame,

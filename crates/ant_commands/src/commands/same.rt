@@ -34,8 +34,8 @@ fn pair_of<'w, S: Shelf>(
     Ok(Pair { first, second })
 }
 
-/// Writes whether two brains are the same except for the numbers of their states, or their first difference; if the way
-/// is requested, with a line for each answer that leads there.
+/// Writes whether two brains are the same except for the numbers of their states, or their first difference. If the way
+/// is requested, it writes a line for each answer that leads to the difference too.
 pub fn same<'w, S: Shelf, K: Sink>(
     alloc: Global,
     first: &'w str,

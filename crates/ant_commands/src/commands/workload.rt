@@ -51,7 +51,7 @@ fn contest_world<'w>(alloc: Global, seed: u32) -> Result<World, CommandStop<'w>>
     generated(alloc, seed, Shape::contest())
 }
 
-// The result of a game on a world, which both sides play with this brain.
+// The result of a game on a world. Both sides play with this brain.
 fn summary_of<C: Crew>(
     alloc: Global,
     crew: &mut C,
@@ -130,8 +130,9 @@ fn push_end<K: Sink>(summary: Summary, out: &mut K) -> Result<(), Failed>
     push_stats(summary.totals, out)
 }
 
-/// Generates the world of the contest's shape from a seed, plays this number of rounds of it by the contest's rules,
-/// with the task's sample brain on both sides, and writes the result. The crew may have any number of workers.
+/// Generates the world of the contest's shape from a seed, plays this number of rounds on it, and writes the result.
+/// The game is by the contest's rules, and both sides play with the task's sample brain. The crew may have any number
+/// of workers.
 pub fn workload<'w, C: Crew, S: Shelf, K: Sink>(
     alloc: Global,
     crew: &mut C,

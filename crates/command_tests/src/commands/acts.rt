@@ -12,10 +12,10 @@ const AMBUSH: Job<'static> = Job {
     ..NO_JOB
 };
 
-// Words, and what the ants execute: in no round; in the first one, in which red ant 2 is dead before its turn and only
-// black ant 1 can move; one ant from a round on; a dead one; one that continues without a rest; one that survives
-// because six foes must surround it; and ants that never existed, even above the last round. The first two numbers of
-// this seed are odd and even.
+// Words, and what the ants execute: in no round; in the first round, where red ant 2 is dead before its turn and only
+// black ant 1 can move; one ant from a round on; an ant that is dead; an ant that doesn't rest; an ant that survives
+// because six foes must surround it; and ants that never existed, even if the first round is above the last. The first
+// two numbers of this seed are odd and even.
 const ACTS: [(&str, &str); 8] = [
     ("acts w r b --seed 12345 --rounds 0", "random seed: 12345\n"),
     (
@@ -74,7 +74,7 @@ fn what_ants_execute_is_told_by_the_words(rt: HostRuntime) -> Result<(), Fail> {
     check_rows(&rt, rt.alloc(), &NO_ACTS)
 }
 
-// Lines for which the output has room up to the words of the first one.
+// The output has room only up to the words of the first line.
 static NO_ROOM: [CutRun<'static>; 1] = [CutRun {
     job: Job {
         line: "acts w r b --ant 1 --seed 12345 --rounds 5",

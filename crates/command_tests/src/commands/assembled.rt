@@ -109,8 +109,8 @@ const LABELS: Job<'static> = Job {
 };
 
 // Labelled programs, and the state to which each of their labels leads. In the first, block half has two states, and is
-// used at the states 0 and 2; its second label is at its end, and so leads to what follows the use: state 2, and state
-// 0 after the last item of main. In the third no body that is used has a label.
+// used at the states 0 and 2. Its second label is at its end, and so leads to what follows the use: state 2, and, after
+// the last item of main, state 0. In the third, the used blocks have no labels.
 const TOLD: [(&str, &str); 4] = [
     (
         "block left on\nturn:\nTurn Left on\nend\nblock half on\nuse left next\nmid:\nuse left on\nlast:\nend\n\
@@ -172,7 +172,7 @@ const STANDING: [(&str, &str); 4] = [
     ("Drop next", "0 1\n"),
 ];
 
-// Labelled programs, with both. The second has no label.
+// Labelled programs, with their labels and the lines of their states. The second has no label.
 const TOLD_TWICE: [(&str, &str); 2] = [
     (
         BACK,
@@ -213,7 +213,7 @@ fn the_lines_of_states_are_told_behind_the_labels(rt: HostRuntime) -> Result<(),
     check_tables(&rt, rt.alloc(), &TOLD_LINES)
 }
 
-// The labels and the lines of a program; the output has no room for the first line of a state.
+// The labels and the lines of a program. The output has no room for the line of the first state.
 static NO_ROOM_FOR_LINES: [CutRun<'static>; 1] = [CutRun {
     job: Job {
         red: BACK,

@@ -82,7 +82,7 @@ const WAYS: [(&str, &str); 3] = [
     ),
 ];
 
-// First brains beside one that moves: if met, both move again, until both get the other answer.
+// First brains beside one that moves. If the answer is `met`, both move again, until both get `unmet`.
 const LONGER_WAYS: [(&str, &str); 1] = [(
     "Move 0 1\nTurn Left 2\nDrop 0",
     "different after 2 answers\nfirst 0: Move 0 1, second 0: Move 0 2: unmet\nfirst 1: Turn Left 2, second 2: Turn Left 1: met\nfirst 2: Drop 0\nsecond 1: Move 0 0\n",

@@ -3,8 +3,8 @@ use crate::commands::{CLOSED, CLOSING, Given, Job, NO_JOB, Table, check_rows, ch
 use ant_commands::Status;
 use std::test::Fail;
 
-// On w, c and d as red win 3 to 0 against a, since a red ant dies on its hill. No other game on w brings food, and no
-// game on x. The random numbers don't matter.
+// On w, c and d as red win 3 to 0 against a, since a red ant dies on its hill. No other game on w and no game on x
+// brings food. The random numbers don't matter.
 const STEPPING: Job<'static> = Job {
     world: CLOSING,
     red: "Flip 2 0 0",
@@ -59,8 +59,9 @@ const WITH_GAMES: [(&str, &str); 5] = [
     ),
 ];
 
-// All options: three brains on two worlds with the last seed and the one after it, world by world, within a world seed
-// by seed, and within a seed in the usual order. A world that is named twice is played twice, each time with each seed.
+// All options: three brains on two worlds, with the last seed and the one after it. The games are listed world by
+// world, then seed by seed, and for each seed in the usual order. A world that is named twice is played twice, each
+// time with each seed.
 const IN_ORDER: [(&str, &str); 2] = [
     (
         "cup --worlds w x --brains a c d --games --seed 4294967295 --seeds 2 --rounds 1 --leads --workers 2",
@@ -88,8 +89,8 @@ const IN_ORDER: [(&str, &str); 2] = [
     ),
 ];
 
-// Only standings: of three seeds' games on each of two worlds by 1, 2 and 16 workers, on a world that is named twice,
-// of a gauntlet of two, of a lead of 0, and of the largest number of seeds.
+// Only standings: the games of three seeds on each of two worlds by 1, 2 and 16 workers; a world that is named twice; a
+// gauntlet of two; a lead of 0; and the largest number of seeds.
 const STANDINGS: [(&str, &str); 7] = [
     (
         "cup --worlds w x --brains a c d --seed 1 --seeds 3 --rounds 1 --leads",
@@ -121,7 +122,7 @@ const STANDINGS: [(&str, &str); 7] = [
     ),
 ];
 
-// In round 2, player r moves each ant ahead whose number is 0 modulo 2932; player b doesn't move.
+// In round 2, player r moves each ant ahead that draws a multiple of 2932. Player b doesn't move.
 const DRAWING: Job<'static> = Job {
     world: CLOSING,
     red: "Flip 2932 1 2\nMove 1 1\nDrop 2",
@@ -193,7 +194,7 @@ const REFUSED: [(&str, &str); 10] = [
     ("run w r b --seeds 2", "ants: word 5 refused\n"),
 ];
 
-// With each option a file at fault is named, and no game is printed. In a gauntlet too, each brain is read.
+// With each option, the file at fault is named, and no game is printed. In a gauntlet too, each brain is read.
 const AT_FAULT: [(&str, &str); 3] = [
     (
         "cup --worlds w cut --brains a c --seed 1 --rounds 1 --seeds 2 --games --leads",
@@ -209,7 +210,7 @@ const AT_FAULT: [(&str, &str); 3] = [
     ),
 ];
 
-// Three files are read, each once, whatever the number of seeds: so a fourth read, which would fail, is never made.
+// Three files are read, each once, whatever the number of seeds. A fourth read would fail, but none is made.
 const READ_ONCE: [(&str, &str); 1] = [(
     "cup --worlds w --brains a c --seed 1 --seeds 3 --rounds 1 --workers 2",
     "9 points: c (3 won, 3 drawn, 0 lost)\n3 points: a (0 won, 3 drawn, 3 lost)\n",

@@ -226,7 +226,7 @@ fn the_games_of_a_cup_are_told_before_its_standing(rt: HostRuntime) -> Result<()
     check_cuts(&rt, rt.alloc(), &CUT_CUPS)
 }
 
-// In round 2, player r moves each ant ahead whose number is 0 modulo 2932; player b doesn't move.
+// In round 2, player r moves each ant ahead that draws a multiple of 2932. Player b doesn't move.
 const DRAWING: Job<'static> = Job {
     world: CLOSING,
     red: "Flip 2932 1 2\nMove 1 1\nDrop 2",
@@ -234,10 +234,10 @@ const DRAWING: Job<'static> = Job {
     ..NO_JOB
 };
 
-// If r is black, its ants 0, 1, 3, 5 and 6 draw the first five numbers: for seed 12345 they are 7193, 2932, 10386, 5575
+// If r is black, its ants 0, 1, 3, 5 and 6 draw the first five numbers. For seed 12345 they are 7193, 2932, 10386, 5575
 // and 100, so only ant 1 steps ahead, and the red ant 2 dies on its hill. If r is red, only its ant 4 steps, and no ant
 // dies. The other seed is the state that follows 12345, in its lowest 30 bits, so its numbers begin 2932, 10386, 5575,
-// 100, 15976: the ant of the first should step, and can't, since black ant 0 has rock ahead, and red ant 2 a foe.
+// 100, 15976. The ant that draws the first should step but can't: black ant 0 has rock ahead, and red ant 2 a foe.
 const DRAWN: [(&str, &str); 2] = [
     (
         "cup --worlds w --brains r b --seed 12345 --rounds 2",

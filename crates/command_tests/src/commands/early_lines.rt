@@ -1,4 +1,4 @@
-// Lines that are written while a game is played: once the output fails at one, nothing more is played. If no round
+// Lines that are written while a game is played. Once the output fails at a line, nothing more is played. If no round
 // has a line, nothing is played at all. Each game has about a million rounds of 16,361 turns, which take longer than a
 // test may.
 use crate::commands::{CLOSED, check, cut, done, game_with};
@@ -46,10 +46,10 @@ fn crowd(alloc: Global) -> Result<String, Fail> {
     Ok(text)
 }
 
-// Words, and the text up to where the output fails: in the line of the death in round 1; in the line of the first turn;
-// in the line of round 1; and in the line of the second game on the small world, and of the third one with two seeds,
-// before a game on the other world. Above black ant 245 are 122 red ants in row 1, and a black and 122 red ones in row
-// 2.
+// Words, and the text up to where the output fails. It fails in the line of the death in round 1, in the line of the
+// first turn, and in the line of round 1. For a cup it fails in the line of the second game on the small world, and
+// with two seeds in that of the third, both before a game on the other world. Above black ant 245 are 122 red ants in
+// row 1, and a black and 122 red ones in row 2.
 const EARLY: [(&str, &str); 5] = [
     (
         "events w r b --seed 12345 --rounds 1000000",
@@ -96,7 +96,7 @@ fn no_more_is_played_once_the_output_fails(rt: HostRuntime) -> Result<(), Fail> 
     Ok(())
 }
 
-// Words, and their whole text, which has no line of a round: no ant has the id, or no round is left.
+// Words, and their whole text. No round has a line: no ant has the id, or no round is left.
 const UNPLAYED: [(&str, &str); 3] = [
     (
         "acts w r b --ant 16361 --seed 12345 --rounds 1000000",

@@ -22,7 +22,7 @@ const FETCH: Job<'static> = Job {
     ..NO_JOB
 };
 
-// Words, and what is printed of their game: everything; with food; and this from a round on.
+// Words, and what is printed of their game: deaths and scores; with food too; and from a round on.
 const FETCHED: [(&str, &str); 6] = [
     (
         "events w r b --rest 0 --seed 12345 --rounds 8",
@@ -50,8 +50,8 @@ const FETCHED: [(&str, &str); 6] = [
     ),
 ];
 
-// Words, and what is printed: of no round, of a death and the score after it, of a death without food, of more food, of
-// six foes, which no ant has, and from the first and the second round on.
+// Words, and what is printed: no round; a death and the score after it; a death that leaves no food; a death that
+// leaves more food; six foes, which no ant has; and the game from its first and from its second round on.
 const EVENTS: [(&str, &str); 7] = [
     (
         "events w r b --seed 12345 --rounds 0",
@@ -83,8 +83,8 @@ const EVENTS: [(&str, &str); 7] = [
     ),
 ];
 
-// The first two numbers of this seed are odd and even. Red ant 2 dies before its turn, black ant 1 rests after its step
-// or continues, and the other black ants are blocked. Turns before the first round aren't counted.
+// The first two numbers of this seed are odd and even. Red ant 2 dies before its turn. Black ant 1 rests after its
+// step, or continues at once. The other black ants are blocked. Turns before the first reported round aren't counted.
 const PROFILES: [(&str, &str); 7] = [
     (
         "profile w r b --seed 12345 --rounds 0",

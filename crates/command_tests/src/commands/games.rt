@@ -16,10 +16,10 @@ use std::process::Abort;
 use std::test::Fail;
 use world_read::read_world;
 
-// The seed of that game.
+// The seed of the game in which a surrounded ant dies.
 pub const SEED: u32 = 12345;
 
-// A crew that plays as another does, except that it refuses the window of one call.
+// A crew that plays as another one does, except that one of its calls refuses to play a window.
 #[derive(Drop)]
 struct Refusing<C: Drop> {
     crew: C,
@@ -230,7 +230,8 @@ struct Round {
     stage: Stage,
 }
 
-// Two rounds of that game, and the call for a window that its crew refuses; none if it is 0.
+// Two rounds of the game in which a surrounded ant dies. `refused` is the number of the call for a window that the crew
+// refuses, or 0 if it refuses none.
 #[derive(Clone, Copy)]
 struct Played {
     refused: u64,
@@ -298,13 +299,13 @@ fn check_rounds<R: Abort>(
     check_step(rt, alloc, game, &mut crew, played.second)
 }
 
-// Asserts the results of two rounds of that game.
+// Asserts the results of two rounds of the game in which a surrounded ant dies.
 fn check_game<R: Abort>(rt: &R, alloc: Global, played: &Played) -> Result<(), Fail> {
     let players = killing_players(rt, alloc)?;
     check_game_of(rt, alloc, &players, played)
 }
 
-// The same for the game of these players.
+// Asserts the results of two rounds of the game with these players.
 fn check_game_of<R: Abort>(
     rt: &R,
     alloc: Global,
@@ -315,7 +316,7 @@ fn check_game_of<R: Abort>(
     check_rounds(rt, alloc, &mut game, played)
 }
 
-// Asserts the results of each of these games.
+// Asserts the results of each game in the list.
 fn check_games<R: Abort>(rt: &R, alloc: Global, games: &[Played]) -> Result<(), Fail> {
     for played in games {
         check_game(rt, alloc, played)?;

@@ -24,8 +24,8 @@ const UNPLAYED_GAME: Job<'static> = Job {
 
 static UNPLAYED_ROUND: Job<'static> = UNPLAYED_GAME;
 
-// Words, the line if the fetch of each file fails, in the order in which the files are fetched, and the text if none
-// fails.
+// Words; the line for each file if its fetch fails, in the order in which the files are fetched; and the text if no
+// fetch fails.
 type Fetching<'t> = (&'t str, &'t [&'t str], &'t str);
 
 const FETCHED: [Fetching<'static>; 6] = [
@@ -89,7 +89,8 @@ fn check_fetch<R: Threads + Wait + Sync + Abort>(
     check(rt, alloc, &failing, wanted)
 }
 
-// Asserts that the command fetches its files in this order and nothing more: for each, the line if its fetch fails.
+// Asserts that the command fetches its files in this order and nothing more. For each file there is the line that is
+// reported if its fetch fails.
 fn check_fetches<R: Threads + Wait + Sync + Abort>(
     rt: &R,
     alloc: Global,
@@ -105,7 +106,7 @@ fn check_fetches<R: Threads + Wait + Sync + Abort>(
     check_fetch(rt, alloc, job, next, done(text))
 }
 
-// Asserts for each row how its files are fetched.
+// Asserts for each row which files are fetched, and in which order.
 fn check_fetchings<R: Threads + Wait + Sync + Abort>(
     rt: &R,
     alloc: Global,
@@ -129,7 +130,7 @@ const MISSING: [(&str, &str); 2] = [
     ("run none r b --seed 7 --rounds 0", "ants: none: not read\n"),
 ];
 
-// Words that name such a file after one that is not a world, and the line that names the latter.
+// Words that name a missing file after one that is not a world, and the line that names the latter.
 const FAULTY: [(&str, &str); 1] = [("run k none b --seed 7 --rounds 0", "ants: k: bad width\n")];
 
 static STOPPED_RUNS: [Table<'static>; 2] = [
@@ -242,8 +243,8 @@ fn check_front<R: Abort>(rt: &R, ending: Ending<'_>, text: &str, failing_push: u
     );
 }
 
-// Asserts that each push that fails ends the text of a command, which has fewer than 10,000 pushes: the output gets a
-// prefix of it.
+// Asserts for each push that if it fails, the output gets a prefix of the command's text. A command has fewer than
+// 10,000 pushes.
 fn check_pushes<R: Threads + Wait + Sync + Abort>(
     rt: &R,
     alloc: Global,
@@ -258,8 +259,8 @@ fn check_pushes<R: Threads + Wait + Sync + Abort>(
     Err(Fail::new("the text has 10,000 pushes or more"))
 }
 
-// Asserts the result of a command whose push with this number fails: its whole text if there is no such push, which is
-// the returned value, and otherwise a prefix of it.
+// Asserts the result of a command whose push with this number fails: a prefix of its text. If there is no such push, it
+// is the whole text. Returns whether it is whole.
 fn check_push<R: Threads + Wait + Sync + Abort>(
     rt: &R,
     alloc: Global,
@@ -273,8 +274,8 @@ fn check_push<R: Threads + Wait + Sync + Abort>(
     Ok(is_whole(rt, ending_of(&outcome), text, failing_push))
 }
 
-// Whether a command is done. Asserts that it then wrote its whole text, and that otherwise its output failed after a
-// prefix of it.
+// Whether a command is done. Asserts that a command that is done wrote its whole text, and that any other wrote a
+// prefix of it before its output failed.
 fn is_whole<R: Abort>(rt: &R, ending: Ending<'_>, text: &str, failing_push: u64) -> bool {
     if ending.status == Status::Done {
         assert_eq!(rt; ending, done(text));

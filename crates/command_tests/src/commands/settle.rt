@@ -79,13 +79,13 @@ fn play_by_looks(
     Ok(field.finish(book))
 }
 
-// The result of the look at a turn of that game.
+// The result of the look at a turn of the game in which a surrounded ant dies.
 #[derive(Clone, Copy, Debug, PartialEq, Eq)]
 enum Fate {
     Taken,
     // Executed again, since the ant on (3, 3) has changed, or its state, rest or direction has.
     OfTheKilled,
-    // Executed again, since its random number is the one at place 0, and that at place 1 was guessed.
+    // Executed again: its random number is the one at place 0, but the guess was place 1.
     OfTheFlip,
     Other,
 }
@@ -110,8 +110,8 @@ fn fate_of(cause: &Option<Cause>) -> Fate {
     }
 }
 
-// A black ant kills the red ant with id 2 in its turn, and the red ant with id 4 draws the number that was guessed for
-// the killed one.
+// A black ant kills the red ant with id 2 in its turn. Then the red ant with id 4 draws the number that was guessed for
+// the killed ant.
 const FATES: [Fate; 7] = [
     Fate::Taken,
     Fate::Taken,
@@ -135,7 +135,7 @@ fn check_fate<R: Abort>(rt: &R, cause: &Option<Cause>, wanted: Fate) {
     assert_eq!(rt; fate_of(cause), wanted, "{cause:?}");
 }
 
-// Asserts that a field is that of seven ants, none of which has drawn a number.
+// Asserts that a field has seven ants, and that no ant has drawn a number.
 fn check_beginning<R: Abort>(rt: &R, field: &Field<'_>)
     ensures ids { 7 ≤ field.now.world.ids }
     ensures place { field.now.place ≡ 0 }
@@ -161,7 +161,8 @@ fn check_settled<R: Abort>(
     Ok(())
 }
 
-// Settles the round of these players in which the red ant dies, and asserts its counts and the result of each look.
+// Settles the round in which the red ant dies, for the given players, and asserts its counts and the result of each
+// look.
 fn check_round_of<R: Abort>(
     rt: &R,
     alloc: Global,
@@ -172,7 +173,7 @@ fn check_round_of<R: Abort>(
     check_settled(rt, alloc, &mut field, wanted)
 }
 
-// The same for the players of that game.
+// The same for the players of the game in which a surrounded ant dies.
 fn check_settling<R: Abort>(rt: &R, alloc: Global, wanted: &[Fate]) -> Result<(), Fail> {
     let players = killing_players(rt, alloc)?;
     check_round_of(rt, alloc, &players, wanted)

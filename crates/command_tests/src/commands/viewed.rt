@@ -10,8 +10,8 @@ use std::sync::Wait;
 use std::test::Fail;
 use std::thread::Threads;
 
-// The game in which the black ant 1 surrounds the red ant 2 in round 1, for five rounds; the red ants draw numbers, and
-// the other black ants stay where they are.
+// The game in which the black ant 1 surrounds the red ant 2 in round 1, for five rounds. The red ants draw numbers, and
+// the other black ants don't move.
 const VIEW: Job<'static> = Job {
     line: "view w r b k --seed 12345 --rounds 5",
     world: CLOSING,
@@ -22,7 +22,7 @@ const VIEW: Job<'static> = Job {
 
 static VIEWING: Job<'static> = VIEW;
 
-// Breaks, each alone, and the second line of the view: the turn after which each first holds.
+// Breaks, each alone, and the second line of the view. It has the turn after which the break first holds.
 const ALONE: [(&str, &str); 18] = [
     ("Round 1", "stop: round 1, ant 0, break 1"),
     ("Round 2", "stop: round 2, ant 0, break 1"),
@@ -124,7 +124,8 @@ const REFUSED: [(&str, &str); 14] = [
     ("Round \u{7f}", "ants: k: line 1: bad number\n"),
 ];
 
-// Worlds and brains before a file of breaks that is at fault as well, and the line that names the first of both.
+// Worlds and brains at fault, before a file of breaks that is at fault too, and the line that names the first of the
+// two.
 const WORLDS: [(&str, &str); 2] = [
     ("7\n6\n# # # # # # #\n # . .", "ants: w: row 1: short\n"),
     ("7\n", "ants: w: bad height\n"),
@@ -182,7 +183,7 @@ fn a_file_of_a_view_at_fault_is_named_before_its_breaks(rt: HostRuntime) -> Resu
 // The text of the view that doesn't stop.
 const NO_STOP: &str = "random seed: 12345\nno stop in 5 rounds\n";
 
-// Views that don't stop, of the game and of a world without ants, where no break holds.
+// Views that don't stop: of the game, and of a world without ants, in which no break holds.
 const NO_STOPS: [(&str, &str); 1] = [("Round 9", NO_STOP)];
 
 const NO_ANTS: [(&str, &str); 1] = [("Round 1\nFood 1 1 0\n", NO_STOP)];
@@ -210,8 +211,8 @@ fn a_view_without_a_turn_at_which_a_break_holds_says_so(rt: HostRuntime) -> Resu
     check_tables(&rt, rt.alloc(), &UNSTOPPED)
 }
 
-// One red ant: it goes to state 3 if its first number is 0 modulo 7193 and the second is 0 modulo 2932, and otherwise
-// to state 2.
+// One red ant. It goes to state 3 if its first number is a multiple of 7193 and the second is a multiple of 2932, and
+// otherwise to state 2.
 const DRAWING: Job<'static> = Job {
     world: CLOSED,
     red: "Flip 7193 1 2\nFlip 2932 3 2\nDrop 2\nDrop 3",
@@ -220,9 +221,10 @@ const DRAWING: Job<'static> = Job {
     ..NO_JOB
 };
 
-// The numbers of seed 12345 begin 7193, 2932: it is in state 1 after round 1, in state 3 after round 2. The other seed
-// is the state that follows 12345, in its lowest 30 bits, so its numbers begin 2932: the ant is in state 2 after round
-// 1. In rounds that are skipped it draws its numbers, too: from round 3 on it is in state 3 after the first turn.
+// The numbers of seed 12345 begin 7193, 2932, so the ant is in state 1 after round 1, and in state 3 after round 2. The
+// other seed is the state that follows 12345, in its lowest 30 bits, so its numbers begin 2932, and the ant is in state
+// 2 after round 1. The ant draws its numbers in rounds that are skipped too: from round 3 on it is in state 3 after the
+// first turn.
 const DRAWN: [(&str, &str); 5] = [
     (
         "view w r b k --seed 12345 --rounds 5",
@@ -291,7 +293,7 @@ fn check_stop<R: Threads + Wait + Sync + Abort>(
     check_text(rt, alloc, job, &told)
 }
 
-// Asserts the second line of the view of the job with each of these texts.
+// For each of these texts: asserts the second line of the view of the job with that text.
 fn check_stops<'t, R: Threads + Wait + Sync + Abort>(
     rt: &R,
     alloc: Global,
@@ -312,7 +314,7 @@ fn each_kind_of_break_holds_when_it_says(rt: HostRuntime) -> Result<(), Fail> {
     check_stops(&rt, alloc, &VIEWING, Given::Breaks, &TOGETHER)
 }
 
-// The view of that death.
+// The view of the red ant's death.
 static DYING: Job<'static> = Job {
     breaks: "Killed 2",
     ..VIEW

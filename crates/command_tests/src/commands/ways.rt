@@ -12,8 +12,8 @@ const AMBUSH: Job<'static> = Job {
     ..NO_JOB
 };
 
-// Words, and what is printed of an ant: up to its death, from a round on, with other numbers of the rules, where it
-// reaches a corpse as soon as it has rested, in no round, and of an id that never existed.
+// Words, and what is printed of an ant: up to its death; from a round on; by other numbers of the rules; on a corpse,
+// which it reaches as soon as it has rested; in no round; and of an id that never existed.
 const WAYS: [(&str, &str); 10] = [
     (
         "trace w r b 2 --seed 12345 --rounds 5",

@@ -10,7 +10,8 @@ use std::process::Abort;
 use std::test::Fail;
 use std::thread::Threads;
 
-// Words, and the line that names the first one with which no command begins.
+// Words, and the line that names the first refused one: the first word that makes it impossible to complete the line to
+// a command.
 const REFUSED: [(&str, &str); 20] = [
     ("", "ants: word 1 refused\n"),
     ("jump", "ants: word 1 refused\n"),

@@ -1,4 +1,4 @@
-// Runs by any number of workers; and looks that workers make at the same time, each of them once.
+// Runs by any number of workers. Looks that workers make at the same time, each of them once.
 ghost use Rattle.std.specs.Prelude.{◌≡◌, true};
 ghost use Rattle.round_workers.specs.Crews.{IsCrewSize};
 
@@ -21,8 +21,8 @@ use std::thread::Threads;
 // The number of turns after which a worker that waits for another one gives up.
 const PATIENCE: u32 = 100_000_000;
 
-// Workers whose first looks wait for each other, each up to its patience; whether one waited in vain or was none of
-// them, and how often each turn was announced.
+// Workers whose first looks wait for each other, each as long as its patience lasts. It has which of them have begun,
+// whether one waited in vain or was not among them, and how often each turn was announced.
 #[derive(Drop)]
 struct Meeting {
     begun: Vec<AtomicBool>,
@@ -31,7 +31,7 @@ struct Meeting {
 }
 
 impl Meeting {
-    // For this many workers, none of which has called yet, and a round of this many turns.
+    // A meeting of this many workers, before any of them has called, for a round of this many turns.
     fn of(alloc: Global, workers: usize, turns: usize) -> Result<Meeting, Fail> {
         Ok(Meeting {
             begun: nobody(alloc, workers)?,
@@ -40,7 +40,7 @@ impl Meeting {
         })
     }
 
-    // Asserts that all met, and that each turn from this one on was announced once, and no other.
+    // Asserts that all workers met, that each turn from this one on was announced once, and that no other turn was.
     fn check<R: Abort>(&self, rt: &R, from: usize) {
         assert!(rt;
             !self.missed.load(Ordering::SeqCst),
@@ -152,7 +152,8 @@ const COUNTED: [(&str, &str); 9] = [
     ),
 ];
 
-// Asserts what is written for that round with these words, by workers that call this gate.
+// Asserts what is written for the round in which a surrounded ant dies, with these words, by workers that call this
+// gate.
 fn check_killing<R: Threads + Wait + Sync + Abort, G: Gate>(
     rt: &R,
     alloc: Global,
@@ -165,7 +166,7 @@ fn check_killing<R: Threads + Wait + Sync + Abort, G: Gate>(
     check_by(rt, alloc, &job, gate, done(&whole))
 }
 
-// Asserts what is written for that round with the words of each row.
+// Asserts what is written for the same round with the words of each row.
 fn check_workers<R: Threads + Wait + Sync + Abort>(
     rt: &R,
     alloc: Global,
@@ -182,11 +183,11 @@ fn any_number_of_workers_writes_the_same_bytes(rt: HostRuntime) -> Result<(), Fa
     check_workers(&rt, rt.alloc(), &COUNTED)
 }
 
-// How many turns that round has.
+// How many turns the round has in which a surrounded ant dies.
 const TURNS: usize = 7;
 
-// A window of that round by a crew: the number of workers, the first turn, and the result: its counts, the turns that
-// the crew says it played, and the place after it.
+// A window of the round by a crew: the number of workers, the first turn, and the result. The result is the counts, the
+// turns that the crew says it played, and the place after the window.
 #[derive(Clone, Copy, Debug, PartialEq, Eq)]
 struct Window {
     workers: u32,
@@ -322,7 +323,7 @@ fn check_field_on_board<R: Threads + Sync + Abort>(
     Ok(())
 }
 
-// Asserts the result of a window of that round by a crew of pieces.
+// Asserts the result of a window by a crew of pieces, in the round in which a surrounded ant dies.
 fn check_pieces<R: Threads + Sync + Abort>(
     rt: &R,
     alloc: Global,
@@ -358,7 +359,7 @@ fn check_each<R: Threads + Sync + Abort>(
     Ok(())
 }
 
-// Asserts the result of each window of that round by both crews.
+// Asserts the result of each window by both crews, in the round in which a surrounded ant dies.
 fn check_windows<R: Threads + Sync + Abort>(
     rt: &R,
     alloc: Global,
@@ -373,7 +374,7 @@ fn crews_of_two_and_three_look_at_the_same_time(rt: HostRuntime) -> Result<(), F
     check_windows(&rt, rt.alloc(), &WINDOWS)
 }
 
-// Who announced each turn of that round: the worker's number and 1, or 0 if no worker did.
+// Who announced each turn of the round: one more than the worker's number, or 0 if no worker did.
 #[derive(Drop)]
 struct Announcers {
     by: Vec<AtomicU32>,
@@ -387,8 +388,8 @@ impl Gate for Announcers {
     }
 }
 
-// Windows in pieces: for how many workers, from which turn on, and who announces each turn. Of n turns, worker k of W
-// has those from k * n / W up to, and not including, (k + 1) * n / W.
+// Windows in pieces: for how many workers, from which turn on, and who announces each turn. There are n turns and W
+// workers. Worker k has the turns from k * n / W up to, and not including, (k + 1) * n / W.
 const PIECES: [(u32, u32, [u32; TURNS]); 3] = [
     (2, 0, [1, 1, 1, 2, 2, 2, 2]),
     (3, 0, [1, 1, 2, 2, 3, 3, 3]),
@@ -424,7 +425,7 @@ fn check_pieces_of<R: Threads + Sync + Abort>(
     Ok(())
 }
 
-// Asserts the same for a window of that round.
+// Asserts the same for a window of the round in which a surrounded ant dies.
 fn check_announced_by<R: Threads + Sync + Abort>(
     rt: &R,
     alloc: Global,
@@ -446,9 +447,9 @@ fn each_worker_has_its_piece_of_a_window(rt: HostRuntime) -> Result<(), Fail> {
     Ok(())
 }
 
-// Words of the same round, how many workers meet in it, and its counts if they are requested. No more meet than there
-// are turns. A worker that stays ready calls the gate even if it is alone, and all of them do so in each window;
-// otherwise the committer would do it for them.
+// Words of the same round, how many workers meet in it, and its counts if they are requested. No more workers meet than
+// there are turns. A worker that stays ready calls the gate even if it is alone. All of them do so in each window. If
+// they didn't, the committer would do it for them.
 const MET: [(&str, usize, &str); 10] = [
     (
         "run w r b --seed 12345 --rounds 1 --dump 1 --workers 2",
@@ -498,7 +499,7 @@ const MET: [(&str, usize, &str); 10] = [
     ),
 ];
 
-// Asserts what is written for that round by this many workers, which meet and announce each of its turns once.
+// Asserts what is written for the same round by this many workers. They meet, and announce each of its turns once.
 fn check_run<R: Threads + Wait + Sync + Abort>(
     rt: &R,
     alloc: Global,
@@ -529,7 +530,7 @@ fn workers_of_a_run_look_at_the_same_time(rt: HostRuntime) -> Result<(), Fail> {
     check_runs(&rt, rt.alloc(), &MET)
 }
 
-// A command that plays one round, by how many workers, and how many turns it has.
+// A command that plays one round, the number of workers, and the number of turns.
 #[derive(Clone, Copy)]
 struct Round<'t> {
     job: Job<'t>,

@@ -1,5 +1,5 @@
 // The steps of a board for the seven turns of a round, on one thread: which seat finds the book and which look, and
-// what is left of a closed board. Also, a worker alone brings the book to the window's end.
+// what is left of a closed board. A worker alone also brings the book to the window's end.
 ghost use Rattle.std.specs.Prelude.{◌≡◌, ◌+◌, ◌<◌, ◌≤◌, ◌^◌, true, IfOk};
 ghost use Rattle.round_book.specs.Book.{CanBegin, IsLentFor, StandsFor, window_of};
 ghost use Rattle.round_book.specs.Machine.{times};

@@ -16,7 +16,7 @@ use tournament::{
     play_and_print, play_games, play_games_alone, push_standing, push_standing_with, standing_of,
 };
 
-// More bytes than any text of these tests has.
+// A room with more bytes than any text in these tests.
 const ROOM: u64 = 2000;
 
 // The number of turns after which a game that waits for another one gives up.
@@ -30,7 +30,7 @@ const PLAIN: Format = Format {
     shows_seeds: false,
 };
 
-// Player 1 as red wins 3 to 0; with player 0 as red no side gets food.
+// Player 1 as red wins 3 to 0. With player 0 as red, neither side gets food.
 struct OneWin;
 
 impl Referee for OneWin {
@@ -46,7 +46,7 @@ impl Referee for OneWin {
     }
 }
 
-// Every game on world 0 is drawn, and none on another is played.
+// Every game on world 0 is drawn. No game on any other world may be played.
 struct FirstWorldAlone;
 
 impl Referee for FirstWorldAlone {
@@ -60,7 +60,7 @@ impl Referee for FirstWorldAlone {
     }
 }
 
-// Two games that wait for each other, each up to its patience.
+// Two games that wait for each other, each as long as its patience lasts.
 #[derive(Drop)]
 struct Meeting {
     first: AtomicBool,
@@ -122,7 +122,7 @@ fn played<R: Threads + Sync, F: Referee>(
     }
 }
 
-// Asserts that the cup of these players has this text with 1, 2 and 16 workers.
+// Asserts that the cup of the given players has this text with 1, 2 and 16 workers.
 fn check<R: Threads + Sync + Abort, F: Referee>(
     rt: &R,
     alloc: Global,
@@ -159,8 +159,8 @@ fn the_winner_stands_first_with_any_number_of_workers(rt: HostRuntime) -> Result
     )
 }
 
-// Asserts what is printed of a cup of players a and b on worlds of these names with 1, 2 and 16 workers, and how it
-// ends.
+// Asserts what is printed of a cup, and how the call ends, with 1, 2 and 16 workers. The players are a and b, and the
+// worlds have the given names.
 fn check_told<R: Threads + Sync + Abort, F: Referee>(
     rt: &R,
     alloc: Global,
@@ -287,8 +287,8 @@ fn a_gauntlet_has_the_games_of_the_first_player(rt: HostRuntime) -> Result<(), F
     )
 }
 
-// How many lines the standing of a cup of 16 players on 40 worlds has: 9600 games, of which fewer than 4096 are to be
-// played at a time.
+// How many lines the standing of a cup of 16 players on 40 worlds has. The cup has 9600 games. Fewer than 4096 of them
+// are to be played at a time.
 fn lines_of_long_cup<R: Threads + Sync, F: Referee>(
     rt: &R,
     alloc: Global,
@@ -315,7 +315,7 @@ fn a_long_cup_is_played_some_games_at_a_time(rt: HostRuntime) -> Result<(), Fail
     Ok(())
 }
 
-// A game on world 7, without a cup: its winner is first, and a player without games last.
+// One game on world 7, without a cup. Its winner is first, and a player without games is last.
 #[test]
 fn a_standing_of_one_game_counts_it_alone(rt: HostRuntime) -> Result<(), Fail> {
     let played = Played {

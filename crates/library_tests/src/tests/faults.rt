@@ -1,4 +1,4 @@
-// What no clause says: that a value of each type that is displayed is, even the longest text.
+// What no clause says: each type that can be displayed is displayed whole, even its longest text.
 use ant_asm::AsmFault;
 use ant_base::{Failed, FetchFault, OutOfMemory};
 use brain_read::BrainFault;

@@ -1,5 +1,5 @@
-// Errands by far workers, which look at the same time. Looks that agree with a field, and looks that don't. And what
-// takes memory, if there is memory.
+// Errands by far workers, which look at the same time. Looks that agree with a field, and looks that don't. And calls
+// that take memory, if there is memory.
 ghost use Rattle.std.specs.Prelude.{◌≡◌, ◌+◌, ◌<◌, ◌≤◌, ◌^◌, true, IfOk, length};
 ghost use Rattle.std.specs.List.{AllByRecursion};
 ghost use Rattle.std.specs.Option.{ForSome};
@@ -33,7 +33,7 @@ const MOVES: &str = "Move 0 0";
 
 pub(crate) const SEED: u32 = 12345;
 
-// The guesses for the seven turns: each red ant draws, and no black one.
+// The guesses for the seven turns: only red ants draw numbers.
 const GUESSES: [u64; 7] = [0, 0, 0, 1, 1, 2, 2];
 
 // Turns of the looks with guesses, and whether they agree with the field on which they were made.
@@ -243,8 +243,8 @@ fn an_errand_may_end_early(rt: HostRuntime) {
 // The number of turns after which a worker that waits for the other one gives up.
 const PATIENCE: u32 = 100_000_000;
 
-// A gate at which two workers wait for each other, each up to its patience: which of them has called it, how often each
-// turn was announced, and whether one waited in vain or was neither of them.
+// A gate at which two workers wait for each other, each as long as its patience lasts. It has whether each of them
+// called it, how often each turn was announced, and whether one waited in vain or was neither of them.
 #[derive(Drop)]
 struct Pair {
     begun: [AtomicBool; 2],
@@ -266,7 +266,7 @@ impl Pair {
         })
     }
 
-    // Asserts that only the two called it, that they met, and that each turn was announced once.
+    // Asserts that only the two workers called it, that they met, and that each turn was announced once.
     fn check<R: Abort>(&self, rt: &R) {
         assert!(rt;
             !self.missed.load(Ordering::SeqCst),
@@ -325,8 +325,8 @@ impl Gate for Told {
     }
 }
 
-// Asserts that a window of three turns by five workers, none of which was started, is announced turn by turn with the
-// number of workers.
+// Five workers, none started, play a window of three turns. Asserts that each turn is announced, with the number of
+// workers.
 fn check_unstarted<R: Wait + Abort>(rt: &R, alloc: Global, players: &Players) -> Result<(), Fail> {
     let mut field = field_of(rt, alloc, players)?;
     assert!(rt; 3 <= field.world().ant_count());
@@ -409,7 +409,7 @@ fn play_first_round<C: Crew>(alloc: Global, field: &mut Field<'_>, crew: &mut C)
     })
 }
 
-// Asserts the result of the round by two workers that stay ready, which look at the same time and at each turn once.
+// Asserts the result of the round by two workers that stay ready. They look at the same time, and once at each turn.
 fn check_pair<R: Threads + Wait + Sync + Abort>(
     rt: &R,
     alloc: Global,

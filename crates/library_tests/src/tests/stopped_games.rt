@@ -11,8 +11,9 @@ use std::test::Fail;
 // A red ant between rocks, which draws numbers and stays.
 const WORLD: &str = "3\n3\n# # #\n # + #\n# # #\n";
 
-// How many bytes the sink takes of the text of three rounds, each of which has a dump of 236 bytes, and how many rounds
-// are done then: in the first dump or at its last byte; in the second; and after all three, at the score.
+// The text of three rounds has a dump of 236 bytes for each round. Each row has how many bytes of it the sink takes,
+// and how many rounds are done then. The sink stops in the first dump or at its last byte, in the second dump, and
+// after all three, at the score.
 const ROOMS: [(u64, u32); 6] = [(10, 1), (235, 1), (236, 2), (471, 2), (708, 3), (720, 3)];
 
 // Asserts how many rounds are done, and how many turns the crew has played, if the sink takes this many bytes.

@@ -21,7 +21,7 @@ const STOPS: [(&str, Option<Stop>); 3] = [
     ("Round 9\n", None),
 ];
 
-// Asserts where the game of these players stops, and that the red ant is dead then.
+// Asserts where the game of the given players stops, and that the red ant is dead then.
 fn check_stop<R: Abort>(
     rt: &R,
     alloc: Global,

@@ -6,7 +6,7 @@ use std::alloc::Global;
 use std::io;
 use std::io::{BufWriter, ErrorKind, Write};
 
-// A writer that takes at most this many bytes at a time, and then stops taking.
+// A writer that takes at most this many bytes at a time, until it stops.
 #[derive(Drop)]
 struct Slow {
     got: Vec<u8>,

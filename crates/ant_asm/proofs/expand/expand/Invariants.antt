@@ -9,7 +9,7 @@ use Rattle.ant_asm.proofs.expand.expand.Given as goal
 abbrev pub decreases-steps : goal.decreases-steps
 decreases-steps l = nodes_left l.bodies l.work
 
--- what was expanded, before what is left, is all
+-- what was expanded so far, followed by what is left, is all
 abbrev pub invariant-steps : goal.invariant-steps
 invariant-steps l = record {
   work : IsWork l.bodies l.work;

@@ -9,7 +9,7 @@ use Rattle.ant_asm.proofs.labels.push_labels.Given as goal
 abbrev pub decreases-loop-met : goal.decreases-loop-met
 decreases-loop-met g l = steps_left l.walk
 
--- what is left to be told
+-- what is left to report
 abbrev pub invariant-loop-met : goal.invariant-loop-met
 invariant-loop-met g l = record {
   walk : IsWalk l.walk;

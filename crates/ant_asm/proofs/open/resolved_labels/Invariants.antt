@@ -5,7 +5,7 @@ use Rattle.ant_asm.specs.Inner.Reading.{seen}
 use Rattle.ant_asm.specs.Inner.Scopes.{known_as}
 use Rattle.ant_asm.proofs.open.resolved_labels.Given as goal
 
--- what was made so far, before what the labels that are left give
+-- the labels so far, followed by what the labels that are left become, are all
 abbrev pub invariant-loop-label : goal.invariant-loop-label
 invariant-loop-label l =
     l.made.items ++ map (λ (label : Source). way_or_next (known_as l.names.entries) (seen label)) (drop l.label-index l.labels)

@@ -1,4 +1,4 @@
--- one file more was read, or the reading stopped there
+-- one more file was read, or the reading stopped at it
 use Rattle.std.proofs.Common.{◌+◌, Vec, Global, map}
 use Rattle.ant_commands.proofs.Listed.{reads_more, stopped_at, wanting_at}
 use Rattle.ant_commands.proofs.files.read_files.Goals as goal

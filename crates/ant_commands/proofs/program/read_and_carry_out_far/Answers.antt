@@ -1,4 +1,4 @@
--- the numbers and the names of a command are within their limits; words that are none were refused
+-- the numbers and the names of a command are within their limits; words that are not a command were refused
 use Rattle.std.proofs.Common.{sym, subst}
 use Rattle.command_words.specs.Command.{plain}
 use Rattle.command_words.specs.Words.{texts}

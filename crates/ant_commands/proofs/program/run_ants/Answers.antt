@@ -1,4 +1,5 @@
--- the program ends as its command did, and its line was pushed, or as the run without standing workers did
+-- the program ends as its command did, and its line was pushed; or it ends as the run without workers that stay ready
+-- did
 use Rattle.std.proofs.Common.{ℕ, List, sym, ◌∙◌, subst}
 use Rattle.command_words.specs.Words.{texts}
 use Rattle.ant_commands.specs.Outside.{outside_of}

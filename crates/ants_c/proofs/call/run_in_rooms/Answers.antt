@@ -1,4 +1,4 @@
--- the program ran over a shelf of these files, and over two sinks as over empty ones
+-- the program ran over a shelf with these files, and over two sinks as over empty ones
 use Rattle.std.proofs.Common.{◌∙◌, ap, ℕ, List, ◌∷◌, subst}
 use Rattle.ant_base.specs.MemShelf.{MemShelfState, shelf_of}
 use Rattle.ant_base.specs.Lines.{lines_of}

@@ -1,4 +1,4 @@
--- the lines so far are others, so the number is that of the rest; and no more lines are left than bytes
+-- No line so far equals the text, so the number is that of the rest. No more lines are left than bytes.
 use Rattle.std.proofs.Common.{◌≡◌, ◌≤◌, ◌+◌, length}
 use Rattle.ant_base.specs.Lines.{lines_of}
 use Rattle.ants_c.specs.Ended.{number_of}

@@ -1,4 +1,4 @@
--- no file so far has the name, so it has the content that it has among those that are left
+-- no file so far has the name, so its content is the one that it has among the files that are left
 use Rattle.std.proofs.Common.{◌≡◌, drop}
 use Rattle.ant_base.specs.Lines.{lines_of}
 use Rattle.ant_base.specs.MemShelf.{content_of}

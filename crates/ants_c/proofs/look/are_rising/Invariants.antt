@@ -1,4 +1,4 @@
--- the rounds so far rise; so all do exactly if those that are left do, from the one after the last of them on
+-- The rounds so far rise. So all rounds rise exactly if those that are left do, above the last one so far.
 use Rattle.std.proofs.Common.{◌↔◌, ◌+◌, ◌≤◌, drop}
 use Rattle.match_run.specs.Run.{most_rounds}
 use Rattle.ants_c.specs.Looked.{AreRising}

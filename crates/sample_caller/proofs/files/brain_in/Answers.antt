@@ -1,4 +1,4 @@
--- the file was fetched, and what came was opened; or it wasn't
+-- the file was fetched and its bytes were opened, or not
 use Rattle.std.proofs.lemmas.Result.{err_from_is_err_and}
 use Rattle.sample_caller.specs.Files.ReadsFile.{Opened, Unfetched}
 use Rattle.sample_caller.proofs.files.brain_in.Goals as goal

@@ -1,4 +1,4 @@
--- a place at which an ant stands is inside
+-- a place that has an ant is inside the world
 use Rattle.std.proofs.Common.{sym, ◌∙◌}
 use Rattle.cell_world.specs.Grid.{world_of}
 use Rattle.cell_world.proofs.Places.{place_in-inside}

@@ -21,7 +21,7 @@ some c none =
     let never : true ≡ false = sym (eq-eqb (vec_len c.args.self.now.current.items) 0 (c.args.self.now.current.items.ok.0 ∙ none)) ∙ test in
     absurd (cc)
 
--- what the names of blocks stand for
+-- the meanings of the names of blocks
 blocks : (c : After-leave_block) → known_as c.insert.new.self.entries ≡ with_name c.in-Some.outer.name.now (length c.args.self.now.bodies.items) (known_as c.args.self.now.blocks.entries)
 blocks c =
     fun_ext (λ (other : List ℕ). (c.in_ok-insert.ensures.updates).0 (record { ref_ptr = c.in-Some.outer.name.ref_ptr; now = other }))

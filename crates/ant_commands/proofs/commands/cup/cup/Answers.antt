@@ -1,5 +1,5 @@
--- what was read can be played, each world and each player has a name, and memory may run out after the reading; the
--- standing is pushed last
+-- What was read can be played, and each world and each player has a name. Memory may run out after the reading. The
+-- standing is pushed last.
 use Rattle.std.proofs.Common.{◌≡◌, ◌*◌, ◌≤◌, ℕ, Bool, false, List, length, ap, arith, refl, sym, subst}
 use Rattle.ant_base.specs.Sink.{Pushed}
 use Rattle.ant_commands.specs.Jobs.{cup_job}

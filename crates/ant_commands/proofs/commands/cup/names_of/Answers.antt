@@ -1,4 +1,4 @@
--- the next name is another one, and so is last
+-- the next name differs from the others, so it is put last
 use Rattle.std.proofs.Common.{◌∙◌, ap}
 use Rattle.tournament.specs.Names.{with_name}
 use Rattle.ant_commands.proofs.Cups.{named_more}

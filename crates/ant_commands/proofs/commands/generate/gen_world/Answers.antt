@@ -1,4 +1,4 @@
--- the world of the words was generated and written, or why not
+-- the world of the words was generated and written, or the command stopped
 use Rattle.std.proofs.Common.{refl}
 use Rattle.ant_commands.specs.Jobs.{gen_job}
 use Rattle.ant_commands.specs.Outputs.{shape_named}

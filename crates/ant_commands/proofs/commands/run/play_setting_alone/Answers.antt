@@ -1,4 +1,4 @@
--- the text of a game that asks for no counts is the one without them
+-- if a game requests no counts, its text is the one without counts
 use Rattle.std.proofs.Common.{◌≡◌, ℕ, Bool, false, List, sym, ap, ◌∙◌, subst}
 use Rattle.std.proofs.lemmas.Result.{err_from_is_err_and}
 use Rattle.ant_base.specs.Sink.{PushedAll, PushedFront}

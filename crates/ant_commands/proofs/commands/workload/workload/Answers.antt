@@ -1,4 +1,4 @@
--- the world was generated, or why not; its game was played, and what came of it was written
+-- The world was generated, or the command stopped. The game on it was played, and its result was written.
 use Rattle.std.proofs.Common.{[], refl, ap}
 use Rattle.ant_commands.specs.Jobs.{workload_job}
 use Rattle.ant_commands.specs.Outputs.{contest_shape, workload_text}

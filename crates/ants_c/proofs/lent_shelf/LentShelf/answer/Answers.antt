@@ -1,4 +1,4 @@
--- a fetch that fails is of a name of which the shelf isn't sure
+-- if a fetch fails, the shelf isn't sure of its name
 use Rattle.std.proofs.Common.{rules, arith}
 use Rattle.ant_base.proofs.Fetches.{unsure_by_name, fetch_failed}
 use Rattle.ants_c.proofs.lent_shelf.LentShelf.answer.Goals as goal

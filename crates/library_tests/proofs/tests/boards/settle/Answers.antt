@@ -1,4 +1,4 @@
--- the look that was taken is that of the book's next turn, so it may be settled
+-- the look that was taken is the one at the book's next turn, so it may be settled
 use Rattle.std.proofs.Common.{◌≡◌, ℕ, ◌-◌, ◌<◌, None, sym, ap, ◌∙◌, subst, arith}
 use Rattle.spec_record.specs.Look.{LookValue}
 use Rattle.round_book.specs.Book.{BookValue, IsSameWindow, IsTaken, StandsFor}
