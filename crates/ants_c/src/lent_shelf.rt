@@ -68,7 +68,9 @@ fn copied(alloc: Global, content: &[u8]) -> Result<Vec<u8>, FetchFault>
     if content.len() > LONGEST {
         return Err(FetchFault::TooLong);
     }
-    Ok(content.to_vec(alloc)?)
+    let mut copy = Vec::with_capacity(alloc, content.len())?;
+    copy.extend_from_slice(content)?;
+    Ok(copy)
 }
 
 /// A shelf of the caller's files (this project's own). It reads them in the caller's memory, and copies a file when it
