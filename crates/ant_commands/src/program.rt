@@ -36,9 +36,9 @@ use tournament::{Pairing, play_games, play_games_alone};
 // that doesn't:
 //
 //     run_to_exit > run_ants > run_here > read_and_carry_out > carry_out > dispatch > the command's own function
-//                            > read_and_carry_out_far > carry_out_far > run_far, for a run
-//                                                                     > carry_out, for all else
-//     run_alone > read_and_carry_out_alone > carry_out_alone > dispatch
+//                            > carry_out_far > run_far, for a run
+//                                            > carry_out, for all else
+//     run_alone > carry_out_alone > dispatch
 
 // Carries out a command, whose numbers and names are within their limits. A crew takes no memory before its first
 // window, so each command may have one.
@@ -67,22 +67,6 @@ fn carry_out<'w, R: Threads + Sync, S: Shelf, K: Sink, G: Gate>(
     dispatch(alloc, &mut crew, &play, asked, shelf, out)
 }
 
-// Carries out a command on the caller's thread alone.
-fn carry_out_alone<'w, S: Shelf, K: Sink>(
-    alloc: Global,
-    asked: Asked<'w>,
-    shelf: &mut S,
-    out: &mut K,
-) -> Result<(), CommandStop<'w>>
-    requires within { AskedWithin (plain asked) }
-    ensures { CarriesOut (job_of (plain asked.entry)) (S.state shelf.old) (S.state shelf.new) (K.state out.old) (K.state out.new) (ending_of result) }
-{
-    let play = |games: &Games<'_>, listed: &[Pairing], _workers: u32| {
-        play_games_alone(alloc, games, listed)
-    };
-    dispatch(alloc, &mut SoloCrew::new(), &play, asked, shelf, out)
-}
-
 // Carries out the command that the words are; `--far` is an unknown option.
 fn read_and_carry_out<'w, R: Threads + Sync, S: Shelf, K: Sink, G: Gate>(
     rt: &R,
@@ -101,7 +85,7 @@ fn read_and_carry_out<'w, R: Threads + Sync, S: Shelf, K: Sink, G: Gate>(
 }
 
 // Carries out the command that the words are on the caller's thread alone; `--far` is an unknown option.
-fn read_and_carry_out_alone<'w, S: Shelf, K: Sink>(
+fn carry_out_alone<'w, S: Shelf, K: Sink>(
     alloc: Global,
     words: &'w [String],
     shelf: &mut S,
@@ -109,32 +93,17 @@ fn read_and_carry_out_alone<'w, S: Shelf, K: Sink>(
 ) -> Ended<'w>
     ensures { CarriesOutWords (words_without_far (texts words.now)) (S.state shelf.old) (S.state shelf.new) (K.state out.old) (K.state out.new) (plain_ending result) }
 {
+    let play = |games: &Games<'_>, listed: &[Pairing], _workers: u32| {
+        play_games_alone(alloc, games, listed)
+    };
     match read_words_without_far(words) {
-        Ok(asked) => Ended::after(carry_out_alone(alloc, asked, shelf, out)),
+        Ok(asked) => Ended::after(dispatch(alloc, &mut SoloCrew::new(), &play, asked, shelf, out)),
         Err(refused) => Ended::RefusedWord(refused.word),
     }
 }
 
-// Carries out a command; a run is played by workers that stay ready for the whole game.
-fn carry_out_far<'w, R: Threads + Wait + Sync, S: Shelf, K: Sink, G: Gate>(
-    rt: &R,
-    alloc: Global,
-    asked: Asked<'w>,
-    shelf: &mut S,
-    out: &mut K,
-    gate: &G,
-) -> Result<(), CommandStop<'w>>
-    requires within { AskedWithin (plain asked) }
-    ensures { CarriesOut (job_of (plain asked.entry)) (S.state shelf.old) (S.state shelf.new) (K.state out.old) (K.state out.new) (ending_of result) }
-{
-    match asked.kind {
-        CommandKind::Run => run_far(rt, alloc, RunWords::of(asked), shelf, out, gate),
-        _ => carry_out(rt, alloc, asked, shelf, out, gate),
-    }
-}
-
 // Carries out the command that the words are; a run is played by workers that stay ready for the whole game.
-fn read_and_carry_out_far<'w, R: Threads + Wait + Sync, S: Shelf, K: Sink, G: Gate>(
+fn carry_out_far<'w, R: Threads + Wait + Sync, S: Shelf, K: Sink, G: Gate>(
     rt: &R,
     alloc: Global,
     words: &'w [String],
@@ -145,7 +114,17 @@ fn read_and_carry_out_far<'w, R: Threads + Wait + Sync, S: Shelf, K: Sink, G: Ga
     ensures { CarriesOutWords (texts words.now) (S.state shelf.old) (S.state shelf.new) (K.state out.old) (K.state out.new) (plain_ending result) }
 {
     match read_words(words) {
-        Ok(asked) => Ended::after(carry_out_far(rt, alloc, asked, shelf, out, gate)),
+        Ok(asked) => match asked.kind {
+            CommandKind::Run => Ended::after(run_far(
+                rt,
+                alloc,
+                RunWords::of(asked),
+                shelf,
+                out,
+                gate,
+            )),
+            _ => Ended::after(carry_out(rt, alloc, asked, shelf, out, gate)),
+        },
         Err(refused) => Ended::RefusedWord(refused.word),
     }
 }
@@ -204,7 +183,7 @@ pub fn run_alone<'w, S: Shelf, K: Sink, E: Sink>(
     ensures { EndsSo (words_without_far (texts words.now)) (outside_of (S.state shelf.old) (K.state out.old) (E.state err.old))
         (outside_of (S.state shelf.new) (K.state out.new) (E.state err.new)) (plain_ending result) }
 {
-    let ended = read_and_carry_out_alone(alloc, words, shelf, out);
+    let ended = carry_out_alone(alloc, words, shelf, out);
     let _ = report(ended, err);
     ended
 }
@@ -229,7 +208,7 @@ pub fn run_ants<R: Threads + Wait + Sync, S: Shelf, K: Sink, E: Sink, G: Gate>(
     if !is_far_run(words) {
         return run_here(rt, alloc, words, shelf, out, err, gate);
     }
-    let ended = read_and_carry_out_far(rt, alloc, words, shelf, out, gate);
+    let ended = carry_out_far(rt, alloc, words, shelf, out, gate);
     report(ended, err)
 }
 

@@ -1,4 +1,4 @@
--- the numbers and the names of a command are within their limits; words that are not a command were refused
+-- the numbers and the names of a command are within their limits; words that are none were refused
 use Rattle.std.proofs.Common.{sym, subst}
 use Rattle.command_words.specs.Far.{words_without_far}
 use Rattle.command_words.specs.Command.{plain}
@@ -8,8 +8,8 @@ use Rattle.ant_commands.specs.Inner.Reading.{CarriesOutWords, ending_of}
 use Rattle.ant_commands.proofs.Readings.{carries_no_words, carries_words}
 use Rattle.ant_commands.proofs.program.carry_out_alone.Goals as goal
 
-pub dispatch-requires : goal.dispatch-requires
-dispatch-requires g c = record { within = within_limits (words_without_far (texts c.args.words.now)) (plain c.in-Ok.asked) c.in-Ok.ensures.command }
+pub dispatch-requires-clause-within : goal.dispatch-requires-clause-within
+dispatch-requires-clause-within g c = within_limits (words_without_far (texts c.args.words.now)) (plain c.in-Ok.asked) c.in-Ok.ensures.command
 
 pub returns-in-Ok : goal.returns-in-Ok
 returns-in-Ok g c =

@@ -19,12 +19,12 @@ returns-then-not-is_far_run g c =
 pub returns : goal.returns
 returns g c =
     promised_run (texts c.args.words.now) (outside_of (g.S.Shelf.state c.args.shelf.now) (g.K.Sink.state c.args.out.now) (g.E.Sink.state c.args.err.now))
-    (outside_of (g.S.Shelf.state c.read_and_carry_out_far-ended.new.shelf) (g.K.Sink.state c.read_and_carry_out_far-ended.new.out) (g.E.Sink.state c.report.new.err)) c.report.result
+    (outside_of (g.S.Shelf.state c.carry_out_far-ended.new.shelf) (g.K.Sink.state c.carry_out_far-ended.new.out) (g.E.Sink.state c.report.new.err)) c.report.result
     (record {
-      fetches = c.read_and_carry_out_far-ended.ensures.fetches;
-      fetched = c.read_and_carry_out_far-ended.ensures.fetched;
-      ending = plain_ending c.read_and_carry_out_far-ended.result;
-      ends = c.read_and_carry_out_far-ended.ensures.ends _ _;
+      fetches = c.carry_out_far-ended.ensures.fetches;
+      fetched = c.carry_out_far-ended.ensures.fetched;
+      ending = plain_ending c.carry_out_far-ended.result;
+      ends = c.carry_out_far-ended.ensures.ends _ _;
       reports = c.report.ensures.reports;
       is_status = c.report.ensures.status;
     })
