@@ -142,7 +142,7 @@ def pages(spec):
     calls = " and ".join("[%s](../%s)" % (it.name, it.file) for it in spec.calls)
     out = ["# Specification", "", (
         "Made from the tree by `.ci/make-documents`, and not edited by hand. These files have exactly the\ndefinitions that the clauses of\n%s\nreach. If you believe them, and the types of the code that they name, you know what the program does.\n"
-        "For one `run`, [RUN.md](RUN.md) has all of it on one page.\n\n"
+        "For one `run`, [RUN.md](RUN.md) has all of it.\n\n"
         "This is how many lines are reached, without comments and lines with only a bracket, and with types of\nthe code: %s for the contest's rules, %s for a game from its files to its text,\n"
         "%s for all that a `run` rests on, and %s for all commands together.\n\n"
         "The law [%s](../%s) says the promise of every command\nin %s lines. Its part `%s` rests on %s lines for a `run` without `--stats`, and the counts of\n`--stats` add %s."
@@ -174,7 +174,7 @@ def to_believe(spec, page):
     law = spec.tree.reached(spec.tree.named(Call(CRATE, CUP_GAMES)), lambda it: it.name not in UNCOUNTED)
     added = lines_of([it for it in law if it not in set(page.reached)])
     rows = [
-        ["one `run` without `--stats`, except which word status 2 names: [one page](RUN.md)", lines_of(page.reached), minutes_of(page.text)],
+        ["one `run` without `--stats`, except which word status 2 names and how status 5 words a fault: [RUN.md](RUN.md)", lines_of(page.reached), minutes_of(page.text)],
         ["the score of one game of a cup: that page, and what the law `%s` adds to it" % CUP_GAMES, lines_of(page.reached) + added, minutes_of(page.text) + round(added / LINES)],
         ["the contest's rules: [the chapter](SPECIFICATION.md#the-rules-of-the-contest)", contest, None],
         ["a game: rules, texts of worlds and brains, text of a game", game, None],
